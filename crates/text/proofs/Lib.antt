@@ -1,0 +1,7 @@
+-- The laws of texts that callers' proofs cite, and the cases of document 01 that are about texts alone.
+pub mod Places
+pub mod Runs
+pub mod Stripping
+pub mod Texts
+pub mod Numbers
+pub mod Cases

@@ -1,0 +1,7 @@
+-- What the contracts of `text` cite: classes, places, runs, equal texts, numbers, and quoted texts for worked examples.
+pub mod Class
+pub mod Place
+pub mod Run
+pub mod Same
+pub mod Number
+pub mod Quote

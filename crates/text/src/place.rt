@@ -1,0 +1,36 @@
+// The first and the last place of a byte.
+ghost use mathlib.Core.Path.{_≡_};
+ghost use Rattle.text.specs.Place.{firstByte, lastByte};
+
+pub enum Found {
+    At(usize),
+    Nothing,
+}
+
+// The first place of the byte from a place on.
+pub fn first(s: &[u8], b: u8, from: usize) -> Found
+    ensures { λ r. ⌜ r ≡ firstByte b (now (s .entry)) from ⌝ }
+{
+    let mut i = from;
+    while i < s.len() {
+        if s[i] == b {
+            return Found::At(i);
+        }
+        i += 1;
+    }
+    Found::Nothing
+}
+
+// The last place of the byte.
+pub fn last(s: &[u8], b: u8) -> Found
+    ensures { λ r. ⌜ r ≡ lastByte b (now (s .entry)) ⌝ }
+{
+    let mut i = s.len();
+    while 0 < i {
+        if s[i - 1] == b {
+            return Found::At(i - 1);
+        }
+        i -= 1;
+    }
+    Found::Nothing
+}

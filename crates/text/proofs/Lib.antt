@@ -4,4 +4,5 @@ pub mod Runs
 pub mod Stripping
 pub mod Texts
 pub mod Numbers
+pub mod Decimals
 pub mod Cases

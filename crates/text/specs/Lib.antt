@@ -4,4 +4,5 @@ pub mod Place
 pub mod Run
 pub mod Same
 pub mod Number
+pub mod Decimal
 pub mod Quote

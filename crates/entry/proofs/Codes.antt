@@ -1,0 +1,51 @@
+-- Events: each code has one event, and that event has the code; what stays unknown has no name. Assumes nothing.
+use Prim.Native.Nat.{ℕ, _+_, _/_, _%_, _^_, _≤_, _<_}
+use mathlib.Core.Path.{_≡_, refl, sym, ap, _∙_}
+use mathlib.Core.Bool.{Bool, true, false, cond}
+use mathlib.Core.List.{List, [], _∷_}
+use native.Mathlib.Omega.{arith}
+use lib.Dec.{eqb}
+use borrow.Author.Tests.{eqb-true}
+use Rattle.text.specs.Decimal.{decimalText}
+use Rattle.text.proofs.Decimals.{decimal-short, decimal-long}
+use Rattle.entry.specs.declared.events.Event.{Event}
+use Rattle.entry.specs.declared.events.Event.the-variants.{Unknown}
+use Rattle.entry.specs.Event.{codeOf, named, among, eventOf}
+
+code-among : (es : List Event) (code : ℕ) → codeOf (among es code) ≡ code
+code-among [] code = refl
+code-among (e ∷ es) code = go (eqb code (codeOf e)) refl (code-among es code)
+  where
+    go : (b : Bool) → eqb code (codeOf e) ≡ b → codeOf (among es code) ≡ code → codeOf (cond b e (among es code)) ≡ code
+    go true t r = sym (eqb-true code (codeOf e) t)
+    go false t r = r
+
+-- the event of a code has that code
+pub event-code : (code : ℕ) → codeOf (eventOf code) ≡ code
+unfolding eventOf
+event-code code = code-among named code
+
+-- so two codes with one event are one code
+pub one-code : (a b : ℕ) → eventOf a ≡ eventOf b → a ≡ b
+one-code a b e = sym (event-code a) ∙ ap codeOf e ∙ event-code b
+
+-- the digits of a code, as code computes them
+pub one-digit : (n : ℕ) → n < 10 → (48 + n % 10) ∷ [] ≡ decimalText n
+one-digit n h = let e : n % 10 ≡ n = omega arith in rw e (sym (decimal-short n h))
+
+pub two-digits : (n : ℕ) → 10 ≤ n → n < 100 → (48 + n / 10 % 10) ∷ (48 + n % 10) ∷ [] ≡ decimalText n
+two-digits n l h =
+    let t : n / 10 < 10 = omega arith in
+    let e : n / 10 % 10 ≡ n / 10 = omega arith in
+    let big : n < 10 ^ 20 = omega arith in
+    rw (e, decimal-long n l big, decimal-short (n / 10) t)
+
+pub three-digits : (n : ℕ) → 100 ≤ n → n < 256 → (48 + n / 100) ∷ (48 + n / 10 % 10) ∷ (48 + n % 10) ∷ [] ≡ decimalText n
+three-digits n l h =
+    let t : 10 ≤ n / 10 = omega arith in
+    let m : 10 ≤ n = omega arith in
+    let u : n / 10 / 10 < 10 = omega arith in
+    let e : n / 10 / 10 ≡ n / 100 = omega arith in
+    let big : n < 10 ^ 20 = omega arith in
+    let small : n / 10 < 10 ^ 20 = omega arith in
+    rw (decimal-long n m big, decimal-long (n / 10) t small, decimal-short (n / 10 / 10) u, e)

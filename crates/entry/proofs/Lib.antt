@@ -1,0 +1,5 @@
+-- The laws of entries that callers' proofs cite, and case P1 of document 01.
+pub mod Parts
+pub mod Pads
+pub mod Codes
+pub mod Cases

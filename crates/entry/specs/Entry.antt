@@ -1,0 +1,98 @@
+-- The entry as a value: texts by their bytes, dwords as a list, wherever they lie.
+use Prim.Native.Nat.{ℕ, _+_}
+use mathlib.Core.Path.{_≡_}
+use mathlib.Core.Bool.{Bool, cond, _||_}
+use mathlib.Core.List.{List, []}
+use mathlib.Core.Option.{Option, some, none}
+use lib.Dec.{leb, eqb}
+use lib.ListN.{length, take, drop}
+use Rattle.entry.specs.Event.{eventOf}
+use Rattle.entry.specs.declared.Entry.{Entry}
+use Rattle.entry.specs.declared.optional.MaybeByte.{MaybeByte}
+use Rattle.entry.specs.declared.optional.MaybeByte.the-variants as B
+use Rattle.entry.specs.declared.optional.MaybeWord.{MaybeWord}
+use Rattle.entry.specs.declared.optional.MaybeWord.the-variants as W
+use Rattle.entry.specs.declared.optional.MaybeFlag.{MaybeFlag}
+use Rattle.entry.specs.declared.optional.MaybeFlag.the-variants as F
+use Rattle.entry.specs.declared.optional.MaybeEvent.{MaybeEvent}
+use Rattle.entry.specs.declared.optional.MaybeEvent.the-variants as E
+
+-- what an entry says, in the order of the record's fields
+pub record EntryValue : Type 0 where
+  pub task : List ℕ
+  pub pid : ℕ
+  pub cpu : ℕ
+  pub seconds : ℕ
+  pub microseconds : ℕ
+  pub function : List ℕ
+  pub kind : ℕ
+  pub size : ℕ
+  pub dropped : Bool
+  pub domain : ℕ
+  pub route : ℕ
+  pub offset : Option ℕ
+  pub code : Option ℕ
+  pub len : Option ℕ
+  pub port : Option ℕ
+  pub config : Option ℕ
+  pub seq : Option ℕ
+  pub unplug : Option ℕ
+  pub dwords : List ℕ
+
+-- the part of a list that starts at a place, of a length; empty where it would lie outside
+unfoldable pub partOf : List ℕ → ℕ → ℕ → List ℕ
+partOf l at n = cond (leb (at + n) (length l)) (take n (drop at l)) []
+
+-- a byte that may be absent, as a value
+unfoldable pub byteValue : MaybeByte → Option ℕ
+byteValue (B.Is b) = some b
+byteValue B.Absent = none
+
+-- two bytes that may be absent, as a value
+unfoldable pub wordValue : MaybeWord → Option ℕ
+wordValue (W.Is w) = some w
+wordValue W.Absent = none
+
+-- what an entry says, given the text and the slots that it was read into
+unfoldable pub valueOf : Entry → List ℕ → List ℕ → EntryValue
+valueOf e text slots =
+    record {
+      task = partOf text (e .«task_at») (e .«task_len»);
+      pid = e .pid;
+      cpu = e .cpu;
+      seconds = e .seconds;
+      microseconds = e .microseconds;
+      function = partOf text (e .«function_at») (e .«function_len»);
+      kind = e .kind;
+      size = e .size;
+      dropped = e .dropped;
+      domain = e .domain;
+      route = e .route;
+      offset = wordValue (e .offset);
+      code = byteValue (e .code);
+      len = wordValue (e .len);
+      port = byteValue (e .port);
+      config = byteValue (e .config);
+      seq = byteValue (e .seq);
+      unplug = byteValue (e .unplug);
+      dwords = partOf slots 0 (e .dwords);
+    }
+
+-- two entries are the same when each field is, dwords included, task and function by their bytes, wherever they lie
+abbrev pub SameEntry : Entry → List ℕ → List ℕ → Entry → List ℕ → List ℕ → Type 0
+SameEntry e text slots f other places = valueOf e text slots ≡ valueOf f other places
+
+-- the event question: that of the code, none without one
+unfoldable pub eventOfCode : MaybeByte → MaybeEvent
+eventOfCode (B.Is code) = E.Is (eventOf code)
+eventOfCode B.Absent = E.Absent
+
+-- the adapter question: the port, none for events 33 and 36
+unfoldable pub adapterOf : MaybeByte → MaybeByte → MaybeByte
+adapterOf (B.Is code) port = cond (eqb code 33 || eqb code 36) B.Absent port
+adapterOf B.Absent port = port
+
+-- the unplug question: whether the byte is 1, none without one
+unfoldable pub unpluggedOf : MaybeByte → MaybeFlag
+unpluggedOf (B.Is b) = F.Is (eqb b 1)
+unpluggedOf B.Absent = F.Absent

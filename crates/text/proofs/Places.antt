@@ -5,11 +5,13 @@ use mathlib.Core.Path.{_≡_, refl, sym, ap, _∙_}
 use mathlib.Core.Bool.{Bool, true, false, cond, true≢false}
 use native.Mathlib.Numerals.{add-one}
 use native.Mathlib.Omega.{arith}
+use mathlib.Core.List.{List}
 use lib.Dec.{ltb}
+use lib.ListN.{length, getD, List·getD-eq-default}
 use borrow.Author.Tests.{lt-ltb, le-ltb, ltb-true, ltb-false}
 use Rattle.text.specs.declared.place.Found.{Found}
 use Rattle.text.specs.declared.place.Found.the-variants.{At, Nothing}
-use Rattle.text.specs.Place.{Free, First, Last, firstOf, firstIn, foundBelow, firstPlace, lastPlace}
+use Rattle.text.specs.Place.{byteBefore, Free, First, Last, firstOf, firstIn, foundBelow, firstPlace, lastPlace}
 
 -- a test that is both true and false is absurd
 pub clash : {b : Bool} → b ≡ true → b ≡ false → ⊥
@@ -211,3 +213,27 @@ module _ (p : ℕ → Bool) where
 
   pub one-last : {n j k : ℕ} → Last p n j → Last p n k → j ≡ k
   one-last {n} a b = let x = last-all n a in let y = last-all n b in cc
+
+-- the byte before a place, as code reads it
+pub before-none : (s : List ℕ) {i : ℕ} → i ≡ 0 → byteBefore s i ≡ 0
+unfolding byteBefore
+before-none s e = rw e
+
+pub before-some : (s : List ℕ) (i : ℕ) → 0 < i → byteBefore s i ≡ getD s (i - 1) 0
+unfolding byteBefore
+before-some s zero h = absurd (omega arith)
+before-some s (suc k) h = let e : suc k - 1 ≡ k = omega arith in rw e
+
+-- a byte other than 0 stands within the text
+pub stands-within : (s : List ℕ) (i : ℕ) → (getD s i 0 ≡ 0 → ⊥) → i < length s
+stands-within s i h = by-order i (length s) (λ l. l) (λ e. absurd (h (List·getD-eq-default s 0 {n = i} (omega arith)))) (λ l. absurd (h (List·getD-eq-default s 0 {n = i} (omega arith))))
+
+-- what does not pass is passed over
+module _ (p : ℕ → Bool) where
+  pub place-skip : (d : ℕ) {i n : ℕ} → i + d ≤ n → Free p i (i + d) → firstPlace p n i ≡ firstPlace p n (i + d)
+  place-skip zero {i} {n} h f = let e : i + 0 ≡ i = omega arith in rw e
+  place-skip (suc d) {i} {n} h f =
+      let e : i + suc d ≡ i + 1 + d = omega arith in
+      place-miss p {i = i} {n = n} (omega arith) (f i (omega arith) (omega arith))
+      ∙ place-skip d {i = i + 1} {n = n} (omega arith) (λ k a b. f k (omega arith) (omega arith))
+      ∙ ap (firstPlace p n) (sym e)

@@ -51,6 +51,11 @@ lastPlace p (suc k) =
     let earlier : Found = lastPlace p k in
     cond (p k) (At k) earlier
 
+-- the byte before a place, 0 where there is none
+unfoldable pub byteBefore : List ℕ → ℕ → ℕ
+byteBefore s zero = 0
+byteBefore s (suc k) = getD s k 0
+
 -- byte b stands at place k of s
 abbrev pub isAt : ℕ → List ℕ → ℕ → Bool
 isAt b s k = eqb (getD s k 0) b

@@ -1,6 +1,7 @@
-// The first and the last place of a byte.
+// Bytes by their place, and the first and the last place of a byte.
 ghost use mathlib.Core.Path.{_≡_};
-ghost use Rattle.text.specs.Place.{firstByte, lastByte};
+ghost use lib.ListN.{getD};
+ghost use Rattle.text.specs.Place.{byteBefore, firstByte, lastByte};
 
 pub enum Found {
     At(usize),
@@ -33,4 +34,24 @@ pub fn last(s: &[u8], b: u8) -> Found
         i -= 1;
     }
     Found::Nothing
+}
+
+// The byte at a place, 0 past the end.
+pub fn byte_at(s: &[u8], i: usize) -> u8
+    ensures { λ r. ⌜ r ≡ getD (now (s .entry)) i 0 ⌝ }
+{
+    if i < s.len() {
+        return s[i];
+    }
+    0
+}
+
+// The byte before a place, 0 where there is none.
+pub fn byte_before(s: &[u8], i: usize) -> u8
+    ensures { λ r. ⌜ r ≡ byteBefore (now (s .entry)) i ⌝ }
+{
+    if i == 0 {
+        return 0;
+    }
+    byte_at(s, i - 1)
 }

@@ -33,7 +33,7 @@ Says s at Overrun = (at + 3 ≤ length s) × (length s < at + 3 + number 2 s (at
 Says s at End = length s ≤ at
 
 -- the two bytes of a length
-two-bytes : (s : List ℕ) (i : ℕ) → number 2 s i ≡ getD s i 0 + 256 * getD s (i + 1) 0
+pub two-bytes : (s : List ℕ) (i : ℕ) → number 2 s i ≡ getD s i 0 + 256 * getD s (i + 1) 0
 unfolding number
 two-bytes s i = omega arith
 
@@ -42,7 +42,7 @@ drop-first : (s : List ℕ) (i : ℕ) → i < length s → drop i s ≡ getD s i
 drop-first s i h = rw (add-one i) (drop-cons s i 0 h)
 
 -- where there is room for tag and length, they are the first three bytes of the rest
-three-bytes : (s : List ℕ) (at : ℕ) → at + 3 ≤ length s → drop at s ≡ getD s at 0 ∷ getD s (at + 1) 0 ∷ getD s (at + 2) 0 ∷ drop (at + 3) s
+pub three-bytes : (s : List ℕ) (at : ℕ) → at + 3 ≤ length s → drop at s ≡ getD s at 0 ∷ getD s (at + 1) 0 ∷ getD s (at + 2) 0 ∷ drop (at + 3) s
 three-bytes s at h =
     let second : at + 1 + 1 ≡ at + 2 = omega arith in
     let third : at + 2 + 1 ≡ at + 3 = omega arith in

@@ -1,2 +1,4 @@
 pub mod Numbers
 pub mod Fields
+pub mod Places
+pub mod Walks

@@ -1,6 +1,7 @@
 -- Fields, as they are read: what stands at a place of a text, and the walk from field to field.
 -- Assumes nothing.
 use Prim.Native.Nat.{ℕ, zero, suc, _+_, _*_}
+use mathlib.Core.Path.{_≡_}
 use mathlib.Core.Bool.{Bool, true, false, cond, not, _&&_, _||_}
 use mathlib.Core.List.{List, [], _∷_}
 use lib.Dec.{leb}
@@ -35,13 +36,13 @@ pub record Part : Type 0 where
   pub from : ℕ
   pub to : ℕ
 
--- the field of which `from` is a body `size` bytes long
+-- the part that starts at a place, with so many bytes of body
 abbrev pub partAt : ℕ → ℕ → ℕ → Part
 partAt at tag size = record { at = at; tag = tag; from = at + 3; to = at + 3 + size }
 
--- the step that finds a part
-abbrev pub stepOf : Part → Step
-stepOf p = Field (p .tag) (p .from) (p .to)
+-- a part stands in a text: it is what the text has at its place
+abbrev pub Stands : List ℕ → Part → Type 0
+Stands s p = fieldAt s (p .at) ≡ Field (p .tag) (p .from) (p .to)
 
 -- the bytes of a text from one place to another
 abbrev pub between : List ℕ → ℕ → ℕ → List ℕ
@@ -76,6 +77,15 @@ parts = walk _∷_ [] []
 -- the fields from a place on fill the rest of the text exactly, and each passes a test
 unfoldable pub filled : (Part → Bool) → List ℕ → ℕ → Bool
 filled ok = walk (λ p rest. ok p && rest) true false
+
+-- the fields from a place on fill the rest of the text exactly
+abbrev pub fills : List ℕ → ℕ → Bool
+fills = filled (λ p. true)
+
+-- each element passes a test
+abbrev pub all : {A : Type 0} → (A → Bool) → List A → Bool
+all ok [] = true
+all ok (x ∷ l) = ok x && all ok l
 
 -- one of the elements passes a test
 abbrev pub has : {A : Type 0} → (A → Bool) → List A → Bool

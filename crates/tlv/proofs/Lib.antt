@@ -2,3 +2,5 @@ pub mod Numbers
 pub mod Fields
 pub mod Places
 pub mod Walks
+pub mod Pieces
+pub mod Twice

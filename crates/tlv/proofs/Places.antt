@@ -2,11 +2,11 @@
 -- that every place is a place of the whole text. Assumes nothing.
 use Prim.Native.Nat.{ℕ, zero, suc, _+_, _-_, _≤_, _<_}
 use mathlib.Core.Path.{_≡_, _∙_, sym, ap, subst, refl}
-use mathlib.Core.List.{List, [], _∷_}
+use mathlib.Core.List.{List, [], _∷_, _++_}
 use native.Mathlib.Decide.{decLt}
 use native.Mathlib.Nat.{sub-zero, zero-sub, suc-sub-suc}
 use native.Mathlib.Omega.{arith}
-use lib.ListN.{length, getD, take, drop, length-take, length-drop, List·getD-eq-default}
+use lib.ListN.{length, getD, take, drop, length-take, length-drop, take-append-drop, List·getD-eq-default}
 use lib.Seq.{take-nil, take-length, take-take, drop-drop, getD-take, getD-drop}
 use Rattle.tlv.specs.declared.Step.the-variants.{Field}
 use Rattle.tlv.specs.Number.{Bytes, number}
@@ -32,6 +32,13 @@ module _ (s : List ℕ) where
   -- the bytes up to the end are the rest
   pub between-end : (from : ℕ) → between s from (length s) ≡ drop from s
   between-end from = ap (drop from) (take-length s)
+
+  -- a body and what comes behind it
+  pub between-join : (from to : ℕ) → from ≤ to → between s from to ++ drop to s ≡ drop from s
+  between-join from to h =
+      let e : from + (to - from) ≡ to = omega arith in
+      let rest : drop to s ≡ drop (to - from) (drop from s) = ap (λ (n : ℕ). drop n s) (sym e) ∙ sym (drop-drop (to - from) from s) in
+      rw (between-is from to, rest) (take-append-drop (to - from) (drop from s))
 
   -- what a body has behind its first k bytes
   pub between-drop : (from to k : ℕ) → drop k (between s from to) ≡ between s (from + k) to

@@ -37,11 +37,9 @@ pub fn field_at(s: &[u8], at: usize) -> Step
     if s.len() - from < size {
         return Step::Overrun;
     }
-    Step::Field {
-        tag: s[at],
-        from: from,
-        to: from + size,
-    }
+    let tag = s[at];
+    let to = from + size;
+    Step::Field { tag, from, to }
 }
 
 // The byte at `i`, and 0 past the end.

@@ -9,13 +9,17 @@ use Rattle.tlv.proofs.field_at.Statement.{statement}
 use Rattle.tlv.proofs.field_at.Tie as tie
 
 returns : tie.Need-returns
-returns c = sym (end-all (c .before .before .args .s .now) (c .before .before .args .at) (c .if1 .taken))
+returns c =
+    let a = c .before .before .args in
+    sym (end-all (a .s .now) (a .at) (c .if1 .taken))
 
 sub-if2 : tie.Need-sub-if2
 sub-if2 c = search needs
 
 returns-2 : tie.Need-returns-2
-returns-2 c = sym (stray-all (c .before .before .before .args .s .now) (c .before .before .before .args .at) (omega arith) (omega arith))
+returns-2 c =
+    let a = c .before .before .before .args in
+    sym (stray-all (a .s .now) (a .at) (omega arith) (omega arith))
 
 add-from : tie.Need-add-from
 add-from c = search needs
@@ -33,19 +37,23 @@ sub-if3 : tie.Need-sub-if3
 sub-if3 c = search needs
 
 returns-3 : tie.Need-returns-3
-returns-3 c = sym (overrun-all (c .before .before .before .before .before .args .s .now) (c .before .before .before .before .before .args .at) (omega arith) (omega (arith, c .before .two-at .ensures .is)))
+returns-3 c =
+    let a = c .before .before .before .before .before .args in
+    sym (overrun-all (a .s .now) (a .at) (omega arith) (omega (arith, c .before .two-at .ensures .is)))
 
-shared-slice-read-t10 : tie.Need-shared-slice-read-t10
-shared-slice-read-t10 c = search needs
+shared-slice-read-tag : tie.Need-shared-slice-read-tag
+shared-slice-read-tag c = search needs
 
-add-t7 : tie.Need-add-t7
-add-t7 c = search needs
+add-to : tie.Need-add-to
+add-to c = search needs
 
 returns-4 : tie.Need-returns-4
 returns-4 c =
+    let a = c .before .before .before .before .before .before .args in
+    let size = c .before .before .two-at .ensures .is in
     sym
-    (found-field (c .before .before .before .before .before .before .args .s .now) (c .before .before .before .before .before .before .args .at) _ _ _
-    (record { tag-is = refl; from-is = refl; to-is = omega (arith, c .before .before .two-at .ensures .is); within = omega arith }))
+    (found-field (a .s .now) (a .at) _ _ _
+    (record { tag-is = refl; from-is = refl; to-is = omega (arith, size); within = omega arith }))
 
 pub field-at-spec : {M : Type 1} → statement M
 field-at-spec =
@@ -60,6 +68,6 @@ field-at-spec =
     cast-size
     sub-if3
     returns-3
-    shared-slice-read-t10
-    add-t7
+    shared-slice-read-tag
+    add-to
     returns-4)

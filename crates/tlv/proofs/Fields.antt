@@ -38,7 +38,7 @@ unfolding number
 two-bytes s i = omega arith
 
 -- the first byte of the rest
-drop-first : (s : List ℕ) (i : ℕ) → i < length s → drop i s ≡ getD s i 0 ∷ drop (i + 1) s
+pub drop-first : (s : List ℕ) (i : ℕ) → i < length s → drop i s ≡ getD s i 0 ∷ drop (i + 1) s
 drop-first s i h = rw (add-one i) (drop-cons s i 0 h)
 
 -- where there is room for tag and length, they are the first three bytes of the rest

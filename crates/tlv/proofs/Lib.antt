@@ -4,3 +4,5 @@ pub mod Places
 pub mod Walks
 pub mod Pieces
 pub mod Twice
+pub mod Levels
+pub mod Examples

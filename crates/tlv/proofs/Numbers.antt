@@ -57,6 +57,15 @@ number-take (suc k) s i n h =
     let r : number k (take n s) (i + 1) ≡ number k s (i + 1) = number-take k s (i + 1) n (omega arith) in
     omega arith
 
+-- what comes behind the first n bytes reads the same in the whole
+pub number-drop : (k : ℕ) (s : List ℕ) (n i : ℕ) → number k (drop n s) i ≡ number k s (n + i)
+unfolding number
+number-drop zero s n i = refl
+number-drop (suc k) s n i =
+    let e : n + (i + 1) ≡ n + i + 1 = omega arith in
+    let h : number k (drop n s) (i + 1) ≡ number k s (n + i + 1) = number-drop k s n (i + 1) ∙ ap (number k s) e in
+    omega (arith, getD-drop n s i 0)
+
 -- k bytes are k bytes
 pub number-bytes-length : (k n : ℕ) → length (numberBytes k n) ≡ k
 unfolding numberBytes

@@ -4,13 +4,14 @@ use Prim.Native.Nat.{ℕ, zero, suc, _+_, _-_, _*_, _/_, _%_, _≤_, _<_}
 use mathlib.Core.Path.{_≡_, _∙_, sym, ap, ap₂, subst, refl}
 use mathlib.Core.Bool.{Bool, true, false, _&&_, false≢true}
 use mathlib.Core.List.{List, [], _∷_, _++_, map, foldr, append-assoc}
+use mathlib.Core.Logic.{_↔_}
 use native.Mathlib.Nat.{mod-add-div}
 use native.Mathlib.Omega.{arith}
 use borrow.Author.Tests.{le-leb}
 use lib.ListN.{length, getD, take, drop, length-append, length-drop, take-append-drop, drop-of-length-le}
 use lib.Seq.{drop-drop, drop-append-seam, take-append-seam, drop-append-add}
 use Rattle.tlv.specs.declared.Step.the-variants.{Field, End}
-use Rattle.tlv.specs.Number.{Bytes, number}
+use Rattle.tlv.specs.Number.{Bytes, number, numberBytes}
 use Rattle.tlv.specs.Grammar.{Piece, Sized, fieldBytes, fieldsBytes, All, Made}
 use Rattle.tlv.specs.Reading.{
   stepFrom,
@@ -41,6 +42,27 @@ use Rattle.tlv.proofs.Walks.{
   filled-cut,
   filled-field,
 }
+
+-- ---- the bytes of fields
+
+-- a field's bytes, with its length as a number of two bytes
+pub field-bytes-number : (tag : ℕ) (body : List ℕ) → length body < 65536 → fieldBytes tag body ≡ tag ∷ (numberBytes 2 (length body) ++ body)
+unfolding fieldBytes numberBytes
+field-bytes-number tag body h =
+    let high : length body / 256 % 256 ≡ length body / 256 = omega arith in
+    rw high
+
+pub field-bytes-length : (tag : ℕ) (body : List ℕ) → length (fieldBytes tag body) ≡ length body + 3
+unfolding fieldBytes
+field-bytes-length tag body = omega arith
+
+-- fields behind fields
+pub fields-bytes-append : (ps qs : List Piece) → fieldsBytes (ps ++ qs) ≡ fieldsBytes ps ++ fieldsBytes qs
+unfolding fieldsBytes
+fields-bytes-append [] qs = refl
+fields-bytes-append (p ∷ ps) qs =
+    ap (λ (l : List ℕ). fieldBytes (p .tag) (p .body) ++ l) (fields-bytes-append ps qs)
+    ∙ sym (append-assoc (fieldBytes (p .tag) (p .body)) (fieldsBytes ps) (fieldsBytes qs))
 
 -- ---- a field made from a tag and a body
 
@@ -224,3 +246,8 @@ module _ (s : List ℕ) (ok : Part → Bool) (Good : Piece → Type 0) where
     -- complete: where a field made from a Good piece passes the test, a text made from Good pieces passes it field by field
     pub made-filled : (at : ℕ) → Made Good (drop at s) → filled ok s at ≡ true
     made-filled at m = pieces-filled (m .pieces) at (m .good) (m .bytes)
+
+-- the fields of a text fill it exactly if and only if it is made from pieces
+pub fills-exactly : (s : List ℕ) → Bytes s → (at : ℕ) → (fills s at ≡ true) ↔ Made (λ p. Unit {0}) (drop at s)
+fills-exactly s bytes at =
+    (filled-made s (λ p. true) (λ p. Unit {0}) bytes (λ p e h. tt) at, made-filled s (λ p. true) (λ p. Unit {0}) (λ p e g. refl) at)

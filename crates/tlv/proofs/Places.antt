@@ -1,18 +1,17 @@
 -- Fields inside a larger text: to walk the bytes from one place to another is to walk the text cut at the second place, from the first on, so
 -- that every place is a place of the whole text. Assumes nothing.
-use Prim.Native.Nat.{ℕ, zero, suc, _+_, _-_, _≤_, _<_}
-use mathlib.Core.Path.{_≡_, _∙_, sym, ap, subst, refl}
+use Prim.Native.Nat.{ℕ, zero, suc, _+_, _-_, _^_, _≤_, _<_}
+use mathlib.Core.Path.{_≡_, _∙_, sym, ap, ap₂}
 use mathlib.Core.List.{List, [], _∷_, _++_}
 use native.Mathlib.Decide.{decLt}
-use native.Mathlib.Nat.{sub-zero, zero-sub, suc-sub-suc}
+use native.Mathlib.Nat.{add-zero, sub-zero, zero-sub, suc-sub-suc}
 use native.Mathlib.Omega.{arith}
 use lib.ListN.{length, getD, take, drop, length-take, length-drop, take-append-drop, List·getD-eq-default}
-use lib.Seq.{take-nil, take-length, take-take, drop-drop, getD-take, getD-drop}
-use Rattle.tlv.specs.declared.Step.the-variants.{Field}
-use Rattle.tlv.specs.Number.{Bytes, number}
-use Rattle.tlv.specs.Reading.{fieldAt, Part, Stands, between}
-use Rattle.tlv.proofs.Numbers.{number-take}
-use Rattle.tlv.proofs.Fields.{Found, field-found, found-field}
+use lib.Seq.{take-nil, take-length, take-take, length-take-le, drop-drop, drop-at, getD-take, getD-drop}
+use Rattle.tlv.specs.Number.{Bytes, number, numberBytes}
+use Rattle.tlv.specs.Reading.{Part, Stands, between, pieceOf}
+use Rattle.tlv.proofs.Numbers.{number-take, number-drop, number-made, number-bytes-is, number-bytes-length}
+use Rattle.tlv.proofs.Fields.{Found, field-found, found-field, drop-first}
 
 -- what is cut and then passed by is passed by and then cut
 pub drop-take : {A : Type 0} (a b : ℕ) (l : List A) → drop a (take b l) ≡ take (b - a) (drop a l)
@@ -22,6 +21,17 @@ drop-take (suc a) (suc b) [] = sym (take-nil (suc b - suc a))
 drop-take (suc a) (suc b) (x ∷ l) = drop-take a b l ∙ ap (λ (n : ℕ). take n (drop a l)) (sym (suc-sub-suc b a))
 
 module _ (s : List ℕ) where
+  -- parts of bytes are bytes
+  pub bytes-take : (n : ℕ) → Bytes s → Bytes (take n s)
+  bytes-take n b i =
+      elim (decLt i n) [
+        | yes h ↦ rw (getD-take n s i 0 h) (b i)
+        | no h ↦ rw (List·getD-eq-default (take n s) 0 {n = i} (rw (length-take n s) (omega arith))) (omega arith)
+      ]
+
+  pub bytes-drop : (n : ℕ) → Bytes s → Bytes (drop n s)
+  bytes-drop n b i = rw (getD-drop n s i 0) (b (n + i))
+
   -- the slice from one place to another
   pub between-is : (from to : ℕ) → between s from to ≡ take (to - from) (drop from s)
   between-is from to = drop-take from to s
@@ -52,16 +62,33 @@ module _ (s : List ℕ) where
   pub between-byte : (from to i : ℕ) → from + i < to → getD (between s from to) i 0 ≡ getD s (from + i) 0
   between-byte from to i h = getD-drop from (take to s) i 0 ∙ getD-take to s (from + i) 0 h
 
-  -- parts of bytes are bytes
-  pub bytes-take : (n : ℕ) → Bytes s → Bytes (take n s)
-  bytes-take n b i =
-      elim (decLt i n) [
-        | yes h ↦ rw (getD-take n s i 0 h) (b i)
-        | no h ↦ rw (List·getD-eq-default (take n s) 0 {n = i} (rw (length-take n s) (omega arith))) (omega arith)
-      ]
+  -- a body that has a byte is that byte and what comes behind it
+  pub between-first : (from to : ℕ) → from < to → to ≤ length s → between s from to ≡ getD s from 0 ∷ between s (from + 1) to
+  between-first from to h k =
+      let long : length (take to s) ≡ to = length-take-le to s k in
+      rw (drop-first (take to s) from (omega arith), getD-take to s from 0 h)
 
-  pub bytes-drop : (n : ℕ) → Bytes s → Bytes (drop n s)
-  bytes-drop n b i = rw (getD-drop n s i 0) (b (n + i))
+  -- a number reads the same in a body and in the text
+  pub number-between : (k from to : ℕ) → from + k ≤ to → number k (between s from to) 0 ≡ number k s from
+  number-between k from to h = number-drop k (take to s) from 0 ∙ ap (number k (take to s)) (add-zero from) ∙ number-take k s from to h
+
+  -- a body that has k bytes is the number that they make and what comes behind it
+  pub between-number : Bytes s → (k from to : ℕ) → from + k ≤ to → to ≤ length s
+      → between s from to ≡ numberBytes k (number k s from) ++ between s (from + k) to
+  between-number bytes k from to h l =
+      let long : length (take to s) ≡ to = length-take-le to s l in
+      sym (take-append-drop k (between s from to))
+      ∙ ap₂ _++_
+      (number-bytes-is k (take to s) (bytes-take to bytes) from (omega arith) ∙ ap (numberBytes k) (number-take k s from to h))
+      (between-drop from to k)
+
+  -- a body that was made from a number and something behind it
+  pub made-number : (k n from to : ℕ) (back : List ℕ) → n < 256 ^ k → from + k ≤ to → between s from to ≡ numberBytes k n ++ back
+      → (number k s from ≡ n) × (between s (from + k) to ≡ back)
+  made-number k n from to back fits h made = (
+    sym (number-take k s from to h) ∙ number-made k n (take to s) from back fits made,
+    sym (between-drop from to k) ∙ ap (drop k) made ∙ drop-at (numberBytes k n) back k (number-bytes-length k n),
+  )
 
   -- a field that is whole in a cut text is the same field in the whole text, and ends by the cut
   pub found-widens : (cut at : ℕ) {tag from to : ℕ} → Found (take cut s) at tag from to → Found s at tag from to × (to ≤ cut)
@@ -93,3 +120,7 @@ module _ (s : List ℕ) where
   pub stands-narrows : (cut : ℕ) (p : Part) → p .to ≤ cut → Stands s p → Stands (take cut s) p
   stands-narrows cut p h k =
       found-field (take cut s) (p .at) (p .tag) (p .from) (p .to) (found-narrows cut (p .at) h (field-found s (p .at) k))
+
+  -- what a part is made from is the same in a cut text
+  pub piece-take : (cut : ℕ) (p : Part) → p .to ≤ cut → pieceOf (take cut s) p ≡ pieceOf s p
+  piece-take cut p h = λ i. record { tag = p .tag; body = between-take (p .from) (p .to) cut h i }

@@ -1,14 +1,15 @@
 -- Nothing stands twice among the parts of a text if and only if no two of the pieces that they are made from clash: element by element, each
 -- against the later ones. Assumes nothing.
 use Prim.Native.Nat.{ℕ}
-use mathlib.Core.Path.{_≡_, _∙_, sym, refl}
+use mathlib.Core.Path.{_≡_, _∙_, sym, subst, subst⁻¹, refl}
 use mathlib.Core.Bool.{Bool, true, false, not, _&&_, _||_, false≢true}
 use mathlib.Core.List.{List, [], _∷_, map}
 use borrow.Author.Tests.{not-true}
-use Rattle.tlv.specs.Grammar.{Piece, All, Apart}
+use lib.ListN.{drop}
+use Rattle.tlv.specs.Grammar.{Piece, fieldsBytes, All, Apart}
 use Rattle.tlv.specs.Reading.{Part, Stands, pieceOf, parts, has, once}
 use Rattle.tlv.proofs.Walks.{parts-stand}
-use Rattle.tlv.proofs.Pieces.{both-true}
+use Rattle.tlv.proofs.Pieces.{both-true, made-pieces}
 
 either-false : (a b : Bool) → (a || b) ≡ false → (a ≡ false) × (b ≡ false)
 either-false true b h = absurd (false≢true (sym h))
@@ -33,9 +34,9 @@ module _ (s : List ℕ) (same : Part → Part → Bool) (Clash : Piece → Piece
         let w = both-true (not (has (same p) l)) (once same l) h in
         (none-clashes p (a .0) l (a .1) (not-true (has (same p) l) (w .0)), list-apart l (a .1) (w .1))
 
-    -- sound: if the test tells parts whose pieces clash, then where no part is the same as a later one, no two pieces clash
-    pub once-apart : (at : ℕ) → once same (parts s at) ≡ true → Apart Clash (map (pieceOf s) (parts s at))
-    once-apart at = list-apart (parts s at) (parts-stand s at)
+    -- sound: if parts whose pieces clash are the same to the test, then where no part is the same as a later one, no two pieces clash
+    pub once-apart : (at : ℕ) (ps : List Piece) → drop at s ≡ fieldsBytes ps → once same (parts s at) ≡ true → Apart Clash ps
+    once-apart at ps e h = subst (Apart Clash) (made-pieces s ps at e) (list-apart (parts s at) (parts-stand s at) h)
 
   module _ (telling : (p q : Part) → Stands s p → Stands s q → same p q ≡ true → Clash (pieceOf s p) (pieceOf s q)) where
     none-same : (p : Part) → Stands s p → (l : List Part) → All (Stands s) l → All (λ y. Clash (pieceOf s p) y → ⊥) (map (pieceOf s) l)
@@ -51,6 +52,6 @@ module _ (s : List ℕ) (same : Part → Part → Bool) (Clash : Piece → Piece
         let here : has (same p) l ≡ false = none-same p (a .0) l (a .1) (h .0) in
         rw here (list-once l (a .1) (h .1))
 
-    -- complete: if the pieces of parts that are the same to the test clash, then where no two pieces clash, no part is the same as a later one
-    pub apart-once : (at : ℕ) → Apart Clash (map (pieceOf s) (parts s at)) → once same (parts s at) ≡ true
-    apart-once at = list-once (parts s at) (parts-stand s at)
+    -- complete: if parts that are the same to the test have pieces that clash, then where no two pieces clash, no part is the same as a later one
+    pub apart-once : (at : ℕ) (ps : List Piece) → drop at s ≡ fieldsBytes ps → Apart Clash ps → once same (parts s at) ≡ true
+    apart-once at ps e h = list-once (parts s at) (parts-stand s at) (subst⁻¹ (Apart Clash) (made-pieces s ps at e) h)

@@ -3,7 +3,7 @@
 use Prim.Native.Nat.{ℕ, zero, suc, _+_, _-_, _*_, _/_, _%_, _≤_, _<_}
 use mathlib.Core.Path.{_≡_, _∙_, sym, ap, ap₂, subst, refl}
 use mathlib.Core.Bool.{Bool, true, false, _&&_, false≢true}
-use mathlib.Core.List.{List, [], _∷_, _++_, map, foldr, append-assoc}
+use mathlib.Core.List.{List, [], _∷_, _++_, map, foldr, append-assoc, nil≢cons, head-eq-of-cons-eq, tail-eq-of-cons-eq}
 use mathlib.Core.Logic.{_↔_}
 use native.Mathlib.Nat.{mod-add-div}
 use native.Mathlib.Omega.{arith}
@@ -12,7 +12,7 @@ use lib.ListN.{length, getD, take, drop, length-append, length-drop, take-append
 use lib.Seq.{drop-drop, drop-append-seam, take-append-seam, drop-append-add}
 use Rattle.tlv.specs.declared.Step.the-variants.{Field, End}
 use Rattle.tlv.specs.Number.{Bytes, number, numberBytes}
-use Rattle.tlv.specs.Grammar.{Piece, Sized, fieldBytes, fieldsBytes, All, Made}
+use Rattle.tlv.specs.Grammar.{Piece, Sized, fieldBytes, fieldsBytes, All, Filled, FromValue, Made}
 use Rattle.tlv.specs.Reading.{
   stepFrom,
   fieldAt,
@@ -139,7 +139,7 @@ both-true true b h = (refl, h)
 both-true false b h = absurd (false≢true h)
 
 -- where nothing is left there are no pieces, and where there are pieces something is left
-rest-empty : (s : List ℕ) (at : ℕ) → drop at s ≡ [] → fieldAt s at ≡ End
+pub rest-empty : (s : List ℕ) (at : ℕ) → drop at s ≡ [] → fieldAt s at ≡ End
 unfolding fieldAt stepFrom
 rest-empty s at e = rw e
 
@@ -201,53 +201,77 @@ module _ (s : List ℕ) where
 pub one-making : (ps qs : List Piece) → fieldsBytes ps ≡ fieldsBytes qs → ps ≡ qs
 one-making ps qs e = sym (made-pieces (fieldsBytes ps) ps 0 refl) ∙ made-pieces (fieldsBytes ps) qs 0 e
 
-pub one-reading : {Good Good′ : Piece → Type 0} {text : List ℕ} (m : Made Good text) (n : Made Good′ text) → m .pieces ≡ n .pieces
-one-reading m n = one-making (m .pieces) (n .pieces) (sym (m .bytes) ∙ n .bytes)
+-- in a text of bytes each tag is a byte, and each body's length fits two bytes
+pub made-sized : (s : List ℕ) → Bytes s → (ps : List Piece) (at : ℕ) → drop at s ≡ fieldsBytes ps → All Sized ps
+made-sized s bytes ps at e = subst (All Sized) (made-pieces s ps at e) (parts-sized s bytes at)
 
--- ---- the law of a level: a test of each field against what the field is made from
+-- the test says exactly that the fields fill the text
+pub fills-exactly : (s : List ℕ) → Bytes s → (at : ℕ) → (fills s at ≡ true) ↔ Filled (drop at s)
+fills-exactly s bytes at = (
+  (λ h. record { pieces = map (pieceOf s) (parts s at); sized = parts-sized s bytes at; bytes = fills-made s bytes at h }),
+  (λ f. made-fills s (f .pieces) at (f .bytes)),
+)
 
-module _ (s : List ℕ) (ok : Part → Bool) (Good : Piece → Type 0) where
-  -- sound: where the test of a field shows that its piece is Good, fields that fill the text and pass it are made from Good pieces
-  pub filled-made : Bytes s → ((p : Part) → Stands s p → ok p ≡ true → Good (pieceOf s p))
-      → (at : ℕ) → filled ok s at ≡ true → Made Good (drop at s)
-  unfolding fieldsBytes
-  filled-made bytes good =
-      by-fields s (λ at. filled ok s at ≡ true → Made Good (drop at s))
-      (λ at e h. record { pieces = []; sized = tt; good = tt; bytes = drop-of-length-le s {i = at} (end-is s at e) })
-      (λ at e h. absurd (false≢true (sym (filled-cut s ok at e) ∙ h)))
-      (λ p e rest h. joined p e rest (both-true (ok p) (filled ok s (p .to)) (sym (filled-field s ok p e) ∙ h)))
-    where
-      joined : (p : Part) → Stands s p → (filled ok s (p .to) ≡ true → Made Good (drop (p .to) s))
-          → (ok p ≡ true) × (filled ok s (p .to) ≡ true) → Made Good (drop (p .at) s)
-      joined p e rest h =
-          let m : Made Good (drop (p .to) s) = rest (h .1) in
-          record {
-            pieces = pieceOf s p ∷ m .pieces;
-            sized = (part-sized s bytes p e, m .sized);
-            good = (good p e (h .0), m .good);
-            bytes =
-                part-made s bytes p e
-                ∙ ap (λ (l : List ℕ). fieldBytes (p .tag) (between s (p .from) (p .to)) ++ l) (m .bytes);
-          }
+pub one-filling : {text : List ℕ} (f g : Filled text) → f .pieces ≡ g .pieces
+one-filling f g = one-making (f .pieces) (g .pieces) (sym (f .bytes) ∙ g .bytes)
 
-  module _ (passes : (p : Part) → Stands s p → Good (pieceOf s p) → ok p ≡ true) where
-    pieces-filled : (ps : List Piece) (at : ℕ) → All Good ps → drop at s ≡ fieldsBytes ps → filled ok s at ≡ true
+-- ---- the law of a level: a test of each field against the value that the field is made from
+
+module _ {X : Type 0} (piece : X → Piece) (Good : X → Type 0) where
+  module _ (told-apart : (x y : X) → Good x → Good y → piece x ≡ piece y → x ≡ y) where
+    same-values : (xs ys : List X) → All Good xs → All Good ys → map piece xs ≡ map piece ys → xs ≡ ys
+    same-values [] [] g h e = refl
+    same-values [] (y ∷ ys) g h e = absurd (nil≢cons e)
+    same-values (x ∷ xs) [] g h e = absurd (nil≢cons (sym e))
+    same-values (x ∷ xs) (y ∷ ys) g h e =
+        ap₂ {A = X} {B = List X} _∷_ (told-apart x y (g .0) (h .0) (head-eq-of-cons-eq e))
+        (same-values xs ys (g .1) (h .1) (tail-eq-of-cons-eq e))
+
+    -- one reading, of values whose pieces tell them apart
+    pub one-reading : {text : List ℕ} (m n : Made piece Good text) → m .values ≡ n .values
+    one-reading m n =
+        same-values (m .values) (n .values) (m .good) (n .good)
+        (one-making (map piece (m .values)) (map piece (n .values)) (sym (m .bytes) ∙ n .bytes))
+
+  module _ (s : List ℕ) (ok : Part → Bool) where
+    -- sound: where a field that passes the test is made from a Good value, fields that fill the text and pass it are
+    pub filled-made : Bytes s → ((p : Part) → Stands s p → ok p ≡ true → FromValue piece Good (pieceOf s p))
+        → (at : ℕ) → filled ok s at ≡ true → Made piece Good (drop at s)
     unfolding fieldsBytes
-    pieces-filled [] at g e = filled-end s ok at (rest-empty s at e)
-    pieces-filled (p ∷ ps) at g e =
-        let q : Part = partAt at (p .tag) (length (p .body)) in
-        let stands : Stands s q = made-field s at (p .tag) (p .body) (fieldsBytes ps) e in
-        let here : ok q ≡ true =
-        passes q stands (subst Good (sym (made-piece s at (p .tag) (p .body) (fieldsBytes ps) e)) (g .0)) in
-        let rest : filled ok s (q .to) ≡ true =
-        pieces-filled ps (q .to) (g .1) (made-back s at (p .tag) (p .body) (fieldsBytes ps) e) in
-        filled-field s ok q stands ∙ rw (here, rest)
+    filled-made bytes good =
+        by-fields s (λ at. filled ok s at ≡ true → Made piece Good (drop at s))
+        (λ at e h. record { values = []; good = tt; bytes = drop-of-length-le s {i = at} (end-is s at e) })
+        (λ at e h. absurd (false≢true (sym (filled-cut s ok at e) ∙ h)))
+        (λ p e rest h. joined p e rest (both-true (ok p) (filled ok s (p .to)) (sym (filled-field s ok p e) ∙ h)))
+      where
+        joined : (p : Part) → Stands s p → (filled ok s (p .to) ≡ true → Made piece Good (drop (p .to) s))
+            → (ok p ≡ true) × (filled ok s (p .to) ≡ true) → Made piece Good (drop (p .at) s)
+        joined p e rest h =
+            let v : FromValue piece Good (pieceOf s p) = good p e (h .0) in
+            let m : Made piece Good (drop (p .to) s) = rest (h .1) in
+            record {
+              values = v .value ∷ m .values;
+              good = (v .good, m .good);
+              bytes =
+                  part-made s bytes p e
+                  ∙ ap (λ (l : List ℕ). fieldBytes (p .tag) (between s (p .from) (p .to)) ++ l) (m .bytes)
+                  ∙ ap (λ (q : Piece). fieldBytes (q .tag) (q .body) ++ fieldsBytes (map piece (m .values))) (sym (v .is));
+            }
 
-    -- complete: where a field made from a Good piece passes the test, a text made from Good pieces passes it field by field
-    pub made-filled : (at : ℕ) → Made Good (drop at s) → filled ok s at ≡ true
-    made-filled at m = pieces-filled (m .pieces) at (m .good) (m .bytes)
+    module _ (passes : (p : Part) → Stands s p → (x : X) → Good x → piece x ≡ pieceOf s p → ok p ≡ true) where
+      values-filled : (xs : List X) (at : ℕ) → All Good xs → drop at s ≡ fieldsBytes (map piece xs) → filled ok s at ≡ true
+      unfolding fieldsBytes
+      values-filled [] at g e = filled-end s ok at (rest-empty s at e)
+      values-filled (x ∷ xs) at g e =
+          let tag : ℕ = piece x .tag in
+          let body : List ℕ = piece x .body in
+          let q : Part = partAt at tag (length body) in
+          let stands : Stands s q = made-field s at tag body (fieldsBytes (map piece xs)) e in
+          let here : ok q ≡ true = passes q stands x (g .0) (sym (made-piece s at tag body (fieldsBytes (map piece xs)) e)) in
+          let rest : filled ok s (q .to) ≡ true =
+          values-filled xs (q .to) (g .1) (made-back s at tag body (fieldsBytes (map piece xs)) e) in
+          filled-field s ok q stands ∙ rw (here, rest)
 
--- the fields of a text fill it exactly if and only if it is made from pieces
-pub fills-exactly : (s : List ℕ) → Bytes s → (at : ℕ) → (fills s at ≡ true) ↔ Made (λ p. Unit {0}) (drop at s)
-fills-exactly s bytes at =
-    (filled-made s (λ p. true) (λ p. Unit {0}) bytes (λ p e h. tt) at, made-filled s (λ p. true) (λ p. Unit {0}) (λ p e g. refl) at)
+      -- complete: where a field made from a Good value passes the test, a text made from Good values passes it field by field
+      pub made-filled : (at : ℕ) → Made piece Good (drop at s) → filled ok s at ≡ true
+      made-filled at m = values-filled (m .values) at (m .good) (m .bytes)

@@ -6,7 +6,7 @@ use mathlib.Core.List.{List, [], _∷_, _++_}
 use native.Mathlib.Decide.{decLt}
 use native.Mathlib.Nat.{add-zero, sub-zero, zero-sub, suc-sub-suc}
 use native.Mathlib.Omega.{arith}
-use lib.ListN.{length, getD, take, drop, length-take, length-drop, take-append-drop, List·getD-eq-default}
+use lib.ListN.{length, getD, take, drop, length-append, length-take, length-drop, take-append-drop, List·getD-eq-default}
 use lib.Seq.{take-nil, take-length, take-take, length-take-le, drop-drop, drop-at, getD-take, getD-drop}
 use Rattle.tlv.specs.Number.{Bytes, number, numberBytes}
 use Rattle.tlv.specs.Reading.{Part, Stands, between, pieceOf}
@@ -82,13 +82,27 @@ module _ (s : List ℕ) where
       (number-bytes-is k (take to s) (bytes-take to bytes) from (omega arith) ∙ ap (numberBytes k) (number-take k s from to h))
       (between-drop from to k)
 
-  -- a body that was made from a number and something behind it
-  pub made-number : (k n from to : ℕ) (back : List ℕ) → n < 256 ^ k → from + k ≤ to → between s from to ≡ numberBytes k n ++ back
+  -- a body that was made from a number and something behind it has that number and that behind it
+  pub made-number : (k n from to : ℕ) (back : List ℕ) → n < 256 ^ k → between s from to ≡ numberBytes k n ++ back
       → (number k s from ≡ n) × (between s (from + k) to ≡ back)
-  made-number k n from to back fits h made = (
-    sym (number-take k s from to h) ∙ number-made k n (take to s) from back fits made,
+  unfolding number
+  made-number k n from to back fits made = (
+    same k (number-made k n (take to s) from back fits made) (ap length made),
     sym (between-drop from to k) ∙ ap (drop k) made ∙ drop-at (numberBytes k n) back k (number-bytes-length k n),
   )
+    where
+      same : (k : ℕ) → number k (take to s) from ≡ n → length (between s from to) ≡ length (numberBytes k n ++ back) → number k s from ≡ n
+      same zero e h = e
+      same (suc k) e h =
+          let room : from + suc k ≤ to =
+          omega (
+            arith,
+            length-drop from (take to s),
+            length-take to s,
+            length-append (numberBytes (suc k) n) back,
+            number-bytes-length (suc k) n,
+          ) in
+          sym (number-take (suc k) s from to room) ∙ e
 
   -- a field that is whole in a cut text is the same field in the whole text, and ends by the cut
   pub found-widens : (cut at : ℕ) {tag from to : ℕ} → Found (take cut s) at tag from to → Found s at tag from to × (to ≤ cut)

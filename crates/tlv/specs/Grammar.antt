@@ -2,7 +2,7 @@
 -- Assumes nothing.
 use Prim.Native.Nat.{ℕ, _+_, _*_, _/_, _%_, _<_}
 use mathlib.Core.Path.{_≡_}
-use mathlib.Core.List.{List, [], _∷_, _++_}
+use mathlib.Core.List.{List, [], _∷_, _++_, map}
 use lib.ListN.{length}
 
 -- what a field is made from: a tag and a body
@@ -34,12 +34,24 @@ abbrev pub Apart : {A : Type 0} → (A → A → Type 0) → List A → Type 0
 Apart R [] = Unit {0}
 Apart R (x ∷ l) = All (λ y. R x y → ⊥) l × Apart R l
 
--- the fields of a text fill it exactly: the text is made from pieces, each of them Good
-pub record Made (Good : Piece → Type 0) (text : List ℕ) : Type 0 where
+-- the fields of a text fill it exactly: it is the bytes of some pieces, and of nothing else
+pub record Filled (text : List ℕ) : Type 0 where
   pub pieces : List Piece
   pub sized : All Sized pieces
-  pub good : All Good pieces
   pub bytes : text ≡ fieldsBytes pieces
+
+module _ {X : Type 0} (piece : X → Piece) (Good : X → Type 0) where
+  -- a piece is made from a value that is Good, where `piece` says what a value's field is made from
+  pub record FromValue (p : Piece) : Type 0 where
+    pub value : X
+    pub good : Good value
+    pub is : piece value ≡ p
+
+  -- the fields of a text fill it exactly, and each is made from a value that is Good
+  pub record Made (text : List ℕ) : Type 0 where
+    pub values : List X
+    pub good : All Good values
+    pub bytes : text ≡ fieldsBytes (map piece values)
 
 -- a field stands at a place of a text: before it a front of that length, then tag, two-byte length, body, and whatever comes after
 pub record FieldAt (s : List ℕ) (at tag from to : ℕ) : Type 0 where

@@ -37,7 +37,8 @@ module _ (dword low high : ℕ) where
   range-past-the-dword h k = rw (le-leb low high h, lt-leb high 31 k)
 
   -- what the code computes: a shift down, and a mask of as many ones as the range is wide
-  pub range-by-mask : low ≤ high → high ≤ 31 → (m : ℕ) → m ≡ 2 ^ width low high - 1 → bitAnd (dword / 2 ^ low) m ≡ rangeOf dword low high
+  pub range-by-mask : low ≤ high → high ≤ 31 → (m : ℕ) → m ≡ 2 ^ width low high - 1
+      → bitAnd (dword / 2 ^ low) m ≡ rangeOf dword low high
   range-by-mask h k m e =
       ap (bitAnd (dword / 2 ^ low)) e ∙ and-mask (dword / 2 ^ low) (width low high) ∙ sym (range-inside h k)
 

@@ -1,8 +1,8 @@
 -- What stands at a place is what the answer says, both ways: the answer goes by how much of the text is left, and a text is its part before the
 -- place and its part from there on. Assumes nothing.
-use Prim.Native.Nat.{ℕ, zero, suc, _+_, _-_, _*_, _≤_, _<_}
+use Prim.Native.Nat.{ℕ, _+_, _*_, _≤_, _<_}
 use mathlib.Core.Path.{_≡_, _∙_, sym, ap, subst, subst⁻¹, refl}
-use mathlib.Core.Bool.{Bool, cond}
+use mathlib.Core.Bool.{cond}
 use mathlib.Core.List.{List, [], _∷_, _++_}
 use mathlib.Core.Logic.{_⊎_, inl, inr, ⊎-elim}
 use native.Mathlib.Decide.{decLe}
@@ -10,11 +10,11 @@ use native.Mathlib.Numerals.{add-one}
 use native.Mathlib.Omega.{arith}
 use borrow.Author.Tests.{le-leb, lt-leb}
 use lib.Dec.{leb}
-use lib.ListN.{length, getD, take, drop, length-append, length-take, length-drop, take-append-drop, drop-of-length-le}
-use lib.Seq.{drop-drop, drop-cons, drop-at, length-take-le}
+use lib.ListN.{length, getD, take, drop, length-append, length-drop, take-append-drop, drop-of-length-le}
+use lib.Seq.{drop-cons, drop-at, length-take-le}
 use Rattle.tlv.specs.declared.Step.{Step}
 use Rattle.tlv.specs.declared.Step.the-variants.{Field, Stray, Overrun, End}
-use Rattle.tlv.specs.Number.{Bytes, number}
+use Rattle.tlv.specs.Number.{number}
 use Rattle.tlv.specs.Grammar.{FieldAt, RunsPast}
 use Rattle.tlv.specs.Reading.{stepFrom, fieldAt, refusalOf}
 
@@ -42,7 +42,8 @@ pub drop-first : (s : List ℕ) (i : ℕ) → i < length s → drop i s ≡ getD
 drop-first s i h = rw (add-one i) (drop-cons s i 0 h)
 
 -- where there is room for tag and length, they are the first three bytes of the rest
-pub three-bytes : (s : List ℕ) (at : ℕ) → at + 3 ≤ length s → drop at s ≡ getD s at 0 ∷ getD s (at + 1) 0 ∷ getD s (at + 2) 0 ∷ drop (at + 3) s
+pub three-bytes : (s : List ℕ) (at : ℕ) → at + 3 ≤ length s
+    → drop at s ≡ getD s at 0 ∷ getD s (at + 1) 0 ∷ getD s (at + 2) 0 ∷ drop (at + 3) s
 three-bytes s at h =
     let second : at + 1 + 1 ≡ at + 2 = omega arith in
     let third : at + 2 + 1 ≡ at + 3 = omega arith in

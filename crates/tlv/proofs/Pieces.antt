@@ -1,6 +1,6 @@
 -- The fields of a text fill it exactly if and only if the text is made from pieces, and from no others: a field's bytes are its part's, and behind
 -- them the rest is made from the other pieces. Assumes nothing.
-use Prim.Native.Nat.{ℕ, zero, suc, _+_, _-_, _*_, _/_, _%_, _≤_, _<_}
+use Prim.Native.Nat.{ℕ, _+_, _-_, _*_, _/_, _%_, _≤_, _<_}
 use mathlib.Core.Path.{_≡_, _∙_, sym, ap, ap₂, subst, refl}
 use mathlib.Core.Bool.{Bool, true, false, _&&_, false≢true}
 use mathlib.Core.List.{List, [], _∷_, _++_, map, foldr, append-assoc, nil≢cons, head-eq-of-cons-eq, tail-eq-of-cons-eq}
@@ -8,15 +8,14 @@ use mathlib.Core.Logic.{_↔_}
 use native.Mathlib.Nat.{mod-add-div}
 use native.Mathlib.Omega.{arith}
 use borrow.Author.Tests.{le-leb}
-use lib.ListN.{length, getD, take, drop, length-append, length-drop, take-append-drop, drop-of-length-le}
-use lib.Seq.{drop-drop, drop-append-seam, take-append-seam, drop-append-add}
+use lib.ListN.{length, getD, drop, length-append, drop-of-length-le}
+use lib.Seq.{drop-drop, drop-append-seam, take-append-seam}
 use Rattle.tlv.specs.declared.Step.the-variants.{Field, End}
 use Rattle.tlv.specs.Number.{Bytes, number, numberBytes}
 use Rattle.tlv.specs.Grammar.{Piece, Sized, fieldBytes, fieldsBytes, All, Filled, FromValue, Made}
 use Rattle.tlv.specs.Reading.{
   stepFrom,
   fieldAt,
-  refusalOf,
   Part,
   partAt,
   Stands,
@@ -29,7 +28,7 @@ use Rattle.tlv.specs.Reading.{
   places,
 }
 use Rattle.tlv.proofs.Numbers.{number-below}
-use Rattle.tlv.proofs.Fields.{Found, field-found, two-bytes, three-bytes, end-is, end-all}
+use Rattle.tlv.proofs.Fields.{Found, field-found, two-bytes, three-bytes, end-is}
 use Rattle.tlv.proofs.Places.{between-is, between-length, between-join}
 use Rattle.tlv.proofs.Walks.{
   by-fields,
@@ -46,7 +45,8 @@ use Rattle.tlv.proofs.Walks.{
 -- ---- the bytes of fields
 
 -- a field's bytes, with its length as a number of two bytes
-pub field-bytes-number : (tag : ℕ) (body : List ℕ) → length body < 65536 → fieldBytes tag body ≡ tag ∷ (numberBytes 2 (length body) ++ body)
+pub field-bytes-number : (tag : ℕ) (body : List ℕ) → length body < 65536
+    → fieldBytes tag body ≡ tag ∷ (numberBytes 2 (length body) ++ body)
 unfolding fieldBytes numberBytes
 field-bytes-number tag body h =
     let high : length body / 256 % 256 ≡ length body / 256 = omega arith in

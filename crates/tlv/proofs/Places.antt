@@ -91,7 +91,8 @@ module _ (s : List ℕ) where
     sym (between-drop from to k) ∙ ap (drop k) made ∙ drop-at (numberBytes k n) back k (number-bytes-length k n),
   )
     where
-      same : (k : ℕ) → number k (take to s) from ≡ n → length (between s from to) ≡ length (numberBytes k n ++ back) → number k s from ≡ n
+      same : (k : ℕ) → number k (take to s) from ≡ n → length (between s from to) ≡ length (numberBytes k n ++ back)
+          → number k s from ≡ n
       same zero e h = e
       same (suc k) e h =
           let room : from + suc k ≤ to =
@@ -138,3 +139,7 @@ module _ (s : List ℕ) where
   -- what a part is made from is the same in a cut text
   pub piece-take : (cut : ℕ) (p : Part) → p .to ≤ cut → pieceOf (take cut s) p ≡ pieceOf s p
   piece-take cut p h = λ i. record { tag = p .tag; body = between-take (p .from) (p .to) cut h i }
+
+  -- a text cut behind a field is as long as the place behind the field, which is what lending it asks
+  pub stands-cut : (p : Part) → Stands s p → p .to ≡ length (take (p .to) s)
+  stands-cut p h = sym (length-take-le (p .to) s (field-found s (p .at) h .within))

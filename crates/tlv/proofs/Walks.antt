@@ -1,6 +1,6 @@
 -- A walk steps from field to field: the answer for a text from a place on is the field there joined to the answer from the field's end on. The
 -- bytes of a body are passed one by one, which is to pass them all at once. Assumes nothing.
-use Prim.Native.Nat.{ℕ, zero, suc, _+_, _-_, _*_, _≤_, _<_}
+use Prim.Native.Nat.{ℕ, zero, suc, _+_, _≤_, _<_}
 use mathlib.Core.Path.{_≡_, _∙_, sym, ap, ap₂, refl}
 use mathlib.Core.Bool.{Bool, true, false, cond, not, _&&_, and-false}
 use mathlib.Core.List.{List, [], _∷_, foldr}
@@ -8,7 +8,7 @@ use native.Mathlib.Nat.{add-zero}
 use native.Mathlib.Omega.{arith}
 use borrow.Author.Tests.{le-leb, lt-leb}
 use lib.Dec.{leb}
-use lib.ListN.{length, getD, take, drop, length-drop, drop-of-length-le}
+use lib.ListN.{length, getD, drop, length-drop, drop-of-length-le}
 use lib.Seq.{drop-drop}
 use Rattle.tlv.specs.declared.Step.{Step}
 use Rattle.tlv.specs.declared.Step.the-variants.{Field, Stray, Overrun, End}
@@ -31,9 +31,11 @@ use Rattle.tlv.specs.Reading.{
 }
 use Rattle.tlv.proofs.Fields.{Found, field-found, two-bytes, three-bytes, end-is, end-all, stray-is, overrun-is}
 
-module _ (s : List ℕ) (P : ℕ → Type 0) (ends : (at : ℕ) → fieldAt s at ≡ End → P at) (cuts : (at : ℕ) → refusalOf (fieldAt s at) ≡ 31 → P at)
+module _ (s : List ℕ) (P : ℕ → Type 0)
+    (ends : (at : ℕ) → fieldAt s at ≡ End → P at) (cuts : (at : ℕ) → refusalOf (fieldAt s at) ≡ 31 → P at)
     (steps : (p : Part) → Stands s p → P (p .to) → P (p .at)) where
-  one-step : (left at : ℕ) → length s ≤ suc left + at → ((to : ℕ) → length s ≤ left + to → P to) → (r : Step) → fieldAt s at ≡ r → P at
+  one-step : (left at : ℕ) → length s ≤ suc left + at → ((to : ℕ) → length s ≤ left + to → P to)
+      → (r : Step) → fieldAt s at ≡ r → P at
   one-step left at h rest (Field tag from to) e =
       let f : Found s at tag from to = field-found s at e in
       steps (record { at = at; tag = tag; from = from; to = to }) e (rest to (omega arith))

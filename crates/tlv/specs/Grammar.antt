@@ -19,6 +19,24 @@ pub record Sized (p : Piece) : Type 0 where
 unfoldable pub fieldBytes : ℕ → List ℕ → List ℕ
 fieldBytes tag body = tag ∷ length body % 256 ∷ length body / 256 ∷ body
 
+-- a field stands at a place of a text: before it a front of that length, then tag, two-byte length, body, and whatever comes after
+pub record FieldAt (s : List ℕ) (at tag from to : ℕ) : Type 0 where
+  pub front : List ℕ
+  pub low : ℕ
+  pub high : ℕ
+  pub body : List ℕ
+  pub back : List ℕ
+  pub text : s ≡ front ++ (tag ∷ low ∷ high ∷ (body ++ back))
+  pub place : length front ≡ at
+  pub size : length body ≡ low + 256 * high
+  pub start : from ≡ at + 3
+  pub end : to ≡ from + length body
+
+-- number 31: the text goes on at a place where no field stands, since one would run past the end, its tag and length included
+pub record RunsPast (s : List ℕ) (at : ℕ) : Type 0 where
+  pub goes-on : at < length s
+  pub no-field : (tag from to : ℕ) → FieldAt s at tag from to → ⊥
+
 -- the bytes of fields, one after the other
 unfoldable pub fieldsBytes : List Piece → List ℕ
 fieldsBytes [] = []
@@ -47,26 +65,8 @@ module _ {X : Type 0} (piece : X → Piece) (Good : X → Type 0) where
     pub good : Good value
     pub is : piece value ≡ p
 
-  -- the fields of a text fill it exactly, and each is made from a value that is Good
+  -- the fields of a text fill it exactly, and each is made from a value that is Good. In a text of bytes each tag and length fits by itself
   pub record Made (text : List ℕ) : Type 0 where
     pub values : List X
     pub good : All Good values
     pub bytes : text ≡ fieldsBytes (map piece values)
-
--- a field stands at a place of a text: before it a front of that length, then tag, two-byte length, body, and whatever comes after
-pub record FieldAt (s : List ℕ) (at tag from to : ℕ) : Type 0 where
-  pub front : List ℕ
-  pub low : ℕ
-  pub high : ℕ
-  pub body : List ℕ
-  pub back : List ℕ
-  pub text : s ≡ front ++ (tag ∷ low ∷ high ∷ (body ++ back))
-  pub place : length front ≡ at
-  pub size : length body ≡ low + 256 * high
-  pub start : from ≡ at + 3
-  pub end : to ≡ from + length body
-
--- number 31: the text goes on at a place, and no field stands there, so that one, its tag and length included, would run past the end
-pub record RunsPast (s : List ℕ) (at : ℕ) : Type 0 where
-  pub goes-on : at < length s
-  pub no-field : (tag from to : ℕ) → FieldAt s at tag from to → ⊥

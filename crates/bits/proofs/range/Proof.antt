@@ -2,7 +2,6 @@
 -- Assumes nothing.
 use borrow.Author.Needs.{needs}
 use mathlib.Core.Path.{sym}
-use native.Mathlib.Omega.{arith}
 use Rattle.bits.proofs.Ranges.{range-backwards, range-past-the-dword, range-by-mask}
 use Rattle.bits.proofs.range.Statement.{statement}
 use Rattle.bits.proofs.range.Tie as tie

@@ -1,6 +1,5 @@
 -- `tlv::field_at` meets its contract: at each return the tests that led there say how the text goes on.
 -- Assumes nothing.
-use Prim.Native.Nat.{_+_}
 use mathlib.Core.Path.{sym, refl}
 use borrow.Author.Needs.{needs}
 use native.Mathlib.Omega.{arith}

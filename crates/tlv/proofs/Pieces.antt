@@ -92,7 +92,7 @@ module _ (s : List ℕ) (at tag : ℕ) (body back : List ℕ) (made : drop at s 
   pub made-piece : pieceOf s (partAt at tag (length body)) ≡ record { tag = tag; body = body }
   made-piece = λ i. record { tag = tag; body = made-body i }
 
--- the same at the end of a prefix
+-- a field made behind a front is what stands where the front ends
 pub made-after : (front : List ℕ) (tag : ℕ) (body back : List ℕ)
     → fieldAt (front ++ (fieldBytes tag body ++ back)) (length front) ≡ Field tag (length front + 3) (length front + 3 + length body)
 made-after front tag body back =
@@ -138,7 +138,7 @@ pub both-true : (a b : Bool) → (a && b) ≡ true → (a ≡ true) × (b ≡ tr
 both-true true b h = (refl, h)
 both-true false b h = absurd (false≢true h)
 
--- where nothing is left there are no pieces, and where there are pieces something is left
+-- where nothing is left, the text is at its end
 pub rest-empty : (s : List ℕ) (at : ℕ) → drop at s ≡ [] → fieldAt s at ≡ End
 unfolding fieldAt stepFrom
 rest-empty s at e = rw e
@@ -189,7 +189,7 @@ module _ (s : List ℕ) where
       ∙ ap (λ (l : List ℕ). fieldBytes (p .tag) (between s (p .from) (p .to)) ++ l)
       (rest (sym (filled-field s (λ p. true) p e) ∙ h))))
 
-  -- each is the right size
+  -- each of the parts is made from a piece of the right size
   pub parts-sized : Bytes s → (at : ℕ) → All Sized (map (pieceOf s) (parts s at))
   parts-sized bytes =
       by-fields s (λ at. All Sized (map (pieceOf s) (parts s at)))
@@ -212,6 +212,7 @@ fills-exactly s bytes at = (
   (λ f. made-fills s (f .pieces) at (f .bytes)),
 )
 
+-- and one list of pieces fills it
 pub one-filling : {text : List ℕ} (f g : Filled text) → f .pieces ≡ g .pieces
 one-filling f g = one-making (f .pieces) (g .pieces) (sym (f .bytes) ∙ g .bytes)
 

@@ -1,8 +1,9 @@
--- Events: each code has one event, and that event has the code; what stays unknown has no name. Assumes nothing.
+-- Events: the event of a code has that code, and each named event is the event of its code, by one computed test over the table.
+-- Assumes nothing.
 use Prim.Native.Nat.{ℕ, _+_, _/_, _%_, _^_, _≤_, _<_}
 use mathlib.Core.Path.{_≡_, refl, sym, ap, _∙_}
 use mathlib.Core.Bool.{Bool, true, false, cond}
-use mathlib.Core.List.{List, [], _∷_}
+use mathlib.Core.List.{List, [], _∷_, map}
 use native.Mathlib.Omega.{arith}
 use lib.Dec.{eqb}
 use borrow.Author.Tests.{eqb-true}
@@ -24,6 +25,11 @@ code-among (e ∷ es) code = go (eqb code (codeOf e)) refl (code-among es code)
 pub event-code : (code : ℕ) → codeOf (eventOf code) ≡ code
 unfolding eventOf
 event-code code = code-among named code
+
+-- each named event is the event of its code, so no named code is unknown
+pub named-events : map (λ (e : Event). eventOf (codeOf e)) named ≡ named
+unfolding eventOf
+named-events = refl
 
 -- so two codes with one event are one code
 pub one-code : (a b : ℕ) → eventOf a ≡ eventOf b → a ≡ b

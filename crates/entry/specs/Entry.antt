@@ -1,12 +1,12 @@
 -- The entry as a value: texts by their bytes, dwords as a list, wherever they lie.
-use Prim.Native.Nat.{ℕ, _+_}
+use Prim.Native.Nat.{ℕ, _+_, _≤_}
 use mathlib.Core.Path.{_≡_}
 use mathlib.Core.Bool.{Bool, cond, _||_}
 use mathlib.Core.List.{List, []}
 use mathlib.Core.Option.{Option, some, none}
 use lib.Dec.{leb, eqb}
 use lib.ListN.{length, take, drop}
-use Rattle.entry.specs.Event.{eventOf}
+use Rattle.entry.specs.Event.{codeOf, eventOf}
 use Rattle.entry.specs.declared.Entry.{Entry}
 use Rattle.entry.specs.declared.optional.MaybeByte.{MaybeByte}
 use Rattle.entry.specs.declared.optional.MaybeByte.the-variants as B
@@ -78,9 +78,27 @@ valueOf e text slots =
       dwords = partOf slots 0 (e .dwords);
     }
 
+-- an entry's parts lie in what is lent: its task and function in the text, its dwords in the slots
+pub record Lies (e : Entry) (text slots : List ℕ) : Type 0 where
+  pub task : e .«task_at» + e .«task_len» ≤ length text
+  pub function : e .«function_at» + e .«function_len» ≤ length text
+  pub dwords : e .dwords ≤ length slots
+
 -- two entries are the same when each field is, dwords included, task and function by their bytes, wherever they lie
-abbrev pub SameEntry : Entry → List ℕ → List ℕ → Entry → List ℕ → List ℕ → Type 0
-SameEntry e text slots f other places = valueOf e text slots ≡ valueOf f other places
+pub record SameEntry (e : Entry) (text slots : List ℕ) (f : Entry) (other places : List ℕ) : Type 0 where
+  pub first-lies : Lies e text slots
+  pub second-lies : Lies f other places
+  pub same : valueOf e text slots ≡ valueOf f other places
+
+-- a flag that may be absent, as a value
+unfoldable pub flagValue : MaybeFlag → Option Bool
+flagValue (F.Is b) = some b
+flagValue F.Absent = none
+
+-- an event that may be absent, as its code
+unfoldable pub eventValue : MaybeEvent → Option ℕ
+eventValue (E.Is e) = some (codeOf e)
+eventValue E.Absent = none
 
 -- the event question: that of the code, none without one
 unfoldable pub eventOfCode : MaybeByte → MaybeEvent
@@ -93,6 +111,6 @@ adapterOf (B.Is code) port = cond (eqb code 33 || eqb code 36) B.Absent port
 adapterOf B.Absent port = port
 
 -- the unplug question: whether the byte is 1, none without one
-unfoldable pub unpluggedOf : MaybeByte → MaybeFlag
-unpluggedOf (B.Is b) = F.Is (eqb b 1)
-unpluggedOf B.Absent = F.Absent
+unfoldable pub unplugOf : MaybeByte → MaybeFlag
+unplugOf (B.Is b) = F.Is (eqb b 1)
+unplugOf B.Absent = F.Absent

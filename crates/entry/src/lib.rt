@@ -10,7 +10,7 @@ use crate::optional::MaybeEvent;
 use crate::optional::MaybeFlag;
 use crate::optional::MaybeWord;
 ghost use mathlib.Core.Path.{_≡_};
-ghost use Rattle.entry.specs.Entry.{partOf, eventOfCode, adapterOf, unpluggedOf};
+ghost use Rattle.entry.specs.Entry.{partOf, eventOfCode, adapterOf, unplugOf};
 
 pub struct Entry {
     pub task_at: usize,
@@ -68,8 +68,8 @@ pub fn adapter_num(e: Entry) -> MaybeByte
 }
 
 // Does the entry report an unplug? The byte itself stays in the entry.
-pub fn unplugged(e: Entry) -> MaybeFlag
-    ensures { λ r. ⌜ r ≡ unpluggedOf (e .unplug) ⌝ }
+pub fn unplug(e: Entry) -> MaybeFlag
+    ensures { λ r. ⌜ r ≡ unplugOf (e .unplug) ⌝ }
 {
     let byte = e.unplug;
     match byte {

@@ -237,3 +237,14 @@ module _ (p : ℕ → Bool) where
       place-miss p {i = i} {n = n} (omega arith) (f i (omega arith) (omega arith))
       ∙ place-skip d {i = i + 1} {n = n} (omega arith) (λ k a b. f k (omega arith) (omega arith))
       ∙ ap (firstPlace p n) (sym e)
+
+  -- also where what is passed over reaches past the end
+  pub place-skip-to : (i e n : ℕ) → i ≤ e → Free p i e → firstPlace p n i ≡ firstPlace p n e
+  place-skip-to i e n h f =
+      by-order e n (λ l. within (omega arith)) (λ q. within (omega arith))
+      (λ l. first-none p {i = i} {n = n} (λ k a b. f k a (omega arith)) ∙ sym (place-end p {i = e} {n = n} (omega arith)))
+    where
+      within : e ≤ n → firstPlace p n i ≡ firstPlace p n e
+      within l =
+          let q : i + (e - i) ≡ e = omega arith in
+          place-skip (e - i) {i = i} {n = n} (omega arith) (λ k a b. f k a (omega arith)) ∙ ap (firstPlace p n) q

@@ -1,6 +1,6 @@
 -- Longest runs: a run ends at the first place that does not pass, and one that ends the text starts behind the last such place, so every
 -- law of runs is one of places. Assumes nothing.
-use Prim.Native.Nat.{ℕ, zero, suc, _+_, _-_, _≤_, _<_}
+use Prim.Native.Nat.{ℕ, zero, suc, max, _+_, _-_, _≤_, _<_}
 use mathlib.Core.Path.{_≡_, refl, sym, ap, _∙_}
 use mathlib.Core.Bool.{Bool, true, false, not}
 use mathlib.Core.List.{List}
@@ -10,7 +10,7 @@ use borrow.Author.Tests.{not-true, not-false}
 use Rattle.text.specs.declared.place.Found.{Found}
 use Rattle.text.specs.declared.place.Found.the-variants.{At, Nothing}
 use Rattle.text.specs.Place.{Free, Last, firstIn, lastPlace}
-use Rattle.text.specs.Run.{Inside, Run, RunBack, failsAt, runEnd, behind, runStart}
+use Rattle.text.specs.Run.{Inside, Run, RunBack, EndsAt, StartsAt, failsAt, runEnd, behind, runStart}
 use Rattle.text.proofs.Places.{by-order, Stops, first-stops, first-end, first-hit, first-miss, one-stop, last-hit-below, last-miss-below, last-zero, last-all, last-none, last-is, last-free}
 
 -- a test that fails is its negation's pass
@@ -131,3 +131,16 @@ module _ (p : ℕ → Bool) (s : List ℕ) where
 
   pub one-back : {i j : ℕ} → RunBack p s i → RunBack p s j → i ≡ j
   one-back {i} {j} a b = sym (back-all i a) ∙ back-all j b
+
+  -- what a caller is told of an answer
+  pub ends-at : {i e : ℕ} → e ≡ runEnd p s i → EndsAt p s i e
+  ends-at {i} {e} q =
+      record {
+      is = q;
+      up = omega (arith, run-up i);
+      within =
+        by-order i (length s) (λ h. omega (arith, run-within i (omega arith))) (λ h. omega (arith, run-within i (omega arith)))
+        (λ h. let z : length s ≤ i = omega arith in omega (arith, run-over z)) }
+
+  pub starts-at : {i : ℕ} → i ≡ runStart p s → StartsAt p s i
+  starts-at {i} q = record { is = q; within = omega (arith, back-within) }

@@ -3,6 +3,7 @@ use Prim.Native.Nat.{ℕ, _+_, _*_, _-_, _≤_, _<_}
 use mathlib.Core.Path.{_≡_}
 use mathlib.Core.Bool.{Bool, true, false, cond, _&&_}
 use mathlib.Core.List.{List, [], _∷_}
+use mathlib.Core.Option.{Option, some, none}
 use lib.Dec.{ltb, leb, eqb}
 use lib.ListN.{length, getD, drop}
 use Rattle.text.specs.Class.{between, isDigit}
@@ -60,3 +61,13 @@ asHex N.Unreadable = H.Unreadable
 -- the hex number that s is
 unfoldable pub hexOf : ℕ → List ℕ → HexAnswer
 hexOf limit s = asHex (numberOf 16 limit (bareOf s))
+
+-- a number that may be unreadable, as a value
+unfoldable pub numberValue : Number → Option ℕ
+numberValue (N.Value v) = some v
+numberValue N.Unreadable = none
+
+-- a hex number that may be unreadable, as a value
+unfoldable pub hexValue : HexAnswer → Option ℕ
+hexValue (H.Value v) = some v
+hexValue H.Unreadable = none

@@ -1,5 +1,5 @@
 -- Longest runs and stripping: what is meant, and the one answer.
-use Prim.Native.Nat.{ℕ, suc, _≤_, _<_}
+use Prim.Native.Nat.{ℕ, suc, max, _≤_, _<_}
 use mathlib.Core.Path.{_≡_}
 use mathlib.Core.Bool.{Bool, true, false, not}
 use mathlib.Core.List.{List, _++_}
@@ -58,3 +58,14 @@ unfoldable pub stripped : List ℕ → List ℕ
 stripped s =
     let rest : List ℕ = drop (runEnd isBlank s 0) s in
     take (runStart isBlank rest) rest
+
+-- an answer is the run's end; it lies between the start and the text's end, which spares callers the argument
+pub record EndsAt (p : ℕ → Bool) (s : List ℕ) (i e : ℕ) : Type 0 where
+  pub is : e ≡ runEnd p s i
+  pub up : i ≤ e
+  pub within : e ≤ max i (length s)
+
+-- an answer is the start of the run that ends the text, and lies within it
+pub record StartsAt (p : ℕ → Bool) (s : List ℕ) (i : ℕ) : Type 0 where
+  pub is : i ≡ runStart p s
+  pub within : i ≤ length s

@@ -3,11 +3,11 @@ use crate::class::Class;
 use crate::class::has;
 ghost use mathlib.Core.Path.{_≡_};
 ghost use Rattle.text.specs.Class.{inClass};
-ghost use Rattle.text.specs.Run.{runEnd, runStart, stripped};
+ghost use Rattle.text.specs.Run.{EndsAt, StartsAt, stripped};
 
 // Where the longest run of the class from a place ends: the place itself where no byte of the class stands there.
 pub fn run_end(s: &[u8], c: Class, from: usize) -> usize
-    ensures { λ r. ⌜ r ≡ runEnd (inClass c) (now (s .entry)) from ⌝ }
+    ensures { λ r. ⌜ EndsAt (inClass c) (now (s .entry)) from r ⌝ }
 {
     let mut i = from;
     while i < s.len() {
@@ -21,7 +21,7 @@ pub fn run_end(s: &[u8], c: Class, from: usize) -> usize
 
 // Where the longest run of the class that ends the text starts.
 pub fn run_start(s: &[u8], c: Class) -> usize
-    ensures { λ r. ⌜ r ≡ runStart (inClass c) (now (s .entry)) ⌝ }
+    ensures { λ r. ⌜ StartsAt (inClass c) (now (s .entry)) r ⌝ }
 {
     let mut i = s.len();
     while 0 < i {

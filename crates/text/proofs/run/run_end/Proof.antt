@@ -1,5 +1,5 @@
 -- `run::run_end` meets its contract: the run from the start ends where the run from here does. Assumes nothing.
-use Rattle.text.proofs.Runs.{run-over, run-stop, run-step}
+use Rattle.text.proofs.Runs.{run-over, run-stop, run-step, ends-at}
 use Rattle.text.specs.Run.{runEnd}
 use Rattle.text.specs.Class.{inClass}
 use borrow.Author.Tests.{not-true, not-false}
@@ -27,7 +27,9 @@ has-requires : tie.Need-has-requires Inv-loop μ-loop
 has-requires c κs = search needs
 
 returns : tie.Need-returns Inv-loop μ-loop
-returns c = sym (c .before .before .before .before .loop .inv ∙ run-stop _ _ (c .before .before .before .loop-test .taken) (sym (c .before .has .ensures) ∙ not-true _ (c .if1 .taken)))
+returns c =
+    ends-at _ _
+    (sym (c .before .before .before .before .loop .inv ∙ run-stop _ _ (c .before .before .before .loop-test .taken) (sym (c .before .has .ensures) ∙ not-true _ (c .if1 .taken))))
 
 add-i : tie.Need-add-i Inv-loop μ-loop
 add-i c = search needs
@@ -39,7 +41,9 @@ loop-again : tie.Need-loop-again Inv-loop μ-loop
 loop-again c = c .before .before .before .before .loop .inv ∙ run-step _ _ (c .before .before .before .loop-test .taken) (sym (c .before .has .ensures) ∙ not-false _ (c .if1 .left))
 
 returns-2 : tie.Need-returns-2 Inv-loop μ-loop
-returns-2 c = sym (c .before .loop .inv ∙ run-over _ _ (c .loop-test .left))
+returns-2 c =
+    ends-at _ _
+    (sym (c .before .loop .inv ∙ run-over _ _ (c .loop-test .left)))
 
 pub run-end-spec : {M : Type 1} → statement M
 run-end-spec =

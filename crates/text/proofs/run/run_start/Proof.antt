@@ -1,5 +1,5 @@
 -- `run::run_start` meets its contract: what starts the run of the whole starts it below here. Assumes nothing.
-use Rattle.text.proofs.Runs.{Back, back-start, back-step, back-stop, back-over}
+use Rattle.text.proofs.Runs.{Back, back-start, back-step, back-stop, back-over, starts-at}
 use Rattle.text.specs.Class.{inClass}
 use borrow.Author.Tests.{not-true, not-false}
 use mathlib.Core.Path.{_≡_, sym, _∙_}
@@ -28,9 +28,10 @@ has-requires c κs = search needs
 
 returns : tie.Need-returns Inv-loop μ-loop
 returns c =
-    sym
+    starts-at _ _
+    (sym
     (back-stop _ _ {i = c .before .before .before .before .loop .i} (c .before .before .before .before .loop .inv) (omega arith)
-    (sym (c .before .has .ensures) ∙ not-true _ (c .if1 .taken)))
+    (sym (c .before .has .ensures) ∙ not-true _ (c .if1 .taken))))
 
 sub-i : tie.Need-sub-i Inv-loop μ-loop
 sub-i c = search needs
@@ -44,7 +45,9 @@ loop-again c =
     (sym (c .before .has .ensures) ∙ not-false _ (c .if1 .left))
 
 returns-2 : tie.Need-returns-2 Inv-loop μ-loop
-returns-2 c = sym (back-over _ _ (c .before .loop .inv) (omega arith))
+returns-2 c =
+    starts-at _ _
+    (sym (back-over _ _ (c .before .loop .inv) (omega arith)))
 
 pub run-start-spec : {M : Type 1} → statement M
 run-start-spec =

@@ -1,0 +1,1 @@
+"""Seeded generators of hard inputs."""

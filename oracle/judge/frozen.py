@@ -1,0 +1,199 @@
+"""The frozen sample: chosen lines, books and packets with their answers, made again from a seed."""
+
+import struct
+from collections import Counter
+
+from generate import books, lines as line_generator, packets as packet_generator, short
+from generate.broken import RULES
+from generate.seed import frame
+from generate.tree import encoded
+from judge import chosen, chosen_books
+from judge.lines import beyond
+from judge.tally import ask
+from reading import book as book_reading, line as line_reading, packet as packet_reading
+
+SEED = 2024
+SLOTS = 256
+
+
+def unsigned(number):
+    return struct.pack("<I", number)
+
+
+# Lines
+
+# Frames of a class, and the longest that is taken, so that the sample stays small.
+EACH_CLASS = 40
+EACH_DAMAGE = 7
+LONGEST_TAKEN = 250
+FEW = {"long": 8, "dwords": 4, "hostile": 5}
+EACH_SHORT = 88
+
+
+def class_lines():
+    """Some lines of each class, short ones first come."""
+    taken = Counter()
+    for name, line in line_generator.generate(SEED, 12_000, 0):
+        most = EACH_DAMAGE if name.startswith("damaged") else FEW.get(name, EACH_CLASS)
+        if taken[name] < most and (name in FEW or len(line) <= LONGEST_TAKEN):
+            taken[name] += 1
+            yield line
+
+
+def short_lines():
+    """Short texts of each part, evenly over all of four or five tokens."""
+    parts = {}
+    for name, line in short.all_short(4):
+        parts.setdefault(name, []).append(line)
+    for lines in parts.values():
+        step = max(1, len(lines) // EACH_SHORT)
+        yield from lines[step // 2::step]
+
+
+def line_cases():
+    """Line and slots, each once."""
+    cases = dict.fromkeys((line, SLOTS) for line in chosen.plain_lines())
+    cases.update(dict.fromkeys(chosen.with_slots()))
+    cases.update(dict.fromkeys((line, SLOTS) for line in class_lines()))
+    cases.update(dict.fromkeys((line, SLOTS) for line in short_lines()))
+    return list(cases)
+
+
+def line_answer(line, slots, oracle, origin):
+    """The judged file's answer where it has one, else the reading's."""
+    ours = line_reading.answer(line, slots)
+    if beyond(line, oracle) is None and ours != "refused 17":
+        if ours != oracle.replace("none ", "refused "):
+            raise ValueError(f"{line!r}: {oracle} against {ours}")
+        origin["the Rust"] += 1
+        return ours
+    origin[f"the reading, {ours}"] += 1
+    return ours
+
+
+def freeze_lines(origin):
+    cases = line_cases()
+    oracle = ask("lines", [line for line, _ in cases])
+    answers = [line_answer(line, slots, said, origin) for (line, slots), said in zip(cases, oracle)]
+    data = b"".join(unsigned(len(line)) + unsigned(slots) + line for line, slots in cases)
+    return {"lines.bin": data, "lines.txt": text(answers)}, answers
+
+
+def text(answers):
+    return "".join(answer + "\n" for answer in answers).encode()
+
+
+# Books and packets
+
+# Books of a class, and the size of the largest that is taken.
+EACH_BOOK = 3
+LARGEST_TAKEN = 3_000
+EACH_PACKETS = 45
+BROKEN = ("second table", "bad name", "stray end")
+
+
+def of_each_class(cases, count):
+    """The first small books of each class, or its smallest."""
+    classes = {}
+    for name, data in cases:
+        classes.setdefault(name, []).append(data)
+    for found in classes.values():
+        yield from sorted(found, key=lambda data: max(len(data), LARGEST_TAKEN))[:count]
+
+
+def frozen_books():
+    """Good books, small ones of each class but the large, then a few broken ones."""
+    good = [(name, encoded(tables)) for name, tables in books.good(SEED, 1200) if name != "large"]
+    found = [encoded(make()) for make in chosen_books.BOOKS] + list(of_each_class(good, EACH_BOOK))
+    broken = [case for case in books.generate(SEED, 600) if case[0] in BROKEN]
+    return found + list(of_each_class(broken, 1)), len(found)
+
+
+def book_cases(index, data):
+    """Packets over one good book; some are lent one place too few, some just enough."""
+    for number, (name, kind, dwords) in enumerate(
+            packet_generator.generate(SEED * 1000 + index, EACH_PACKETS, data)):
+        # Long packets over the first books only, to keep the sample small.
+        if name == "limits" and index > 9 or len(dwords) > 40 and index > 12:
+            dwords = dwords[:index]
+        places = {8: max(len(dwords) - 1, 0), 4: len(dwords)}.get(number % 9, SLOTS)
+        yield index, places, kind, dwords
+
+
+def packet_cases(found, good):
+    """Book's index, places lent, kind and dwords."""
+    cases = []
+    for index, ask_all in enumerate(chosen_books.PACKETS.values()):
+        cases += [(index, SLOTS, kind, dwords) for kind, dwords in ask_all()]
+    for index, data in enumerate(found):
+        if index < good:
+            cases += book_cases(index, data)
+        else:
+            cases += [(index, SLOTS, kind, [1, 2, 3]) for kind in (0, 1, 8, 13)]
+    return cases
+
+
+def packet_answers(found, good, cases, origin):
+    answers = []
+    for index, data in enumerate(found):
+        own = [case for case in cases if case[0] == index]
+        bodies = [packet_generator.body(kind, dwords) for _, _, kind, dwords in own]
+        oracle = ask("packets", bodies, data) if index < good else [None] * len(own)
+        for (_, places, kind, dwords), said in zip(own, oracle):
+            ours = packet_reading.answer(data, kind, dwords, places)
+            answers.append(packet_answer(ours, said, origin))
+    return answers
+
+
+def packet_answer(ours, oracle, origin):
+    if ours in ("refused 20", "refused 24", "refused 26"):
+        origin[f"the reading, {ours}"] += 1
+        return ours
+    if ours != oracle.replace("panic ", "refused ").replace("none ", "refused "):
+        raise ValueError(f"{oracle} against {ours}")
+    origin["the Rust"] += 1
+    return ours
+
+
+def freeze_packets(origin):
+    found, good = frozen_books()
+    cases = sorted(packet_cases(found, good), key=lambda case: case[0])
+    answers = packet_answers(found, good, cases, origin)
+    bodies = [unsigned(i) + unsigned(p) + packet_generator.body(k, d) for i, p, k, d in cases]
+    return {
+        "books.bin": b"".join(map(frame, found)),
+        "packets.bin": b"".join(map(frame, bodies)),
+        "packets.txt": text(answers),
+    }, answers
+
+
+# Book checks
+
+EACH_CHECK = 4
+LARGEST_CHECK = 1_500
+
+
+def check_books():
+    """Good books and some broken at each rule; one at the limit of length and one beyond it."""
+    taken, found = Counter(), dict.fromkeys([b"", *chosen_books.checks()])
+    for name, data in books.generate(SEED, 6000):
+        fits = len(data) <= LARGEST_CHECK or name == "over 65,535 bytes" and len(data) == 65_536
+        most = 1 if name == "over 65,535 bytes" else EACH_CHECK
+        if taken[name] < most and fits:
+            taken[name] += 1
+            found[data] = None
+    missed = set(RULES) - set(taken)
+    if missed:
+        raise ValueError(f"no small book breaks {missed}")
+    return list(found)
+
+
+def freeze_checks(origin):
+    found = check_books()
+    answers = [book_reading.answer(data) for data in found]
+    if answers != ask("books", found):
+        raise ValueError("the two readers of the book differ")
+    for answer in answers:
+        origin[f"both readers, {answer}"] += 1
+    data = b"".join(map(frame, found))
+    return {"book-checks.bin": data, "book-checks.txt": text(answers)}, answers

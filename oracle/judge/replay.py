@@ -1,0 +1,79 @@
+"""Replays the frozen sample: python3 replay.py FOLDER_OF_READING FROZEN lines|packets
+
+Prints how many answers differ, of lines, or of packets and books. A crash counts as another answer.
+"""
+
+import os
+import struct
+import sys
+
+
+def numbers(data, at, count):
+    return struct.unpack_from(f"<{count}I", data, at)
+
+
+def load(folder, name):
+    with open(os.path.join(folder, name), "rb") as file:
+        return file.read()
+
+
+def answers(folder, name):
+    return load(folder, name).decode().splitlines()
+
+
+def line_cases(data):
+    """Line and slots lent."""
+    at = 0
+    while at < len(data):
+        length, slots = numbers(data, at, 2)
+        yield data[at + 8:at + 8 + length], slots
+        at += 8 + length
+
+
+def frames(data):
+    at = 0
+    while at < len(data):
+        length, = numbers(data, at, 1)
+        yield data[at + 4:at + 4 + length]
+        at += 4 + length
+
+
+def packet_case(books, body):
+    """Book, kind, dwords and places lent."""
+    index, places = numbers(body, 0, 2)
+    return books[index], body[8], list(numbers(body, 9, (len(body) - 9) // 4)), places
+
+
+def differing(cases, frozen, answer):
+    count = 0
+    for case, expected in zip(cases, frozen, strict=True):
+        try:
+            count += answer(*case) != expected
+        except (IndexError, KeyError, TypeError, ValueError, AttributeError):
+            count += 1
+    return count
+
+
+def replay_lines(folder):
+    from reading import line
+    cases = line_cases(load(folder, "lines.bin"))
+    return differing(cases, answers(folder, "lines.txt"), line.answer)
+
+
+def replay_packets(folder):
+    from reading import book, packet
+    books = list(frames(load(folder, "books.bin")))
+    packets = [packet_case(books, body) for body in frames(load(folder, "packets.bin"))]
+    checks = [(data,) for data in frames(load(folder, "book-checks.bin"))]
+    return differing(packets, answers(folder, "packets.txt"), packet.answer) \
+        + differing(checks, answers(folder, "book-checks.txt"), book.answer)
+
+
+def main():
+    _, reading, frozen, what = sys.argv
+    sys.path.insert(0, reading)
+    print(replay_lines(frozen) if what == "lines" else replay_packets(frozen))
+
+
+if __name__ == "__main__":
+    main()

@@ -136,11 +136,12 @@ module _ (p : ℕ → Bool) (s : List ℕ) where
   pub ends-at : {i e : ℕ} → e ≡ runEnd p s i → EndsAt p s i e
   ends-at {i} {e} q =
       record {
-      is = q;
-      up = omega (arith, run-up i);
-      within =
-        by-order i (length s) (λ h. omega (arith, run-within i (omega arith))) (λ h. omega (arith, run-within i (omega arith)))
-        (λ h. let z : length s ≤ i = omega arith in omega (arith, run-over z)) }
+        is = q;
+        up = omega (arith, run-up i);
+        within =
+            by-order i (length s) (λ h. omega (arith, run-within i (omega arith))) (λ h. omega (arith, run-within i (omega arith)))
+            (λ h. let z : length s ≤ i = omega arith in omega (arith, run-over z));
+      }
 
   pub starts-at : {i : ℕ} → i ≡ runStart p s → StartsAt p s i
   starts-at {i} q = record { is = q; within = omega (arith, back-within) }

@@ -1,0 +1,75 @@
+-- The CPU stands at a first place, whose brackets and digits all lie within the header. Assumes nothing.
+use Prim.Native.Nat.{ℕ, _+_, _-_, _≤_, _<_}
+use mathlib.Core.Path.{_≡_, refl, sym, ap, _∙_}
+use mathlib.Core.Bool.{Bool, true, false, _&&_}
+use mathlib.Core.List.{List}
+use native.Mathlib.Omega.{arith}
+use lib.Dec.{eqb}
+use lib.ListN.{length, getD, take, drop}
+use borrow.Author.Tests.{eq-eqb, ne-eqb, eqb-true}
+use Rattle.text.specs.declared.number.Number.the-variants as N
+use Rattle.text.specs.declared.place.Found.{Found}
+use Rattle.text.specs.declared.place.Found.the-variants.{At, Nothing}
+use Rattle.text.specs.Class.{isDigit}
+use Rattle.text.specs.Number.{numberOf}
+use Rattle.text.specs.Place.{First, firstPlace}
+use Rattle.text.proofs.Places.{first-is, first-all, stands-within}
+use Rattle.text.proofs.Texts.{both-right}
+use Rattle.text.proofs.Numbers.{number-is, number-all}
+use Rattle.header.specs.Cpu.{cpuAt, Cpu, digitsWithin, cpuOf}
+
+module _ (h : List ℕ) (k : ℕ) where
+  pub no-open : (getD h k 0 ≡ 91 → ⊥) → cpuAt h k ≡ false
+  unfolding cpuAt
+  no-open n = rw (ne-eqb _ _ n)
+
+  module _ (bracket : getD h k 0 ≡ 91) where
+    pub no-first : isDigit (getD h (k + 1) 0) ≡ false → cpuAt h k ≡ false
+    unfolding cpuAt
+    no-first a = rw (eq-eqb _ _ bracket, a)
+
+    pub no-second : isDigit (getD h (k + 1) 0) ≡ true → isDigit (getD h (k + 2) 0) ≡ false → cpuAt h k ≡ false
+    unfolding cpuAt
+    no-second a b = rw (eq-eqb _ _ bracket, a, b)
+
+    pub no-third : isDigit (getD h (k + 1) 0) ≡ true → isDigit (getD h (k + 2) 0) ≡ true → isDigit (getD h (k + 3) 0) ≡ false → cpuAt h k ≡ false
+    unfolding cpuAt
+    no-third a b c = rw (eq-eqb _ _ bracket, a, b, c)
+
+    pub all-three : isDigit (getD h (k + 1) 0) ≡ true → isDigit (getD h (k + 2) 0) ≡ true → isDigit (getD h (k + 3) 0) ≡ true → cpuAt h k ≡ eqb (getD h (k + 4) 0) 93
+    unfolding cpuAt
+    all-three a b c = rw (eq-eqb _ _ bracket, a, b, c)
+
+  -- the closing bracket is a byte of the header
+  pub cpu-within : cpuAt h k ≡ true → k + 4 < length h
+  unfolding cpuAt
+  cpu-within t =
+      let close : getD h (k + 4) 0 ≡ 93 = eqb-true _ _ (both-right (eqb (getD h k 0) 91 && isDigit (getD h (k + 1) 0) && isDigit (getD h (k + 2) 0) && isDigit (getD h (k + 3) 0)) _ t) in
+      stands-within h (k + 4) (λ e. absurd (omega arith))
+
+-- the three digits, as code cuts them
+pub cpu-some : (h : List ℕ) {k : ℕ} → firstPlace (cpuAt h) (length h) 0 ≡ At k → numberOf 10 999 (take 3 (drop (k + 1) h)) ≡ cpuOf h
+unfolding cpuOf digitsWithin
+cpu-some h e = rw e
+
+pub cpu-none : (h : List ℕ) → firstPlace (cpuAt h) (length h) 0 ≡ Nothing → N.Unreadable ≡ cpuOf h
+unfolding cpuOf digitsWithin
+cpu-none h e = rw e
+
+pub cpu-is : (h : List ℕ) {v : ℕ} → cpuOf h ≡ N.Value v → Cpu h v
+unfolding cpuOf digitsWithin
+cpu-is h {v} e = go (firstPlace (cpuAt h) (length h) 0) refl e
+  where
+    go : (f : Found) → firstPlace (cpuAt h) (length h) 0 ≡ f → digitsWithin h f ≡ N.Value v → Cpu h v
+    go (At k) q n = record { place = k; first = first-is (cpuAt h) q; value = number-is 10 999 _ n }
+    go Nothing q n = absurd (let z : _≡_ {A = ℕ} 0 1 = cc in omega arith)
+
+pub cpu-all : (h : List ℕ) {v : ℕ} → Cpu h v → cpuOf h ≡ N.Value v
+cpu-all h r = sym (cpu-some h (first-all (cpuAt h) (r .first))) ∙ number-all 10 999 _ (r .value)
+
+pub one-cpu : (h : List ℕ) {v w : ℕ} → Cpu h v → Cpu h w → v ≡ w
+one-cpu h a b = let x = cpu-all h a in let y = cpu-all h b in cc
+
+-- the part between the brackets has three bytes
+pub three-long : (limit : ℕ) (h : List ℕ) (k : ℕ) → numberOf 10 limit (take (k + 4 - (k + 1)) (drop (k + 1) h)) ≡ numberOf 10 limit (take 3 (drop (k + 1) h))
+three-long limit h k = let e : k + 4 - (k + 1) ≡ 3 = omega arith in rw e

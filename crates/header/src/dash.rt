@@ -1,0 +1,68 @@
+// Task and pid: both go by a dash in the header's first run without byte 32.
+use text::class::Class;
+use text::class::is_digit;
+use text::number::MAX_32;
+use text::number::Number;
+use text::number::decimal;
+use text::place::Found;
+use text::place::byte_at;
+use text::run::run_end;
+ghost use mathlib.Core.Path.{_≡_};
+ghost use Prim.Native.Nat.{_≤_, _<_};
+ghost use lib.ListN.{length};
+ghost use Rattle.text.specs.Place.{lastPlace};
+ghost use Rattle.header.specs.Dash.{dashAt, taskOf, pidOf};
+
+// The task's length: it is all before the last dash that has a byte before it.
+pub fn parse_task(h: &[u8]) -> Found
+    ensures { λ r. ⌜ r ≡ taskOf (now (h .entry)) ⌝ }
+{
+    let to = run_end(h, Class::NotSpace, 0);
+    last_dash(h, to, false)
+}
+
+// The whole digit run behind the last dash that has a byte before it and a digit behind it.
+pub fn parse_pid(h: &[u8]) -> Number
+    ensures { λ r. ⌜ r ≡ pidOf (now (h .entry)) ⌝ }
+{
+    let to = run_end(h, Class::NotSpace, 0);
+    match last_dash(h, to, true) {
+        Found::At(k) => {
+            let from = k + 1;
+            let end = run_end(h, Class::Digit, from);
+            decimal(&h[from..end], MAX_32)
+        }
+        Found::Nothing => Number::Unreadable,
+    }
+}
+
+// The last dash below a place that has a byte before it and, where asked, a digit behind it.
+fn last_dash(h: &[u8], to: usize, numbered: bool) -> Found
+    requires { ⌜ to ≤ length (now h) ⌝ }
+    ensures { λ r. ⌜ r ≡ lastPlace (dashAt numbered (now (h .entry))) to ⌝ }
+{
+    let mut i = to;
+    while 0 < i {
+        if is_dash(h, i - 1, numbered) {
+            return Found::At(i - 1);
+        }
+        i -= 1;
+    }
+    Found::Nothing
+}
+
+fn is_dash(h: &[u8], k: usize, numbered: bool) -> bool
+    requires { ⌜ k < length (now h) ⌝ }
+    ensures { λ r. ⌜ r ≡ dashAt numbered (now (h .entry)) k ⌝ }
+{
+    if k == 0 {
+        return false;
+    }
+    if byte_at(h, k) != 45 {
+        return false;
+    }
+    if numbered {
+        return is_digit(byte_at(h, k + 1));
+    }
+    true
+}

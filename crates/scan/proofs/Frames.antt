@@ -1,0 +1,54 @@
+-- Numbers 1 to 4: each test of the reading is its sentence, and the place of the last colon gives the one split. Assumes nothing.
+use Prim.Native.Nat.{ℕ, _+_, _≤_, _<_}
+use mathlib.Core.Path.{_≡_, refl, sym, ap, _∙_}
+use mathlib.Core.Bool.{Bool, true, false, cond, _&&_, _||_}
+use mathlib.Core.List.{List, [], _∷_}
+use native.Mathlib.Omega.{arith}
+use lib.Dec.{ltb, leb, eqb}
+use lib.ListN.{length, getD}
+use borrow.Author.Tests.{lt-ltb, le-ltb, eq-eqb, ne-eqb}
+use Rattle.text.specs.declared.place.Found.the-variants.{At, Nothing}
+use Rattle.text.specs.Place.{lastByte}
+use Rattle.scan.specs.declared.frame.FrameAnswer.the-variants.{Colon, Refused}
+use Rattle.scan.specs.Frame.{idle, firstHigh, frameColon, frameAscii, frameOf}
+
+module _ (t : List ℕ) where
+  pub idle-empty : length t ≡ 0 → idle t ≡ true
+  unfolding idle
+  idle-empty e = rw (eq-eqb _ _ e)
+
+  module _ (some : length t ≡ 0 → ⊥) where
+    pub idle-comment : getD t 0 0 ≡ 35 → idle t ≡ true
+    unfolding idle
+    idle-comment e = rw (ne-eqb _ _ some, eq-eqb _ _ e)
+
+    pub idle-one : (getD t 0 0 ≡ 35 → ⊥) → length t ≡ 1 → idle t ≡ eqb (getD t 0 0) 10
+    unfolding idle
+    idle-one n e = rw (ne-eqb _ _ some, ne-eqb _ _ n, eq-eqb _ _ e)
+
+    pub idle-not : (getD t 0 0 ≡ 35 → ⊥) → (length t ≡ 1 → ⊥) → idle t ≡ false
+    unfolding idle
+    idle-not n e = rw (ne-eqb _ _ some, ne-eqb _ _ n, ne-eqb _ _ e)
+
+  -- the ways of the frame
+  pub frame-idle : idle t ≡ true → frameOf t ≡ Refused 1
+  unfolding frameOf
+  frame-idle e = rw e
+
+  module _ (busy : idle t ≡ false) where
+    pub frame-long : 4096 < length t → frameOf t ≡ Refused 2
+    unfolding frameOf
+    frame-long l = rw (busy, lt-ltb 4096 (length t) l)
+
+    module _ (short : length t ≤ 4096) where
+      pub frame-high : {k : ℕ} → firstHigh t ≡ At k → frameOf t ≡ Refused 3
+      unfolding frameOf frameAscii
+      frame-high e = rw (busy, le-ltb 4096 (length t) short, e)
+
+      pub frame-colon : {k : ℕ} → firstHigh t ≡ Nothing → lastByte 58 t ≡ At k → frameOf t ≡ Colon k
+      unfolding frameOf frameAscii frameColon
+      frame-colon e f = rw (busy, le-ltb 4096 (length t) short, e, f)
+
+      pub frame-none : firstHigh t ≡ Nothing → lastByte 58 t ≡ Nothing → frameOf t ≡ Refused 4
+      unfolding frameOf frameAscii frameColon
+      frame-none e f = rw (busy, le-ltb 4096 (length t) short, e, f)

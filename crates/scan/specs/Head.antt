@@ -1,0 +1,30 @@
+-- Numbers 5 to 9: what a header says, in the order of the numbers.
+use Prim.Native.Nat.{ℕ}
+use mathlib.Core.List.{List}
+use Rattle.text.specs.Number.{numberValue}
+use Rattle.header.specs.Dash.{taskOf, pidOf}
+use Rattle.header.specs.Cpu.{cpuOf}
+use Rattle.header.specs.Stamp.{stampOf}
+use Rattle.header.specs.Function.{functionOf}
+use Rattle.scan.specs.declared.head.HeadAnswer.{HeadAnswer}
+use Rattle.scan.specs.declared.head.HeadAnswer.the-variants.{Got, Refused}
+use Rattle.scan.specs.Need.{need, placeValue, Moment, stampValue}
+
+-- from each number on
+abbrev pub head9 : List ℕ → ℕ → ℕ → ℕ → Moment → HeadAnswer
+head9 h task pid cpu moment =
+    need (Refused 9) (placeValue (functionOf h))
+    (λ function. Got (record { task = task; pid = pid; cpu = cpu; seconds = moment .seconds; microseconds = moment .microseconds; function = function }))
+
+abbrev pub head8 : List ℕ → ℕ → ℕ → ℕ → HeadAnswer
+head8 h task pid cpu = need (Refused 8) (stampValue (stampOf h)) (head9 h task pid cpu)
+
+abbrev pub head7 : List ℕ → ℕ → ℕ → HeadAnswer
+head7 h task pid = need (Refused 7) (numberValue (cpuOf h)) (head8 h task pid)
+
+abbrev pub head6 : List ℕ → ℕ → HeadAnswer
+head6 h task = need (Refused 6) (numberValue (pidOf h)) (head7 h task)
+
+-- what a header says
+unfoldable pub headOf : List ℕ → HeadAnswer
+headOf h = need (Refused 5) (placeValue (taskOf h)) (head6 h)

@@ -1,0 +1,4 @@
+-- The line: its grammar, the conditions of its numbers, and the one reading.
+pub mod Need
+pub mod Frame
+pub mod Head

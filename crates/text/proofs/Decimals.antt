@@ -24,7 +24,7 @@ digit-byte d h =
     rw (le-leb _ _ low, le-leb _ _ high) (omega arith)
 
 -- one more place for digits changes nothing where there were enough
-tenth-below : (k n : ℕ) → n < 10 ^ suc k → n / 10 < 10 ^ k
+pub tenth-below : (k n : ℕ) → n < 10 ^ suc k → n / 10 < 10 ^ k
 tenth-below k n h = div-lt-iff-lt-mul {k = 10} {x = n} {y = 10 ^ k} (omega arith) .1 (rw (← pow-suc 10 k) h)
 
 more-room : (k n : ℕ) → n < 10 ^ suc k → digitsWithin (suc k) n ≡ digitsWithin (suc (suc k)) n

@@ -1,0 +1,3 @@
+-- The laws of putting text.
+pub mod Counting
+pub mod Copying

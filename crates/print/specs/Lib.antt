@@ -1,0 +1,2 @@
+-- What the contracts of `print` cite.
+pub mod Put

@@ -137,6 +137,19 @@ module _ (p : ℕ → Bool) where
           by-order i n (λ l. omega (arith, stop (omega arith))) (λ q. omega (arith, stop (omega arith)))
           (λ l. let z : n ≤ i = omega arith in omega (arith, first-end z))
 
+  pub first-free : {i n : ℕ} → firstPlace p n i ≡ Nothing → i ≤ n → Free p i n
+  unfolding firstPlace foundBelow
+  first-free {i} {n} e h = go (ltb (firstIn p n i) n) refl
+    where
+      go : (b : Bool) → ltb (firstIn p n i) n ≡ b → Free p i n
+      go true t =
+          let z : At (firstIn p n i) ≡ Nothing = rw t at e in
+          absurd (let y : _≡_ {A = ℕ} 0 1 = cc in omega arith)
+      go false t =
+          let r : Stops p i n (firstIn p n i) = first-stops h in
+          let same : firstIn p n i ≡ n = omega (arith, r .within, ltb-false (firstIn p n i) n t) in
+          rw same at (r .before)
+
   pub one-first : {i n j k : ℕ} → First p i n j → First p i n k → j ≡ k
   one-first a b = let x = first-all a in let y = first-all b in cc
 

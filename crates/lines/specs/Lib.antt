@@ -1,0 +1,2 @@
+-- The lines of a stream.
+pub mod Lines

@@ -1,0 +1,2 @@
+-- The listing's rows.
+pub mod Rows

@@ -25,11 +25,11 @@ module _ (s : List ℕ) (from : ℕ) where
   unfolding endBy isFound
   ends-found {k} e =
       let w = newline-within e in
-      record { at-is = rw e; whole-is = rw e; up = omega (arith, w .0); within = omega (arith, w .1) }
+      record { at-is = rw e; whole-is = rw e; up = omega (arith, w .0); on = λ h. omega (arith, w .0); within = omega (arith, w .1) }
 
   pub ends-none : from ≤ length s → firstByte 10 s from ≡ Nothing → Ends s from (record { at = length s; whole = false })
   unfolding endBy isFound
-  ends-none h e = record { at-is = rw e; whole-is = rw e; up = h; within = omega arith }
+  ends-none h e = record { at-is = rw e; whole-is = rw e; up = h; on = λ l. l; within = omega arith }
 
 -- the first m of the first n are the first of whichever is less
 take-least : (m n : ℕ) (l : List ℕ) → take m (take n l) ≡ take (min n m) l
@@ -52,6 +52,7 @@ module _ (s : List ℕ) (from : ℕ) (line : List ℕ) (held : ℕ) (room : held
       record {
         at-is = ends .at-is;
         at-up = ends .up;
+      at-on = ends .on;
         at-within = ends .within;
         whole-is = ends .whole-is;
         line-is = q .buffer ∙ rw (le-leb _ _ fits);

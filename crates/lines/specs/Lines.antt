@@ -47,6 +47,7 @@ pub record Ends (s : List ℕ) (from : ℕ) (r : LineEnd) : Type 0 where
   pub at-is : r .at ≡ endBy s (firstByte 10 s from)
   pub whole-is : r .whole ≡ isFound (firstByte 10 s from)
   pub up : from ≤ r .at
+  pub on : from < length s → from < r .at
   pub within : r .at ≤ length s
 
 -- the bytes of the line that stand in the part
@@ -57,6 +58,7 @@ rest s from = take (endBy s (firstByte 10 s from) - from) (drop from s)
 pub record Fed (s : List ℕ) (from : ℕ) (line : List ℕ) (held : ℕ) (exit : List ℕ) (r : FedModule.Fed) : Type 0 where
   pub at-is : r .at ≡ endBy s (firstByte 10 s from)
   pub at-up : from ≤ r .at
+  pub at-on : from < length s → from < r .at
   pub at-within : r .at ≤ length s
   pub whole-is : r .whole ≡ isFound (firstByte 10 s from)
   pub line-is : exit ≡ sets line held (take (length line - held) (rest s from))

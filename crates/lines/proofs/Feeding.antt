@@ -52,7 +52,7 @@ module _ (s : List ℕ) (from : ℕ) (line : List ℕ) (held : ℕ) (room : held
       record {
         at-is = ends .at-is;
         at-up = ends .up;
-      at-on = ends .on;
+        at-on = ends .on;
         at-within = ends .within;
         whole-is = ends .whole-is;
         line-is = q .buffer ∙ rw (le-leb _ _ fits);

@@ -6,9 +6,11 @@ use mathlib.Core.List.{List, [], _∷_}
 use native.Mathlib.Omega.{arith}
 use lib.Dec.{ltb, leb, eqb}
 use lib.ListN.{length, getD}
-use borrow.Author.Tests.{lt-ltb, le-ltb, eq-eqb, ne-eqb}
+use borrow.Author.Tests.{lt-ltb, le-ltb, eq-eqb, ne-eqb, ltb-false}
 use Rattle.text.specs.declared.place.Found.the-variants.{At, Nothing}
-use Rattle.text.specs.Place.{lastByte}
+use Rattle.text.specs.declared.place.Found.{Found}
+use Rattle.text.specs.Place.{lastByte, isAt}
+use Rattle.text.proofs.Places.{last-is}
 use Rattle.scan.specs.declared.frame.FrameAnswer.the-variants.{Colon, Refused}
 use Rattle.scan.specs.Frame.{idle, firstHigh, frameColon, frameAscii, frameOf}
 
@@ -52,3 +54,28 @@ module _ (t : List ℕ) where
       pub frame-none : firstHigh t ≡ Nothing → lastByte 58 t ≡ Nothing → frameOf t ≡ Refused 4
       unfolding frameOf frameAscii frameColon
       frame-none e f = rw (busy, le-ltb 4096 (length t) short, e, f)
+
+  -- the colon lies within the line
+  colon-of : (f : Found) {k : ℕ} → frameColon f ≡ Colon k → f ≡ At k
+  unfolding frameColon
+  colon-of (At j) e = cc
+  colon-of Nothing e = absurd (let z : _≡_ {A = ℕ} 0 1 = cc in omega arith)
+
+  ascii-of : (f : Found) {k : ℕ} → frameAscii t f ≡ Colon k → (f ≡ Nothing) × (lastByte 58 t ≡ At k)
+  unfolding frameAscii
+  ascii-of (At j) e = absurd (let z : _≡_ {A = ℕ} 0 1 = cc in omega arith)
+  ascii-of Nothing e = (refl, colon-of (lastByte 58 t) e)
+
+  -- a frame that gives a colon has passed every check
+  pub frame-passed : {k : ℕ} → frameOf t ≡ Colon k → (idle t ≡ false) × (length t ≤ 4096) × (firstHigh t ≡ Nothing) × (lastByte 58 t ≡ At k)
+  unfolding frameOf
+  frame-passed {k} e = go (idle t) refl (ltb 4096 (length t)) refl e
+    where
+      go : (a : Bool) → idle t ≡ a → (b : Bool) → ltb 4096 (length t) ≡ b → cond a (Refused 1) (cond b (Refused 2) (frameAscii t (firstHigh t))) ≡ Colon k → (idle t ≡ false) × (length t ≤ 4096) × (firstHigh t ≡ Nothing) × (lastByte 58 t ≡ At k)
+      go true p b q n = absurd (let z : _≡_ {A = ℕ} 0 1 = cc in omega arith)
+      go false p true q n = absurd (let z : _≡_ {A = ℕ} 0 1 = cc in omega arith)
+      go false p false q n = let w = ascii-of (firstHigh t) n in (p, ltb-false 4096 (length t) q, w .0, w .1)
+
+  pub frame-colon-within : {k : ℕ} → frameOf t ≡ Colon k → k < length t
+  unfolding lastByte
+  frame-colon-within e = last-is (isAt 58 t) (frame-passed e .3) .within

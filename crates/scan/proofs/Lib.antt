@@ -1,2 +1,6 @@
 -- The laws of the reading, and that it is the grammar's.
 pub mod Frames
+pub mod Splits
+pub mod Keys
+pub mod Stages
+pub mod Chain

@@ -10,11 +10,14 @@ use Rattle.scan.specs.declared.head.HeadAnswer.{HeadAnswer}
 use Rattle.scan.specs.declared.head.HeadAnswer.the-variants.{Got, Refused}
 use Rattle.scan.specs.Need.{need, placeValue, Moment, stampValue}
 
+-- all five found
+abbrev pub headGot : ℕ → ℕ → ℕ → Moment → ℕ → HeadAnswer
+headGot task pid cpu moment function =
+    Got (record { task = task; pid = pid; cpu = cpu; seconds = moment .seconds; microseconds = moment .microseconds; function = function })
+
 -- from each number on
 abbrev pub head9 : List ℕ → ℕ → ℕ → ℕ → Moment → HeadAnswer
-head9 h task pid cpu moment =
-    need (Refused 9) (placeValue (functionOf h))
-    (λ function. Got (record { task = task; pid = pid; cpu = cpu; seconds = moment .seconds; microseconds = moment .microseconds; function = function }))
+head9 h task pid cpu moment = need (Refused 9) (placeValue (functionOf h)) (headGot task pid cpu moment)
 
 abbrev pub head8 : List ℕ → ℕ → ℕ → ℕ → HeadAnswer
 head8 h task pid cpu = need (Refused 8) (stampValue (stampOf h)) (head9 h task pid cpu)

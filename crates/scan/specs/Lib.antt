@@ -2,3 +2,7 @@
 pub mod Need
 pub mod Frame
 pub mod Head
+pub mod Body
+pub mod Dwords
+pub mod Parse
+pub mod Line

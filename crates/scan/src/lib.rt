@@ -1,3 +1,123 @@
 // A trace line to its entry, or the one number that says why not.
+pub mod body;
+pub mod dwords;
 pub mod frame;
 pub mod head;
+
+use crate::body::Body;
+use crate::body::BodyAnswer;
+use crate::body::read_body;
+use crate::dwords::DataAnswer;
+use crate::dwords::read_data;
+use crate::frame::FrameAnswer;
+use crate::frame::read_frame;
+use crate::head::Head;
+use crate::head::HeadAnswer;
+use crate::head::read_head;
+use entry::Entry;
+use text::class::Class;
+use text::run::run_end;
+use text::run::strip;
+ghost use mathlib.Core.Path.{_≡_};
+ghost use Prim.Native.Nat.{_+_, _^_, _≤_, _<_};
+ghost use lib.ListN.{length};
+ghost use Rattle.scan.specs.Parse.{Parsed, PartedRead, PayloadRead, entryOf};
+
+pub enum Answer {
+    Entry(Entry),
+    Refused(u8),
+}
+
+// The entry of a line, its dwords in the first slots; or the first number that applies, with no slot touched. The entry's task and
+// function are places in this line.
+pub fn parse(line: &[u8], slots: &mut [u32]) -> Answer
+    ensures { λ r. ⌜ Parsed (now (line .entry)) (now (slots .entry)) (now (slots .exit)) r ⌝ }
+{
+    match read_frame(line) {
+        FrameAnswer::Colon(colon) => parse_parted(line, colon, slots),
+        FrameAnswer::Refused(number) => Answer::Refused(number),
+    }
+}
+
+// The line parted at its last colon: the header first.
+fn parse_parted(line: &[u8], colon: usize, slots: &mut [u32]) -> Answer
+    requires { ⌜ colon < length (now line) ⌝ }
+    ensures { λ r. ⌜ PartedRead (now (line .entry)) colon (now (slots .entry)) (now (slots .exit)) r ⌝ }
+{
+    let front = &line[..colon];
+    let header = strip(front);
+    match read_head(header) {
+        HeadAnswer::Got(head) => {
+            let start = run_end(front, Class::Blank, 0);
+            let behind = colon + 1;
+            let payload = strip(&line[behind..]);
+            parse_payload(header, start, head, payload, slots)
+        }
+        HeadAnswer::Refused(number) => Answer::Refused(number),
+    }
+}
+
+// Then the payload, and what both say together.
+fn parse_payload(
+    header: &[u8],
+    start: usize,
+    head: Head,
+    payload: &[u8],
+    slots: &mut [u32],
+) -> Answer
+    requires { ⌜ (head .function ≤ length (now header)) × (start + length (now header) < 2 ^ 64) ⌝ }
+    ensures { λ r. ⌜ PayloadRead (now (header .entry)) start head (now (payload .entry)) (now (slots .entry)) (now (slots .exit)) r ⌝ }
+{
+    let from = head.function;
+    match read_body(payload, &header[from..]) {
+        BodyAnswer::Got(body) => match read_data(payload, slots) {
+            DataAnswer::Got(dwords) => Answer::Entry(assemble(
+                start,
+                header.len(),
+                head,
+                body,
+                dwords,
+            )),
+            DataAnswer::Refused(number) => Answer::Refused(number),
+        },
+        BodyAnswer::Refused(number) => Answer::Refused(number),
+    }
+}
+
+// The task starts the header and the function ends it.
+fn assemble(start: usize, size: usize, head: Head, body: Body, dwords: usize) -> Entry
+    requires { ⌜ (head .function ≤ size) × (start + size < 2 ^ 64) ⌝ }
+    ensures { λ r. ⌜ r ≡ entryOf start size head body dwords ⌝ }
+{
+    let optionals = body.optionals;
+    let offset = optionals.offset;
+    let code = optionals.code;
+    let len = optionals.len;
+    let port = optionals.port;
+    let config = optionals.config;
+    let seq = optionals.seq;
+    let unplug = optionals.unplug;
+    Entry {
+        task_at: start,
+        task_len: head.task,
+        pid: head.pid,
+        cpu: head.cpu,
+        seconds: head.seconds,
+        microseconds: head.microseconds,
+        function_at: start + head.function,
+        function_len: size - head.function,
+        kind: body.kind,
+        size: body.size,
+        dropped: body.dropped,
+        domain: body.domain,
+        route: body.route,
+        offset: offset,
+        code: code,
+        len: len,
+        port: port,
+        config: config,
+        seq: seq,
+        unplug: unplug,
+        dwords: dwords,
+    }
+}

@@ -10,7 +10,7 @@ use lib.Seq.{take-all, take-at, drop-at, getD-append-add, getD-drop, getD-take, 
 use Rattle.text.specs.Class.{isBlank}
 use Rattle.text.specs.Run.{Inside, Run, RunBack, Stripped, runEnd, runStart, stripped}
 use Rattle.text.proofs.Places.{by-order}
-use Rattle.text.proofs.Runs.{run-is, run-all, run-over, back-is, back-all}
+use Rattle.text.proofs.Runs.{run-is, run-within, run-all, run-over, back-is, back-all}
 
 -- the part of a slice from a place to its end
 pub rest-is : (a : ℕ) (l : List ℕ) → take (length l - a) (drop a l) ≡ drop a l
@@ -25,6 +25,12 @@ module _ (s : List ℕ) where
   pub stripped-by : {from to : ℕ} {r : List ℕ} → from ≡ runEnd isBlank s 0 → r ≡ drop from s → to ≡ runStart isBlank r → take to r ≡ stripped s
   unfolding stripped
   stripped-by {from} {to} {r} a b c = rw (c, b, a)
+
+  -- what is left lies behind the front within the text
+  pub strip-size : runEnd isBlank s 0 + length (stripped s) ≤ length s
+  unfolding stripped
+  strip-size =
+      omega (arith, run-within isBlank s 0 (omega arith), length-drop (runEnd isBlank s 0) s, length-take (runStart isBlank (drop (runEnd isBlank s 0) s)) (drop (runEnd isBlank s 0) s))
 
   pub strip-is : Stripped s (stripped s)
   unfolding stripped

@@ -1,0 +1,8 @@
+-- The laws of pairs and data, and that each answer is what its sentence says.
+pub mod Tries
+pub mod Matches
+pub mod PairLists
+pub mod LastPairs
+pub mod Cuts
+pub mod Slots
+pub mod Cases

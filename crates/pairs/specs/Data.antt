@@ -1,0 +1,129 @@
+-- The dwords of a bracketed value.
+use Prim.Native.Nat.{ℕ, _+_, _-_, _≤_, _<_, _^_}
+use mathlib.Core.Path.{_≡_}
+use mathlib.Core.Bool.{Bool, cond, _&&_}
+use mathlib.Core.List.{List, [], _∷_, _++_}
+use mathlib.Core.Option.{Option, some, none}
+use lib.Dec.{ltb, leb, eqb}
+use lib.ListN.{length, getD, drop}
+use Rattle.text.specs.declared.class.Class.the-variants.{NotClose}
+use Rattle.text.specs.declared.number.HexAnswer.{HexAnswer}
+use Rattle.text.specs.declared.number.HexAnswer.the-variants as H
+use Rattle.text.specs.Class.{inClass}
+use Rattle.text.specs.Number.{HexNumber, hexOf}
+use Rattle.text.specs.Place.{isAt, firstIn}
+use Rattle.text.specs.Run.{Inside, runEnd}
+use Rattle.pairs.specs.declared.pair.Span.{Span}
+use Rattle.pairs.specs.declared.pair.Span.the-variants.{At, Nothing}
+use Rattle.pairs.specs.declared.dwords.Piece.{Piece}
+use Rattle.pairs.specs.declared.dwords.Piece.the-variants.{Dword, LeftOut}
+use Rattle.pairs.specs.Pair.{part}
+
+-- no comma-space stands in the piece
+abbrev pub Whole : List ℕ → Type 0
+Whole p = (k : ℕ) → getD p k 0 ≡ 44 → getD p (k + 1) 0 ≡ 32 → ⊥
+
+-- the text is cut into these pieces at each comma-space
+pub data Cut : List ℕ → List (List ℕ) → Type 0 where
+  last : {l : List ℕ} → Whole l → Cut l (l ∷ [])
+  more : {l p r : List ℕ} {ps : List (List ℕ)} → Whole p → l ≡ p ++ (44 ∷ 32 ∷ r) → Cut r ps → Cut l (p ∷ ps)
+
+-- the dwords of the pieces, in order: those that are not 32-bit hex are left out
+pub data Dwords : List (List ℕ) → List ℕ → Type 0 where
+  empty : Dwords [] []
+  dword : {p : List ℕ} {v : ℕ} {ps : List (List ℕ)} {ds : List ℕ} → HexNumber (2 ^ 32 - 1) p v → Dwords ps ds →
+      Dwords (p ∷ ps) (v ∷ ds)
+  left-out : {p : List ℕ} {ps : List (List ℕ)} {ds : List ℕ} → ((v : ℕ) → HexNumber (2 ^ 32 - 1) p v → ⊥) →
+      Dwords ps ds → Dwords (p ∷ ps) ds
+
+-- a value in brackets, with the dwords of what stands in them
+pub record Data (value ds : List ℕ) : Type 0 where
+  pub inner : List ℕ
+  pub brackets : value ≡ 91 ∷ inner ++ (93 ∷ [])
+  pub some : 0 < length inner
+  pub no-close : Inside (inClass NotClose) inner 0 (length inner)
+  pub pieces : List (List ℕ)
+  pub cut-at : Cut inner pieces
+  pub dwords : Dwords pieces ds
+
+-- a byte in front of the first piece
+unfoldable pub ahead : ℕ → List (List ℕ) → List (List ℕ)
+ahead b [] = (b ∷ []) ∷ []
+ahead b (p ∷ ps) = (b ∷ p) ∷ ps
+
+-- the pieces between comma-spaces
+unfoldable pub cut : List ℕ → List (List ℕ)
+cut [] = [] ∷ []
+cut (a ∷ []) = (a ∷ []) ∷ []
+cut (a ∷ b ∷ l) = cond (eqb a 44 && eqb b 32) ([] ∷ cut l) (ahead a (cut (b ∷ l)))
+
+-- what becomes of a number's reading: a value is a dword, and what is not 32-bit hex is left out
+unfoldable pub pieceBy : HexAnswer → Piece
+pieceBy (H.Value v) = Dword v
+pieceBy H.Unreadable = LeftOut
+
+-- what becomes of a piece
+unfoldable pub pieceOf : List ℕ → Piece
+pieceOf p = pieceBy (hexOf (2 ^ 32 - 1) p)
+
+-- what a piece adds to the dwords of those behind it
+unfoldable pub taken : Piece → List ℕ → List ℕ
+taken (Dword v) ds = v ∷ ds
+taken LeftOut ds = ds
+
+-- the dwords of the pieces
+unfoldable pub dwordsIn : List (List ℕ) → List ℕ
+dwordsIn [] = []
+dwordsIn (p ∷ ps) = taken (pieceOf p) (dwordsIn ps)
+
+-- the dwords of a text between brackets
+unfoldable pub dwordsOf : List ℕ → List ℕ
+dwordsOf l = dwordsIn (cut l)
+
+-- a comma-space stands at place k
+unfoldable pub commaSpace : List ℕ → ℕ → Bool
+commaSpace l k = isAt 44 l k && isAt 32 l (k + 1)
+
+-- where the piece from a place on ends: at the next comma-space, else with the text
+unfoldable pub pieceEnd : List ℕ → ℕ → ℕ
+pieceEnd l from = firstIn (commaSpace l) (length l) from
+
+-- what stands between the brackets of a value
+unfoldable pub insideOf : List ℕ → Span
+insideOf value =
+    let c : ℕ = runEnd (inClass NotClose) value 1 in
+    cond (isAt 91 value 0 && ltb 1 c && eqb (c + 1) (length value)) (At 1 c) Nothing
+
+-- the dwords of a part
+unfoldable pub dataIn : List ℕ → Span → Option (List ℕ)
+dataIn value (At a b) = some (dwordsOf (part value a b))
+dataIn value Nothing = none
+
+-- the dwords of a value in brackets
+unfoldable pub dataOf : List ℕ → Option (List ℕ)
+dataOf value = dataIn value (insideOf value)
+
+-- the dwords in the first slots, and the rest as found
+abbrev pub filled : List ℕ → List ℕ → List ℕ
+filled ds out = ds ++ drop (length ds) out
+
+-- an answer is what stands between the brackets, and lies within the value
+pub record Bracketed (value : List ℕ) (r : Span) : Type 0 where
+  pub is : r ≡ insideOf value
+  pub within : (a b : ℕ) → r ≡ At a b → (a < b) × (b ≤ length value)
+
+-- an answer is the piece's end; a comma-space stands there, or the text ends
+pub record EndsPiece (l : List ℕ) (from e : ℕ) : Type 0 where
+  pub is : e ≡ pieceEnd l from
+  pub up : from ≤ e
+  pub within : e ≤ length l
+  pub more : e < length l → e + 2 ≤ length l
+
+-- the slots after a call: filled where the dwords fit, else as found
+unfoldable pub slotsAfter : List ℕ → List ℕ → List ℕ
+slotsAfter ds out = cond (leb (length ds) (length out)) (filled ds out) out
+
+-- an answer is the number of dwords, and the slots hold them where they fit
+pub record Filled (inner out exit : List ℕ) (r : ℕ) : Type 0 where
+  pub count : r ≡ length (dwordsOf inner)
+  pub slots : exit ≡ slotsAfter (dwordsOf inner) out

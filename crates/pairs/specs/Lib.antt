@@ -1,0 +1,3 @@
+-- Pairs and data: what is meant, and the one answer.
+pub mod Pair
+pub mod Data

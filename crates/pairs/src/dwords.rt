@@ -1,0 +1,120 @@
+// The dwords of a bracketed value.
+use crate::pair::Span;
+use text::class::Class;
+use text::number::HexAnswer;
+use text::number::MAX_32;
+use text::number::hex;
+use text::place::byte_at;
+use text::run::run_end;
+ghost use mathlib.Core.Path.{_≡_};
+ghost use Prim.Native.Nat.{_≤_};
+ghost use lib.ListN.{length};
+ghost use Rattle.pairs.specs.Data.{Bracketed, commaSpace, EndsPiece, dwordsOf, pieceOf, filled, Filled};
+
+// What becomes of a piece.
+pub enum Piece {
+    Dword(u32),
+    LeftOut,
+}
+
+// What stands between the brackets of a value that is `[`, one or more bytes other than `]`, `]`.
+pub fn inside(value: &[u8]) -> Span
+    ensures { λ r. ⌜ Bracketed (now (value .entry)) r ⌝ }
+{
+    if byte_at(value, 0) != 91 {
+        return Span::Nothing;
+    }
+    let c = run_end(value, Class::NotClose, 1);
+    if c == 1 {
+        return Span::Nothing;
+    }
+    if value.len() <= c {
+        return Span::Nothing;
+    }
+    if c + 1 < value.len() {
+        return Span::Nothing;
+    }
+    Span::At { from: 1, to: c }
+}
+
+// How many dwords stand between the brackets.
+pub fn count_dwords(inner: &[u8]) -> usize
+    ensures { λ r. ⌜ r ≡ length (dwordsOf (now (inner .entry))) ⌝ }
+{
+    let mut n = 0;
+    let mut at = 0;
+    loop {
+        let to = piece_end(inner, at);
+        if let Piece::Dword(_) = read_piece(&inner[at..to]) {
+            n += 1;
+        }
+        if to == inner.len() {
+            return n;
+        }
+        at = to + 2;
+    }
+}
+
+// Writes the dwords from the first slot on where they fit, else nothing; answers how many there are.
+pub fn fill_dwords(inner: &[u8], out: &mut [u32]) -> usize
+    ensures { λ r. ⌜ Filled (now (inner .entry)) (now (out .entry)) (now (out .exit)) r ⌝ }
+{
+    let n = count_dwords(inner);
+    if n <= out.len() {
+        write_dwords(inner, out);
+    }
+    n
+}
+
+fn write_dwords(inner: &[u8], out: &mut [u32])
+    requires { ⌜ length (dwordsOf (now inner)) ≤ length (now out) ⌝ }
+    ensures { λ r. ⌜ now (out .exit) ≡ filled (dwordsOf (now (inner .entry))) (now (out .entry)) ⌝ }
+{
+    let mut n = 0;
+    let mut at = 0;
+    loop {
+        let to = piece_end(inner, at);
+        if let Piece::Dword(v) = read_piece(&inner[at..to]) {
+            out[n] = v;
+            n += 1;
+        }
+        if to == inner.len() {
+            return;
+        }
+        at = to + 2;
+    }
+}
+
+// A piece that is not 32-bit hex is left out.
+fn read_piece(piece: &[u8]) -> Piece
+    ensures { λ r. ⌜ r ≡ pieceOf (now (piece .entry)) ⌝ }
+{
+    match hex(piece, MAX_32) {
+        HexAnswer::Value(v) => Piece::Dword(v as u32),
+        HexAnswer::Unreadable => Piece::LeftOut,
+    }
+}
+
+// Where the piece from a place on ends: at the next comma-space, else with the text.
+fn piece_end(inner: &[u8], from: usize) -> usize
+    requires { ⌜ from ≤ length (now inner) ⌝ }
+    ensures { λ r. ⌜ EndsPiece (now (inner .entry)) from r ⌝ }
+{
+    let mut k = from;
+    while k < inner.len() {
+        if is_comma_space(inner, k) {
+            return k;
+        }
+        k += 1;
+    }
+    k
+}
+
+fn is_comma_space(l: &[u8], k: usize) -> bool
+    ensures { λ r. ⌜ r ≡ commaSpace (now (l .entry)) k ⌝ }
+{
+    if byte_at(l, k) != 44 {
+        return false;
+    }
+    byte_at(l, k + 1) == 32
+}

@@ -1,0 +1,163 @@
+// Pairs from the left, each search from where the last pair ended, and what is asked of all of them.
+use text::class::Class;
+use text::place::Found;
+use text::place::byte_at;
+use text::run::run_end;
+use text::run::run_start;
+use text::same::same;
+ghost use mathlib.Core.Path.{_≡_};
+ghost use Prim.Native.Nat.{_+_, _≤_};
+ghost use lib.ListN.{length};
+ghost use Rattle.text.specs.Class.{inClass};
+ghost use Rattle.text.specs.Run.{runStart};
+ghost use Rattle.text.specs.declared.class.Class.the-variants.{NotClose};
+ghost use Rattle.pairs.specs.Pair.{bracketEnd, valueEnd, pairWith, NextPair, pairWithoutEquals, ValueAt};
+
+// A pair by its places: where its key starts, where its `=` stands, where its value ends.
+pub enum Pair {
+    Hit {
+        key: usize,
+        equals: usize,
+        end: usize,
+    },
+    Miss,
+}
+
+// The part of a text from a place up to another.
+pub enum Span {
+    At { from: usize, to: usize },
+    Nothing,
+}
+
+// The first pair from a place on.
+pub fn next_pair(s: &[u8], from: usize) -> Pair
+    ensures { λ r. ⌜ NextPair (now (s .entry)) from r ⌝ }
+{
+    let tail = run_start(s, Class::NotClose);
+    next_before(s, from, tail)
+}
+
+// The value of the last pair of a key.
+pub fn last_pair(s: &[u8], key: &[u8]) -> Span
+    ensures { λ r. ⌜ ValueAt (now (s .entry)) (now (key .entry)) r ⌝ }
+{
+    let tail = run_start(s, Class::NotClose);
+    let mut best = Span::Nothing;
+    let mut at = 0;
+    loop {
+        match next_before(s, at, tail) {
+            Pair::Hit {
+                key: i,
+                equals: m,
+                end: e,
+            } => {
+                if same(&s[i..m], key) {
+                    best = Span::At { from: m + 1, to: e };
+                }
+                at = e;
+            }
+            Pair::Miss => {
+                return best;
+            }
+        }
+    }
+}
+
+// Does some pair lack its `=`? None can, by the grammar: the walk is the check that number 10 stands for.
+pub fn pair_without_equals(s: &[u8]) -> bool
+    ensures { λ r. ⌜ r ≡ pairWithoutEquals (now (s .entry)) ⌝ }
+{
+    let tail = run_start(s, Class::NotClose);
+    let mut at = 0;
+    loop {
+        match next_before(s, at, tail) {
+            Pair::Hit {
+                key: _,
+                equals: m,
+                end: e,
+            } => {
+                if byte_at(s, m) != 61 {
+                    return true;
+                }
+                at = e;
+            }
+            Pair::Miss => {
+                return false;
+            }
+        }
+    }
+}
+
+// A try that fails fails from every byte of its word run, and none starts at the byte behind it, so the search goes on behind that:
+// a word run costs no more than its length.
+fn next_before(s: &[u8], from: usize, tail: usize) -> Pair
+    requires { ⌜ tail ≡ runStart (inClass NotClose) (now s) ⌝ }
+    ensures { λ r. ⌜ NextPair (now (s .entry)) from r ⌝ }
+{
+    let mut i = from;
+    loop {
+        if s.len() <= i {
+            break Pair::Miss;
+        }
+        let m = run_end(s, Class::Word, i);
+        let pair = try_at(s, i, m, tail);
+        if let Pair::Hit { .. } = pair {
+            break pair;
+        }
+        i = m + 1;
+    }
+}
+
+// The try at a pair from i on, whose word run ends at m: given up at its first unfit byte.
+fn try_at(s: &[u8], i: usize, m: usize, tail: usize) -> Pair
+    requires { ⌜ (m ≤ length (now s)) × (tail ≡ runStart (inClass NotClose) (now s)) ⌝ }
+    ensures { λ r. ⌜ r ≡ pairWith (now (s .entry)) i m ⌝ }
+{
+    if m <= i {
+        return Pair::Miss;
+    }
+    if byte_at(s, m) != 61 {
+        return Pair::Miss;
+    }
+    match value_end(s, m + 1, tail) {
+        Found::At(e) => Pair::Hit {
+            key: i,
+            equals: m,
+            end: e,
+        },
+        Found::Nothing => Pair::Miss,
+    }
+}
+
+// Where the value from v on ends: a word run, or brackets. No `]` stands from `tail` on, so a `[` there is given up at once, and many
+// of them cost no more than one.
+fn value_end(s: &[u8], v: usize, tail: usize) -> Found
+    requires { ⌜ (v ≤ length (now s) + 1) × (tail ≡ runStart (inClass NotClose) (now s)) ⌝ }
+    ensures { λ r. ⌜ r ≡ valueEnd (now (s .entry)) v ⌝ }
+{
+    let e = run_end(s, Class::Word, v);
+    if v < e {
+        return Found::At(e);
+    }
+    if tail <= v {
+        return Found::Nothing;
+    }
+    bracket_end(s, v)
+}
+
+// `[`, one or more bytes other than `]`, `]`.
+fn bracket_end(s: &[u8], v: usize) -> Found
+    ensures { λ r. ⌜ r ≡ bracketEnd (now (s .entry)) v ⌝ }
+{
+    if byte_at(s, v) != 91 {
+        return Found::Nothing;
+    }
+    let c = run_end(s, Class::NotClose, v + 1);
+    if c == v + 1 {
+        return Found::Nothing;
+    }
+    if s.len() <= c {
+        return Found::Nothing;
+    }
+    Found::At(c + 1)
+}

@@ -1,0 +1,82 @@
+-- `parse_parted` meets its contract: the header is the front stripped, the payload the rest. Assumes nothing.
+use Rattle.scan.proofs.Stages.{parted-refused, parted-read, parted-allows, payload-same}
+use Rattle.scan.specs.Head.{headOf}
+use Rattle.text.proofs.Stripping.{rest-is}
+use Rattle.text.specs.Run.{stripped}
+use Rattle.text.specs.Class.{inClass}
+use Prim.Native.Nat.{_+_}
+use lib.Seq.{length-take-le}
+use mathlib.Core.Path.{_≡_, sym, ap, _∙_}
+use native.Mathlib.Omega.{arith}
+use borrow.Author.Needs.{needs}
+use Rattle.scan.proofs.parse_parted.Statement.{statement}
+use Rattle.scan.proofs.parse_parted.Tie as tie
+
+slice-aggregate-front : tie.Need-slice-aggregate-front
+slice-aggregate-front c = sym (length-take-le _ _ (omega (arith, c .before .before .before .pre)))
+
+strip-requires : tie.Need-strip-requires
+strip-requires c κs = search needs
+
+read-head-requires : tie.Need-read-head-requires
+read-head-requires c κs = search needs
+
+enum-known-head : tie.Need-enum-known-head
+enum-known-head c = search needs
+
+run-end-requires : tie.Need-run-end-requires
+run-end-requires c κs = search needs
+
+add-behind : tie.Need-add-behind
+add-behind c = search needs
+
+sub-strip : tie.Need-sub-strip
+sub-strip c = search needs
+
+part-strip-start : tie.Need-part-strip-start
+part-strip-start c = search needs
+
+part-strip-end : tie.Need-part-strip-end
+part-strip-end c = search needs
+
+strip-requires-2 : tie.Need-strip-requires-2
+strip-requires-2 c κs = search needs
+
+parse-payload-requires : tie.Need-parse-payload-requires
+unfolding inClass
+parse-payload-requires c κs =
+    parted-allows (c .before .before .before .before .before .before .before .before .before .before .before .before .args .line .now) (c .before .before .before .before .before .before .before .before .before .before .before .before .args .colon) (c .before .before .before .before .before .before .before .before .strip .ensures) (c .before .before .before .run-end .ensures .is) (c .before .before .before .before .before .before .before .before .before .before .before .before .good .0 .0) (sym (c .before .before .before .before .before .before .before .read-head .ensures) ∙ c .before .before .before .before .before .head .given .1)
+
+enum-known-number : tie.Need-enum-known-number
+enum-known-number c = search needs
+
+same-length : tie.Need-same-length
+same-length c = search needs
+
+returns : tie.Need-returns
+unfolding inClass
+returns c =
+    parted-read _ _ _ (ap headOf (sym (c .before .before .before .before .before .before .before .before .before .before .before .strip .ensures)) ∙ sym (c .before .before .before .before .before .before .before .before .before .before .read-head .ensures) ∙ c .before .before .before .before .before .before .before .before .head .given .1) (payload-same (c .before .before .before .before .before .before .before .before .before .before .before .strip .ensures) (c .before .before .before .before .before .before .run-end .ensures .is) (c .before .before .before .before .strip2 .ensures ∙ ap stripped (rest-is (c .before .before .before .before .before .before .before .before .before .before .before .before .before .before .before .args .colon + 1) (c .before .before .before .before .before .before .before .before .before .before .before .before .before .before .before .args .line .now))) (c .before .before .parse-payload .ensures))
+
+returns-2 : tie.Need-returns-2
+returns-2 c = parted-refused _ _ _ (ap headOf (sym (c .before .before .before .before .strip .ensures)) ∙ sym (c .before .before .before .read-head .ensures) ∙ c .before .number .given .1)
+
+pub parse-parted-spec : {M : Type 1} → statement M
+parse-parted-spec =
+    tie.close
+    (tie.spec
+    slice-aggregate-front
+    strip-requires
+    read-head-requires
+    enum-known-head
+    run-end-requires
+    add-behind
+    sub-strip
+    part-strip-start
+    part-strip-end
+    strip-requires-2
+    parse-payload-requires
+    enum-known-number
+    same-length
+    returns
+    returns-2)

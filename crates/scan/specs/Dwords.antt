@@ -1,0 +1,42 @@
+-- Numbers 15 to 17: the dwords of a payload, and the slots they go into.
+use Prim.Native.Nat.{ℕ}
+use mathlib.Core.Path.{_≡_}
+use mathlib.Core.Bool.{cond}
+use mathlib.Core.List.{List, []}
+use mathlib.Core.Option.{Option, some, none}
+use lib.Dec.{ltb}
+use lib.ListN.{length}
+use Rattle.text.specs.Quote.{bytes}
+use Rattle.pairs.specs.Pair.{lastPair}
+use Rattle.pairs.specs.Data.{dataOf, filled}
+use Rattle.scan.specs.declared.dwords.DataAnswer.{DataAnswer}
+use Rattle.scan.specs.declared.dwords.DataAnswer.the-variants.{Got, Refused}
+use Rattle.scan.specs.Need.{need}
+use Rattle.scan.specs.Body.{textAt}
+
+-- the dwords of the last pair of `data`
+unfoldable pub payloadData : List ℕ → Option (List ℕ)
+payloadData p = need none (textAt p (lastPair p (bytes "data"))) dataOf
+
+-- 16 counts dwords, then 17 the slots
+abbrev pub data16 : ℕ → List ℕ → DataAnswer
+data16 room ds = cond (ltb 256 (length ds)) (Refused 16) (cond (ltb room (length ds)) (Refused 17) (Got (length ds)))
+
+-- numbers 15 to 17 in their order, or the count of dwords
+unfoldable pub dataAnswer : List ℕ → ℕ → DataAnswer
+dataAnswer p room = need (Refused 15) (payloadData p) (data16 room)
+
+-- the dwords, none where there is no data
+abbrev pub orEmpty : Option (List ℕ) → List ℕ
+orEmpty (some ds) = ds
+orEmpty none = []
+
+-- the slots by the answer: success writes the dwords from the first and no others, a refusal none
+unfoldable pub dataSlots : DataAnswer → List ℕ → List ℕ → List ℕ
+dataSlots (Got n) ds out = filled ds out
+dataSlots (Refused k) ds out = out
+
+-- the answer, and each slot
+pub record DataRead (p out exit : List ℕ) (r : DataAnswer) : Type 0 where
+  pub answer : r ≡ dataAnswer p (length out)
+  pub slots : exit ≡ dataSlots r (orEmpty (payloadData p)) out

@@ -3,4 +3,7 @@ pub mod Frames
 pub mod Splits
 pub mod Keys
 pub mod Stages
+pub mod Values
 pub mod Chain
+pub mod Judged
+pub mod Theorems

@@ -108,3 +108,108 @@ one-line-reading t {v} {w} a b =
     let both : entry-by (v .task) (v .pid) (v .cpu) (v .seconds) (v .microseconds) (v .function) (v .kind) (v .size) (v .dropped) (v .domain) (v .route) (v .offset) (v .code) (v .len) (v .port) (v .config) (v .seq) (v .unplug) (v .dwords) ≡ entry-by (w .task) (w .pid) (w .cpu) (w .seconds) (w .microseconds) (w .function) (w .kind) (w .size) (w .dropped) (w .domain) (w .route) (w .offset) (w .code) (w .len) (w .port) (w .config) (w .seq) (w .unplug) (w .dwords) =
     rw (task, pid, cpu, stamp .0, stamp .1, function, kind, size, dropped, domain, route, offset, code, len, port, config, seq, unplug, dwords) in
     both
+
+-- a line of the grammar meets no number's condition
+line-clears : (t : List ℕ) {v : EntryValue} → Line t v → (k : ℕ) → Condition t 256 k → ⊥
+unfolding Condition
+line-clears t {v} a k c =
+    one (eqb k 1) _ _ (a .busy)
+    (one (eqb k 2) _ _ (λ l. absurd (omega (arith, a .short)))
+    (one (eqb k 3) _ _ (a .ascii)
+    (one (eqb k 4) _ _ (λ m. m (a .header) (a .payload) (a .split))
+    (one (eqb k 5) _ _ (λ m. m (a .header) (a .payload) (a .split) (v .task) (a .task))
+    (one (eqb k 6) _ _ (λ m. m (a .header) (a .payload) (a .split) (v .pid) (a .pid))
+    (one (eqb k 7) _ _ (λ m. m (a .header) (a .payload) (a .split) (v .cpu) (a .cpu))
+    (one (eqb k 8) _ _ (λ m. m (a .header) (a .payload) (a .split) (record { seconds = v .seconds; microseconds = v .microseconds; timestamp = a .timestamp }))
+    (one (eqb k 9) _ _ (λ m. m (a .header) (a .payload) (a .split) (v .function) (a .function))
+    (one (eqb k 10) _ _ (λ r. no-pair-without-equals (r .payload) (r .there))
+    (one (eqb k 11) _ _ (λ m. m (a .header) (a .payload) (a .split) (a .kind .name) (a .kind .type))
+    (one (eqb k 12) _ _ (λ m. m (a .header) (a .payload) (a .split) (v .size) (a .size))
+    (one (eqb k 13) _ _ (λ m. m (a .header) (a .payload) (a .split) (v .domain) (a .domain))
+    (one (eqb k 14) _ _ (λ m. m (a .header) (a .payload) (a .split) (v .route) (a .route))
+    (one (eqb k 15) _ _ (λ m. m (a .header) (a .payload) (a .split) (v .dwords) (a .dwords))
+    (one (eqb k 16) _ _ many (one (eqb k 17) _ _ many (λ x. x)))))))))))))))))
+    c
+  where
+    one : (b : Bool) (X Y : Type 0) → (X → ⊥) → (Y → ⊥) → cond b X Y → ⊥
+    one true X Y f g x = f x
+    one false X Y f g y = g y
+
+    many : Has t (MoreThan 256) → ⊥
+    many r =
+        let p = same-payload t (r .split) (a .split) in
+        let d : Dwords (a .payload) (r .there .dwords) = rw p at (r .there .are) in
+        let text = one-text (a .payload) (bytes "data") (d .found) (a .dwords .found) in
+        let same : r .there .dwords ≡ v .dwords = one-data (rw text at (d .brackets)) (a .dwords .brackets) in
+        omega (arith, a .few, r .there .more, ap length same)
+
+-- no number above 17 has a condition
+past-table : (t : List ℕ) (room k : ℕ) → 18 ≤ k → Condition t room k → ⊥
+unfolding Condition
+past-table t room k l c =
+    not-this 1 (omega arith) _ _ (not-this 2 (omega arith) _ _ (not-this 3 (omega arith) _ _ (not-this 4 (omega arith) _ _ (not-this 5 (omega arith) _ _
+    (not-this 6 (omega arith) _ _ (not-this 7 (omega arith) _ _ (not-this 8 (omega arith) _ _ (not-this 9 (omega arith) _ _ (not-this 10 (omega arith) _ _
+    (not-this 11 (omega arith) _ _ (not-this 12 (omega arith) _ _ (not-this 13 (omega arith) _ _ (not-this 14 (omega arith) _ _ (not-this 15 (omega arith) _ _
+    (not-this 16 (omega arith) _ _ (not-this 17 (omega arith) _ _ (λ x. x)))))))))))))))))
+    c
+  where
+    not-this : (j : ℕ) → j < k → (X Y : Type 0) → (Y → ⊥) → cond (eqb k j) X Y → ⊥
+    not-this j h X Y g = go (eqb k j) refl
+      where
+        go : (b : Bool) → eqb k j ≡ b → cond b X Y → ⊥
+        go true e x = absurd (omega (arith, eqb-true k j e))
+        go false e y = g y
+
+-- an entry says what the line says
+pub line-entry-is : (t : List ℕ) (room : ℕ) {e : Entry} → parseOf t room ≡ A.Entry e → Line t (valueOf e t (lineDwords t))
+line-entry-is t room {e} q = go (parseOf t room) (judge t room) q
+  where
+    go : (r : Answer) → Answered t room (Says t) r → r ≡ A.Entry e → Line t (valueOf e t (lineDwords t))
+    go r (Answered.refused k a) n = absurd (let z : _≡_ {A = ℕ} 0 1 = cc in omega arith)
+    go r (Answered.entry f c s) n = let same : f ≡ e = cc in rw same at (s .line)
+
+-- given 256 slots, a line of the grammar is accepted, and its entry is the grammar's
+pub line-entry-all : (t : List ℕ) {v : EntryValue} → Line t v → (e : Entry) × (parseOf t 256 ≡ A.Entry e) × (valueOf e t (lineDwords t) ≡ v)
+line-entry-all t {v} a = go (parseOf t 256) (judge t 256) refl
+  where
+    go : (r : Answer) → Answered t 256 (Says t) r → parseOf t 256 ≡ r → (e : Entry) × (parseOf t 256 ≡ A.Entry e) × (valueOf e t (lineDwords t) ≡ v)
+    go r (Answered.refused k p) n = absurd (line-clears t a k (p .holds))
+    go r (Answered.entry e c s) n = (e, n, one-line-reading t (s .line) a)
+
+-- given 256 slots, a text is accepted as a line exactly when it belongs to the line grammar
+pub line-accepted-exactly : (t : List ℕ) → ((e : Entry) × (parseOf t 256 ≡ A.Entry e)) ↔ ((v : EntryValue) × Line t v)
+line-accepted-exactly t =
+    ((λ x. (valueOf (x .0) t (lineDwords t), line-entry-is t 256 (x .1))), (λ y. let w = line-entry-all t (y .1) in (w .0, w .1)))
+
+-- a number is answered exactly when its condition holds and no earlier one does
+pub line-number-exactly : (t : List ℕ) (room k : ℕ) → (parseOf t room ≡ A.Refused k) ↔ Applies t room k
+line-number-exactly t room k = (λ q. mp (parseOf t room) (judge t room) q, λ a. mpr (parseOf t room) (judge t room) a)
+  where
+    mp : (r : Answer) → Answered t room (Says t) r → r ≡ A.Refused k → Applies t room k
+    mp r (Answered.refused j a) n = let same : j ≡ k = cc in rw same at a
+    mp r (Answered.entry e c s) n = absurd (let z : _≡_ {A = ℕ} 0 1 = cc in omega arith)
+
+    mpr : (r : Answer) → Answered t room (Says t) r → Applies t room k → r ≡ A.Refused k
+    mpr r (Answered.refused j b) a =
+        by-order j k (λ l. absurd (a .first j l (b .holds))) (λ e. ap A.Refused e) (λ l. absurd (b .first k l (a .holds)))
+    mpr r (Answered.entry e c s) a = absurd (no-number (a .holds) c)
+      where
+        no-number : Condition t room k → Clear t room 18 → ⊥
+        no-number h clear = by-order k 18 (λ l. clear k l h) (λ e. above (omega arith) h) (λ l. above (omega arith) h)
+          where
+            above : 18 ≤ k → Condition t room k → ⊥
+            above l x = past-table t room k l x
+
+-- number 10 has no text: every pair that is found has its `=`
+pub number-10-never : (t : List ℕ) (room : ℕ) → parseOf t room ≡ A.Refused 10 → ⊥
+unfolding Condition
+number-10-never t room q =
+    let a = line-number-exactly t room 10 .0 q in
+    let h : Has t WithoutEquals = a .holds in
+    no-pair-without-equals (h .payload) (h .there)
+
+-- no second answer satisfies the contract, slots included
+pub no-second-answer : (t out : List ℕ) {exit exit′ : List ℕ} {r r′ : Answer} → Parsed t out exit r → Parsed t out exit′ r′ → (r ≡ r′) × (exit ≡ exit′)
+no-second-answer t out {exit} {exit′} {r} {r′} a b =
+    let same : r ≡ r′ = a .answer ∙ sym (b .answer) in
+    (same, a .slots ∙ rw same (sym (b .slots)))

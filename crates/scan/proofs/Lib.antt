@@ -7,3 +7,4 @@ pub mod Values
 pub mod Chain
 pub mod Judged
 pub mod Theorems
+pub mod Cases

@@ -1,0 +1,74 @@
+-- Document 01's cases as one list with a single statement; each was computed or proved where its definitions are. P12 to P14 are about
+-- packets and join with them. Assumes nothing.
+use Prim.Native.Nat.{ℕ, _<_, _^_}
+use mathlib.Core.Path.{_≡_}
+use mathlib.Core.List.{[], _∷_}
+use mathlib.Core.Option.{some}
+use Rattle.text.specs.declared.number.Number.the-variants as N
+use Rattle.text.specs.declared.number.HexAnswer.the-variants as X
+use Rattle.text.specs.declared.place.Found.the-variants as F
+use Rattle.text.specs.Number.{hexOf}
+use Rattle.text.specs.Quote.{bytes}
+use Rattle.text.proofs.Cases.{case-P9}
+use Rattle.bits.specs.Range.{rangeOf}
+use Rattle.bits.proofs.Cases.{case-P10, case-P11}
+use Rattle.entry.specs.declared.events.Event.the-variants.{LinkRecovery, Unknown}
+use Rattle.entry.specs.Event.{eventOf}
+use Rattle.entry.proofs.Cases.{case-P1}
+use Rattle.header.specs.declared.stamp.Stamp.the-variants as S
+use Rattle.header.specs.Dash.{taskOf, pidOf}
+use Rattle.header.specs.Stamp.{stampOf}
+use Rattle.header.proofs.Cases.{case-P2, case-P3}
+use Rattle.pairs.specs.Pair.{pairsFrom, decimalOf}
+use Rattle.pairs.specs.Data.{dataOf}
+use Rattle.pairs.proofs.PairLists.{placed}
+use Rattle.pairs.proofs.Cases.{case-P4, case-P5, case-P6, case-P7, case-P8}
+use Rattle.scan.specs.declared.Answer.the-variants as A
+use Rattle.scan.specs.Parse.{parseOf}
+use Rattle.scan.proofs.Cases.{refused-P8}
+
+pub record Cases : Type 0 where
+  -- P1: code 38 is link recovery, 3 unknown
+  pub P1-named : eventOf 38 ≡ LinkRecovery
+  pub P1-unknown : eventOf 3 ≡ Unknown 3
+  -- P2: run `a-1-b`: task `a-1`, pid 1
+  pub P2-task : taskOf (bytes "a-1-b") ≡ F.At 3
+  pub P2-pid : pidOf (bytes "a-1-b") ≡ N.Value 1
+  -- P3: `12.34.56: f`: 34 s, 56 µs
+  pub P3 : stampOf (bytes "12.34.56: f") ≡ S.At 34 56
+  -- P4: `a=b=c`: one pair, a to b
+  pub P4 : pairsFrom (bytes "a=b=c") 0 ≡ placed 0 1 3 ∷ []
+  -- P5: `size=1 size=2`: 2
+  pub P5 : decimalOf (bytes "size=1 size=2") (bytes "size") 0xffff ≡ N.Value 2
+  -- P6: `data=[0x1, zz, 0x2]`: 1, 2
+  pub P6 : dataOf (bytes "[0x1, zz, 0x2]") ≡ some (1 ∷ 2 ∷ [])
+  -- P7: `data=[0x1,0x2]`: no dwords, accepted
+  pub P7 : dataOf (bytes "[0x1,0x2]") ≡ some []
+  -- P8: `data=[]`: 15
+  pub P8 : parseOf (bytes "a-1 [002] 1.2: f: type=t size=3 domain=0 route=0 data=[]") 256 ≡ A.Refused 15
+  -- P9: hex 16: `ffff` read, `10000` not
+  pub P9-read : hexOf 0xffff (bytes "ffff") ≡ X.Value 0xffff
+  pub P9-not : hexOf 0xffff (bytes "10000") ≡ X.Unreadable
+  -- P10: bits 8 to 15 of 0x12345678: 0x56
+  pub P10 : rangeOf 0x12345678 8 15 ≡ 0x56
+  -- P11: bits 0 to 31: the dword
+  pub P11 : (dword : ℕ) → dword < 2 ^ 32 → rangeOf dword 0 31 ≡ dword
+
+pub cases : Cases
+cases =
+    record {
+      P1-named = case-P1 .link-recovery;
+      P1-unknown = case-P1 .unknown;
+      P2-task = case-P2 .task;
+      P2-pid = case-P2 .pid;
+      P3 = case-P3;
+      P4 = case-P4;
+      P5 = case-P5;
+      P6 = case-P6 .dwords;
+      P7 = case-P7 .dwords;
+      P8 = refused-P8;
+      P9-read = case-P9 .widest;
+      P9-not = case-P9 .too-wide;
+      P10 = case-P10;
+      P11 = case-P11;
+    }

@@ -1,0 +1,2 @@
+-- Document 01's cases, together.
+pub mod Cases

@@ -1,0 +1,50 @@
+-- Whole lines through the reading, by computation: document 01's `fwd` line, and cases P7 and P8 as a line meets them. Assumes nothing.
+use mathlib.Core.Path.{_≡_, refl}
+use mathlib.Core.Bool.{false}
+use mathlib.Core.List.{[], _∷_}
+use Rattle.text.specs.Class.{between, isBlank, isDigit, isLetter, isWord, inClass}
+use Rattle.text.specs.Number.{digitOf, value, allDigits, numberOf, bareOf, asHex, hexOf, numberValue, hexValue}
+use Rattle.text.specs.Place.{firstOf, firstIn, foundBelow, firstPlace, lastPlace, byteBefore, lastByte}
+use Rattle.text.specs.Quote.{bytes}
+use Rattle.text.specs.Run.{runEnd, behind, runStart, stripped}
+use Rattle.text.specs.Same.{sameText}
+use Rattle.entry.specs.declared.optional.MaybeByte.the-variants as B
+use Rattle.entry.specs.declared.optional.MaybeWord.the-variants as W
+use Rattle.entry.specs.Kind.{byDirection, otherKind, kindOf}
+use Rattle.header.specs.Dash.{dashAt, firstRun, taskOf, digitsBehind, pidOf}
+use Rattle.header.specs.Cpu.{cpuAt, digitsWithin, cpuOf}
+use Rattle.header.specs.Stamp as Stamp
+use Rattle.header.specs.Function.{functionOf}
+use Rattle.pairs.specs.Pair as Pair
+use Rattle.pairs.specs.Data as Data
+use Rattle.scan.specs.declared.Answer.the-variants as A
+use Rattle.scan.specs.Need.{placeValue, stampValue}
+use Rattle.scan.specs.Frame.{idle, firstHigh, frameColon, frameAscii, frameOf}
+use Rattle.scan.specs.Head.{headOf}
+use Rattle.scan.specs.Body.{textAt, asByte, asWord, hexByte, hexWord, decimalByte, decimalWord, isOne, droppedOf, optionalsOf, bodyOf}
+use Rattle.scan.specs.Dwords.{payloadData, dataAnswer}
+use Rattle.scan.specs.Parse.{entryOf, withData, withBody, payloadAnswer, withHead, partedAnswer, withFrame, parseOf, dwordsBy, lineDwords}
+
+-- one word for all that a whole line computes with
+computes : Unit {0}
+unfolding between isBlank isDigit isLetter isWord inClass digitOf value allDigits numberOf bareOf asHex hexOf numberValue hexValue firstOf firstIn foundBelow firstPlace lastPlace byteBefore lastByte runEnd behind runStart stripped sameText byDirection otherKind kindOf dashAt firstRun taskOf digitsBehind pidOf cpuAt digitsWithin cpuOf Stamp.followed Stamp.stampAt Stamp.bothRead Stamp.readStamp Stamp.stampFrom Stamp.stampOf functionOf Pair.bracketEnd Pair.valueEnd Pair.withValue Pair.pairWith Pair.pairAt Pair.isHit Pair.pairFrom Pair.nextPair Pair.followed Pair.pairsWithin Pair.pairsFrom Pair.newer Pair.lastIn Pair.lastPair Pair.anyWithout Pair.pairWithoutEquals Pair.decimalIn Pair.decimalOf Pair.hexIn Pair.hexAt Data.ahead Data.cut Data.pieceBy Data.pieceOf Data.taken Data.dwordsIn Data.dwordsOf Data.insideOf Data.dataIn Data.dataOf placeValue stampValue idle firstHigh frameColon frameAscii frameOf headOf textAt asByte asWord hexByte hexWord decimalByte decimalWord isOne droppedOf optionalsOf bodyOf payloadData dataAnswer entryOf withData withBody payloadAnswer withHead partedAnswer withFrame parseOf dwordsBy lineDwords
+computes = tt
+
+-- P8 in a line: `data=[]` is refused with 15
+pub refused-P8 : parseOf (bytes "a-1 [002] 1.2: f: type=t size=3 domain=0 route=0 data=[]") 256 ≡ A.Refused 15
+unfolding computes
+refused-P8 = refl
+
+-- P7 in a line: `data=[0x1,0x2]` is accepted with no dwords
+pub accepted-P7 : lineDwords (bytes "a-1 [002] 1.2: f: type=t size=3 domain=0 route=0 data=[0x1,0x2]") ≡ []
+unfolding computes
+accepted-P7 = refl
+
+-- the `fwd` line of document 01 is this entry, with these dwords
+pub record Fwd : Type 0 where
+  pub entry : parseOf (bytes " fwd-7 [002] d..1. 12.000345: tb_tx: type=TB_CFG_PKG_READ, size=3, domain=0, route=0, data=[0x0, 0x0, 0x04002001]") 256 ≡ A.Entry (record { «task_at» = 1; «task_len» = 3; pid = 7; cpu = 2; seconds = 12; microseconds = 345; «function_at» = 30; «function_len» = 5; kind = 1; size = 3; dropped = false; domain = 0; route = 0; offset = W.Absent; code = B.Absent; len = W.Absent; port = B.Absent; config = B.Absent; seq = B.Absent; unplug = B.Absent; dwords = 3 })
+  pub dwords : lineDwords (bytes " fwd-7 [002] d..1. 12.000345: tb_tx: type=TB_CFG_PKG_READ, size=3, domain=0, route=0, data=[0x0, 0x0, 0x04002001]") ≡ 0 ∷ 0 ∷ 0x04002001 ∷ []
+
+pub fwd : Fwd
+unfolding computes
+fwd = record { entry = refl; dwords = refl }

@@ -2,4 +2,13 @@
 pub mod Steps
 pub mod Names
 pub mod Searching
+pub mod Marks
 pub mod Rows
+pub mod Sift
+pub mod Inside
+pub mod Values
+pub mod Ranges
+pub mod Entries
+pub mod Tables
+pub mod Book
+pub mod Unique

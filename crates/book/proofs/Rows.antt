@@ -69,13 +69,13 @@ module _ (tag : ℕ) (body : List ℕ → ℕ → Bool) (s : List ℕ) (p : Part
 
 module _ (s : List ℕ) (p : Part) {b : Bool} where
   -- a search for the same value answers whether one stands behind
-  pub value-behind : {n : ℕ} → n ≡ number 4 s (p .from) → b ≡ hasWanted (W.Value n) [] s (p .to)
+  pub value-behind : {n : ℕ} → n ≡ number 4 (take (p .to) s) (p .from) → b ≡ hasWanted (W.Value n) [] s (p .to)
       → has (sameValue s p) (parts s (p .to)) ≡ b
   unfolding hasWanted sameValue
   value-behind is h = ap (λ (m : ℕ). has (wanted (W.Value m) [] s) (parts s (p .to))) (sym is) ∙ sym h
 
   -- the same for an entry's offset and type
-  pub entry-behind : {n : ℕ} {key : List ℕ} → n ≡ number 2 s (p .from) → key ≡ typeAt (take (p .to) s) (p .from)
+  pub entry-behind : {n : ℕ} {key : List ℕ} → n ≡ number 2 (take (p .to) s) (p .from) → key ≡ typeAt (take (p .to) s) (p .from)
       → b ≡ hasWanted (W.Typed n) key s (p .to) → has (sameEntry s p) (parts s (p .to)) ≡ b
   unfolding hasWanted sameEntry
   entry-behind {n} {key} is type h =
@@ -84,7 +84,7 @@ module _ (s : List ℕ) (p : Part) {b : Bool} where
       ∙ sym h
 
   -- the same for a table's kind or UUID
-  pub table-behind : {want : Want} → want ≡ tableWant s (p .tag) (p .from) → b ≡ hasWanted want [] s (p .to)
+  pub table-behind : {want : Want} → want ≡ tableWant (take (p .to) s) (p .tag) (p .from) → b ≡ hasWanted want [] s (p .to)
       → has (sameTable s p) (parts s (p .to)) ≡ b
   unfolding hasWanted sameTable
   table-behind is h = ap (λ (w : Want). has (wanted w [] s) (parts s (p .to))) (sym is) ∙ sym h

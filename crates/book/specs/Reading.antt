@@ -30,7 +30,7 @@ valueBody s from = leb (from + 4) (length s) && isName (drop (from + 4) s)
 
 -- the same value
 unfoldable pub sameValue : List ℕ → Part → Part → Bool
-sameValue s p = wanted (W.Value (number 4 s (p .from))) [] s
+sameValue s p = wanted (W.Value (number 4 (take (p .to) s) (p .from))) [] s
 
 -- 7s fill the text from a place on, no value twice
 unfoldable pub valuesFill : List ℕ → ℕ → Bool
@@ -57,7 +57,7 @@ entryBody s from =
 
 -- the same offset and type
 unfoldable pub sameEntry : List ℕ → Part → Part → Bool
-sameEntry s p = wanted (W.Typed (number 2 s (p .from))) (typeAt (take (p .to) s) (p .from)) s
+sameEntry s p = wanted (W.Typed (number 2 (take (p .to) s) (p .from))) (typeAt (take (p .to) s) (p .from)) s
 
 -- 3s fill the text from a place on, no offset and type twice
 unfoldable pub entriesFill : List ℕ → ℕ → Bool
@@ -81,7 +81,7 @@ tableOk s p = tableBody (p .tag) (take (p .to) s) (p .from)
 
 -- the same kind's or the same UUID's table
 unfoldable pub sameTable : List ℕ → Part → Part → Bool
-sameTable s p = wanted (tableWant s (p .tag) (p .from)) [] s
+sameTable s p = wanted (tableWant (take (p .to) s) (p .tag) (p .from)) [] s
 
 -- tables fill the text, no kind's and no UUID's twice
 unfoldable pub tablesFill : List ℕ → ℕ → Bool

@@ -7,8 +7,13 @@ use crate::seek::Want;
 use crate::seek::has;
 use crate::seek::table_want;
 use crate::seek::type_at;
+use crate::seen::WORDS;
+use crate::seen::is_marked;
+use crate::seen::mark;
 use tlv::Step;
 ghost use mathlib.Core.Path.{_≡_};
+ghost use mathlib.Core.Bool.{_&&_};
+ghost use Rattle.book.specs.Search.{hasWanted};
 ghost use Rattle.book.specs.Reading.{
   tablesFill,
   tableBody,
@@ -30,10 +35,11 @@ pub fn tables(s: &[u8]) -> bool
         let step = tlv::field_at(s, at);
         match step {
             Step::Field { tag, from, to } => {
-                if !table(&s[..to], tag, from) {
+                let body = &s[..to];
+                if !table(body, tag, from) {
                     return false;
                 }
-                if has(s, to, table_want(s, tag, from), b"") {
+                if has(s, to, table_want(body, tag, from), b"") {
                     return false;
                 }
                 at = to;
@@ -71,10 +77,12 @@ fn table(s: &[u8], tag: u8, from: usize) -> bool
     entries(s, from + 16)
 }
 
-// Entries fill the rest, none of the same offset and type twice.
+// Entries fill the rest, none of the same offset and type twice. Only an offset that was met before is sought among the entries
+// passed, so a table whose offsets differ is read once.
 fn entries(s: &[u8], start: usize) -> bool
     ensures { λ r. ⌜ r ≡ entriesFill (now (s .entry)) start ⌝ }
 {
+    let mut seen = [0u64; WORDS];
     let mut at = start;
     loop {
         let step = tlv::field_at(s, at);
@@ -83,17 +91,16 @@ fn entries(s: &[u8], start: usize) -> bool
                 if tag != 3 {
                     return false;
                 }
-                if !entry(&s[..to], from) {
+                let body = &s[..to];
+                if !entry(body, from) {
                     return false;
                 }
-                if has(
-                    s,
-                    to,
-                    Want::Typed(tlv::two_at(s, from)),
-                    type_at(&s[..to], from),
-                ) {
+                let offset = tlv::two_at(body, from);
+                let met = is_marked(&seen, offset);
+                if repeats(&s[..at], start, met, offset, type_at(body, from)) {
                     return false;
                 }
+                mark(&mut seen, offset);
                 at = to;
             }
             Step::Stray => return false,
@@ -101,6 +108,16 @@ fn entries(s: &[u8], start: usize) -> bool
             Step::End => return true,
         }
     }
+}
+
+// Does an entry of that offset and type stand in the text from `start` on? There is none if the offset was not met.
+fn repeats(s: &[u8], start: usize, met: bool, offset: u16, kind: &[u8]) -> bool
+    ensures { λ r. ⌜ r ≡ (met && hasWanted (Want.Typed offset) (now (kind .entry)) (now (s .entry)) start) ⌝ }
+{
+    if !met {
+        return false;
+    }
+    has(s, start, Want::Typed(offset), kind)
 }
 
 // Two-byte offset, then at most one 4 (name), at most one 5 (packet type), then 6s.
@@ -150,7 +167,8 @@ fn ranges(s: &[u8], start: usize) -> bool
                 if tag != 6 {
                     return false;
                 }
-                if !range(&s[..to], from) {
+                let body = &s[..to];
+                if !range(body, from) {
                     return false;
                 }
                 at = to;
@@ -197,10 +215,11 @@ fn values(s: &[u8], start: usize) -> bool
                 if tag != 7 {
                     return false;
                 }
-                if !value(&s[..to], from) {
+                let body = &s[..to];
+                if !value(body, from) {
                     return false;
                 }
-                if has(s, to, Want::Value(tlv::four_at(s, from)), b"") {
+                if has(s, to, Want::Value(tlv::four_at(body, from)), b"") {
                     return false;
                 }
                 at = to;

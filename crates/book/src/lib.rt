@@ -7,6 +7,7 @@
 mod field;
 mod grammar;
 mod seek;
+mod seen;
 
 use crate::grammar::tables;
 ghost use mathlib.Core.Path.{_≡_};

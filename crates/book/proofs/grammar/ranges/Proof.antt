@@ -37,8 +37,8 @@ returns c =
     let e : Stands s p = sym (c .before .before .before .before .field-at .ensures) ∙ c .before .before .step .given .1 in
     sym (c .before .before .before .before .before .loop .inv ∙ fill-stop (fieldOk 6 rangeBody s) s p e (field-other 6 rangeBody s p (c .if1 .taken)))
 
-slice-aggregate-range : tie.Need-slice-aggregate-range Inv-loop μ-loop
-slice-aggregate-range c =
+slice-aggregate-body : tie.Need-slice-aggregate-body Inv-loop μ-loop
+slice-aggregate-body c =
     let s : List ℕ = c .before .before .before .before .before .before .before .before .args .s .now in
     let p : Part = record { at = c .before .before .before .before .before .before .loop .at; tag = c .before .before .before .step .given .0 .0; from = c .before .before .before .step .given .0 .1 .0; to = c .before .before .before .step .given .0 .1 .1 .0 } in
     let e : Stands s p = sym (c .before .before .before .before .before .field-at .ensures) ∙ c .before .before .before .step .given .1 in
@@ -100,7 +100,7 @@ ranges-spec =
     field-at-requires
     enum-known-step
     returns
-    slice-aggregate-range
+    slice-aggregate-body
     range-requires
     returns-2
     loop-less

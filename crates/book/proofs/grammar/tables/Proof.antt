@@ -15,10 +15,10 @@ use Rattle.book.proofs.grammar.tables.Statement.{statement}
 use Rattle.book.proofs.grammar.tables.Tie as tie
 
 abbrev Inv-loop : tie.InvT-loop
-Inv-loop s at₀ t7 at = tablesFill s 0 ≡ filled (fresh (tableOk s) (sameTable s) s) s at
+Inv-loop s at₀ t8 at = tablesFill s 0 ≡ filled (fresh (tableOk s) (sameTable s) s) s at
 
 abbrev μ-loop : tie.MeasureT-loop
-μ-loop s at₀ t7 at = length s - at
+μ-loop s at₀ t8 at = length s - at
 
 loop-holds : tie.Need-loop-holds Inv-loop μ-loop
 unfolding tablesFill
@@ -30,8 +30,8 @@ field-at-requires c κs = search needs
 enum-known-step : tie.Need-enum-known-step Inv-loop μ-loop
 enum-known-step c = search needs
 
-slice-aggregate-table : tie.Need-slice-aggregate-table Inv-loop μ-loop
-slice-aggregate-table c =
+slice-aggregate-body : tie.Need-slice-aggregate-body Inv-loop μ-loop
+slice-aggregate-body c =
     let s : List ℕ = c .before .before .before .before .before .before .before .args .s .now in
     let p : Part = record { at = c .before .before .before .before .before .loop .at; tag = c .before .before .step .given .0 .0; from = c .before .before .step .given .0 .1 .0; to = c .before .before .step .given .0 .1 .1 .0 } in
     let e : Stands s p = sym (c .before .before .before .before .field-at .ensures) ∙ c .before .before .step .given .1 in
@@ -108,7 +108,7 @@ tables-spec =
     loop-holds
     field-at-requires
     enum-known-step
-    slice-aggregate-table
+    slice-aggregate-body
     table-requires
     returns
     table-want-requires

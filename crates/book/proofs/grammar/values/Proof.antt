@@ -15,10 +15,10 @@ use Rattle.book.proofs.grammar.values.Statement.{statement}
 use Rattle.book.proofs.grammar.values.Tie as tie
 
 abbrev Inv-loop : tie.InvT-loop
-Inv-loop s start at₀ t8 at = valuesFill s start ≡ filled (fresh (fieldOk 7 valueBody s) (sameValue s) s) s at
+Inv-loop s start at₀ t9 at = valuesFill s start ≡ filled (fresh (fieldOk 7 valueBody s) (sameValue s) s) s at
 
 abbrev μ-loop : tie.MeasureT-loop
-μ-loop s start at₀ t8 at = length s - at
+μ-loop s start at₀ t9 at = length s - at
 
 loop-holds : tie.Need-loop-holds Inv-loop μ-loop
 unfolding valuesFill
@@ -37,8 +37,8 @@ returns c =
     let e : Stands s p = sym (c .before .before .before .before .field-at .ensures) ∙ c .before .before .step .given .1 in
     sym (c .before .before .before .before .before .loop .inv ∙ fill-stop (fresh (fieldOk 7 valueBody s) (sameValue s) s) s p e (fresh-fails (fieldOk 7 valueBody s) (sameValue s) s p (field-other 7 valueBody s p (c .if1 .taken))))
 
-slice-aggregate-value : tie.Need-slice-aggregate-value Inv-loop μ-loop
-slice-aggregate-value c =
+slice-aggregate-body : tie.Need-slice-aggregate-body Inv-loop μ-loop
+slice-aggregate-body c =
     let s : List ℕ = c .before .before .before .before .before .before .before .before .args .s .now in
     let p : Part = record { at = c .before .before .before .before .before .before .loop .at; tag = c .before .before .before .step .given .0 .0; from = c .before .before .before .step .given .0 .1 .0; to = c .before .before .before .step .given .0 .1 .1 .0 } in
     let e : Stands s p = sym (c .before .before .before .before .before .field-at .ensures) ∙ c .before .before .before .step .given .1 in
@@ -116,7 +116,7 @@ values-spec =
     field-at-requires
     enum-known-step
     returns
-    slice-aggregate-value
+    slice-aggregate-body
     value-requires
     returns-2
     four-at-requires

@@ -12,3 +12,4 @@ pub mod Entries
 pub mod Tables
 pub mod Book
 pub mod Unique
+pub mod Counting

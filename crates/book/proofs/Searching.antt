@@ -1,6 +1,6 @@
 -- A search steps from field to field: where no field stands it ends with nothing, a wanted field ends it, and one that is not wanted is passed.
 -- Assumes nothing.
-use Prim.Native.Nat.{ℕ, _+_, _≤_}
+use Prim.Native.Nat.{ℕ, _+_, _≤_, _<_}
 use mathlib.Core.Path.{_≡_, _∙_, sym, ap, refl}
 use mathlib.Core.Bool.{Bool, true, false, cond, _&&_, _||_}
 use mathlib.Core.List.{List, [], _∷_}
@@ -14,7 +14,8 @@ use Rattle.text.specs.declared.place.Found.the-variants.{At, Nothing}
 use Rattle.tlv.specs.declared.Step.the-variants.{End}
 use Rattle.tlv.specs.Number.{number}
 use Rattle.tlv.specs.Reading.{Part, Stands, fieldAt, refusalOf, walk, parts, has}
-use Rattle.tlv.proofs.Fields.{end-all}
+use Rattle.tlv.proofs.Fields.{end-all, field-found}
+use Rattle.tlv.proofs.Fields as fields
 use Rattle.tlv.proofs.Numbers.{number-past}
 use Rattle.tlv.proofs.Walks.{by-fields, walk-end, walk-cut, walk-field, parts-end, parts-cut, parts-field}
 use Rattle.book.specs.declared.seek.Uuid.{Uuid}
@@ -66,6 +67,28 @@ module _ (ok : Part → Bool) (s : List ℕ) where
           → (b || has ok (parts s (p .to))) ≡ isFound (cond b (At (p .at)) (firstPart ok s (p .to)))
       by true p rest = refl
       by false p rest = rest
+
+  -- what was found stands in the text, from the start of the search on
+  pub first-bounds : (at q : ℕ) → firstPart ok s at ≡ At q → (at ≤ q) × (q < length s)
+  first-bounds =
+      by-fields s (λ at. (q : ℕ) → firstPart ok s at ≡ At q → (at ≤ q) × (q < length s))
+      (λ at e q h. absurd (nothing-found q (sym (first-end at e) ∙ h)))
+      (λ at e q h. absurd (nothing-found q (sym (first-cut at e) ∙ h)))
+      (λ p e rest q h. by (ok p) p e rest q (sym (first-field p e) ∙ h))
+    where
+      nothing-found : (q : ℕ) → Nothing ≡ At q → ⊥
+      nothing-found q h = let z : _≡_ {A = ℕ} 0 1 = cc in omega arith
+
+      by : (b : Bool) (p : Part) → Stands s p → ((q : ℕ) → firstPart ok s (p .to) ≡ At q → (p .to ≤ q) × (q < length s))
+          → (q : ℕ) → cond b (At (p .at)) (firstPart ok s (p .to)) ≡ At q → (p .at ≤ q) × (q < length s)
+      by true p e rest q h =
+          let f : fields.Found s (p .at) (p .tag) (p .from) (p .to) = field-found s (p .at) e in
+          let here : p .at ≡ q = cc in
+          (omega arith, omega arith)
+      by false p e rest q h =
+          let f : fields.Found s (p .at) (p .tag) (p .from) (p .to) = field-found s (p .at) e in
+          let w = rest q h in
+          (omega arith, omega arith)
 
 -- ---- what is wanted
 

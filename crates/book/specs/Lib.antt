@@ -3,3 +3,4 @@ pub mod Grammar
 pub mod Search
 pub mod Seen
 pub mod Reading
+pub mod Finders

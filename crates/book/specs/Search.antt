@@ -16,12 +16,16 @@ use Rattle.book.specs.declared.seek.Uuid.{Uuid}
 use Rattle.book.specs.declared.seek.Want.{Want}
 use Rattle.book.specs.declared.seek.Want.the-variants as W
 
--- what is told of a field of that tag by its body's places, and what is told where another stands or none
+-- what is told of a field by its tag and its body's places, and what is told where none stands
+abbrev pub atField : {A : Type 0} → (ℕ → ℕ → ℕ → A) → A → Step → A
+atField told other (Field tag from to) = told tag from to
+atField told other Stray = other
+atField told other Overrun = other
+atField told other End = other
+
+-- what is told of a field of a given tag, and what is told where another stands or none
 abbrev pub ofTag : {A : Type 0} → ℕ → (ℕ → ℕ → A) → A → Step → A
-ofTag tag told other (Field t from to) = cond (eqb t tag) (told from to) other
-ofTag tag told other Stray = other
-ofTag tag told other Overrun = other
-ofTag tag told other End = other
+ofTag tag told other = atField (λ t from to. cond (eqb t tag) (told from to) other) other
 
 -- the body of the field of that tag at a place, empty where none stands there
 unfoldable pub bodyAt : ℕ → List ℕ → ℕ → List ℕ

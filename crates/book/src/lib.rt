@@ -5,8 +5,9 @@
 //
 // Every public call takes any bytes, checked or not.
 mod field;
+pub mod find;
 mod grammar;
-mod seek;
+pub mod seek;
 mod seen;
 
 use crate::grammar::tables;

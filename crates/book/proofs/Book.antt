@@ -1,6 +1,6 @@
 -- A book is accepted exactly when it belongs to the grammar: level by level the tests are sound and complete. Assumes nothing.
 use Prim.Native.Nat.{ℕ, _≤_}
-use mathlib.Core.Path.{_≡_, _∙_, sym, refl}
+use mathlib.Core.Path.{_≡_, refl}
 use mathlib.Core.Bool.{Bool, true, false, cond, _&&_}
 use mathlib.Core.List.{List, []}
 use mathlib.Core.Logic.{_↔_}
@@ -11,7 +11,6 @@ use lib.ListN.{length}
 use Rattle.tlv.specs.Number.{Bytes}
 use Rattle.tlv.specs.Grammar.{fieldsBytes}
 use Rattle.tlv.proofs.Pieces.{both-true}
-use Rattle.book.specs.declared.Checked.{Checked}
 use Rattle.book.specs.declared.Checked.the-variants.{Accepted, Refused}
 use Rattle.book.specs.Grammar.{IsBook}
 use Rattle.book.specs.Reading.{tablesFill, checkOf}

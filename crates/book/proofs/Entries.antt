@@ -1,8 +1,8 @@
 -- Entries: a body passes the test just where it is made from a good entry, and two stand twice just where offset and type are equal.
 -- Assumes nothing.
 use Prim.Native.Nat.{ℕ, _+_, _≤_}
-use mathlib.Core.Path.{_≡_, _∙_, sym, ap, ap₂, refl}
-use mathlib.Core.Bool.{Bool, true, false, _&&_}
+use mathlib.Core.Path.{_≡_, _∙_, sym, ap, refl}
+use mathlib.Core.Bool.{Bool, true, _&&_}
 use mathlib.Core.List.{List, [], _∷_, _++_, map}
 use mathlib.Core.Option.{Option, some, none}
 use native.Mathlib.Omega.{arith}
@@ -28,7 +28,7 @@ use Rattle.book.specs.Grammar.{
   entryPiece,
   SameEntry,
 }
-use Rattle.book.specs.Search.{bodyAt, after, typeAt, fits, wanted}
+use Rattle.book.specs.Search.{after, typeAt, fits, wanted}
 use Rattle.book.specs.Reading.{fieldOk, optionalName, rangesFill, entryBody, sameEntry, entriesFill}
 use Rattle.book.proofs.Inside.{
   row-is,

@@ -1,9 +1,9 @@
 -- What a body starts with: a number, or a field of a given tag that must or may be there. What was read was made so, and what was made so is
 -- read. Assumes nothing.
-use Prim.Native.Nat.{ℕ, _+_, _^_, _≤_, _<_}
+use Prim.Native.Nat.{ℕ, _+_, _≤_, _<_}
 use mathlib.Core.Path.{_≡_, _∙_, sym, ap, ap₂, refl}
-use mathlib.Core.Bool.{Bool, true, false, cond, _&&_, false≢true}
-use mathlib.Core.List.{List, [], _∷_, _++_}
+use mathlib.Core.Bool.{Bool, true, false}
+use mathlib.Core.List.{List, [], _++_}
 use mathlib.Core.Logic.{_⊎_, inl, inr, ⊎-elim}
 use mathlib.Core.Option.{Option, some, none}
 use native.Mathlib.Nat.{add-zero}
@@ -16,8 +16,8 @@ use Rattle.tlv.specs.declared.Step.{Step}
 use Rattle.tlv.specs.declared.Step.the-variants.{Field, Stray, Overrun, End}
 use Rattle.tlv.specs.Number.{Bytes, number, numberBytes}
 use Rattle.tlv.specs.Grammar.{Piece, fieldBytes, FromValue, Made}
-use Rattle.tlv.specs.Reading.{Part, partAt, Stands, between, pieceOf, fieldAt, filled}
-use Rattle.tlv.proofs.Numbers.{number-made, number-bytes-is, number-bytes-length}
+use Rattle.tlv.specs.Reading.{between, fieldAt, filled}
+use Rattle.tlv.proofs.Numbers.{number-bytes-is, number-bytes-length}
 use Rattle.tlv.proofs.Fields.{Found, field-found}
 use Rattle.tlv.proofs.Places.{bytes-take}
 use Rattle.tlv.proofs.Pieces.{made-field, made-body, made-back, part-made, filled-made, made-filled}
@@ -25,7 +25,7 @@ use Rattle.book.specs.Grammar.{Name, Optional, optionalBytes}
 use Rattle.book.specs.Search.{bodyAt, after}
 use Rattle.book.specs.Reading.{isName, optionalName}
 use Rattle.book.proofs.Names.{name-is, name-all}
-use Rattle.book.proofs.Steps.{tag-told, tag-other, tag-bare}
+use Rattle.book.proofs.Steps.{tag-told, tag-other}
 
 -- ---- a level: a test of a body by its tag, against the values that bodies are made from
 

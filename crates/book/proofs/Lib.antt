@@ -13,3 +13,5 @@ pub mod Tables
 pub mod Book
 pub mod Unique
 pub mod Counting
+pub mod Finding
+pub mod Answers

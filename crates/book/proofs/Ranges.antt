@@ -1,16 +1,15 @@
 -- Bit ranges: a body passes the test just where it is made from a good range. Assumes nothing.
-use Prim.Native.Nat.{ℕ, _+_, _≤_, _<_}
-use mathlib.Core.Path.{_≡_, _∙_, sym, ap, refl}
+use Prim.Native.Nat.{ℕ, _+_, _≤_}
+use mathlib.Core.Path.{_≡_, _∙_, sym, ap}
 use mathlib.Core.Bool.{Bool, true, false, _&&_, false≢true}
-use mathlib.Core.List.{List, [], _∷_, _++_, map}
+use mathlib.Core.List.{List, _∷_, _++_, map}
 use mathlib.Core.Logic.{⊎-elim}
 use native.Mathlib.Omega.{arith}
 use borrow.Author.Tests.{eqb-true, leb-true, le-leb}
 use lib.Dec.{eqb, leb}
 use lib.ListN.{length, getD, drop, length-drop}
-use lib.Seq.{drop-drop}
 use Rattle.tlv.specs.Number.{Bytes}
-use Rattle.tlv.specs.Grammar.{Piece, fieldBytes, fieldsBytes, FromValue, Made}
+use Rattle.tlv.specs.Grammar.{fieldBytes, fieldsBytes, FromValue, Made}
 use Rattle.tlv.proofs.Numbers.{drop-next}
 use Rattle.tlv.proofs.Fields.{drop-first}
 use Rattle.tlv.proofs.Pieces.{both-true}

@@ -9,14 +9,14 @@ use borrow.Author.Tests.{eq-eqb, ne-eqb, lt-leb}
 use lib.Dec.{eqb}
 use lib.ListN.{length, take}
 use Rattle.tlv.specs.declared.Step.{Step}
-use Rattle.tlv.specs.declared.Step.the-variants.{Field, Stray, Overrun, End}
+use Rattle.tlv.specs.declared.Step.the-variants.{Stray, Overrun, End}
 use Rattle.tlv.specs.Reading.{Part, Stands, fieldAt, refusalOf, parts, filled, has, once}
 use Rattle.tlv.proofs.Walks.{filled-end, filled-cut, filled-field, filled-once}
 use Rattle.tlv.specs.Number.{number}
 use Rattle.book.specs.declared.seek.Want.{Want}
 use Rattle.book.specs.declared.seek.Want.the-variants as W
-use Rattle.book.specs.Search.{typeAt, wanted, hasWanted, tableWant}
-use Rattle.book.specs.Reading.{fieldOk, sameValue, sameEntry, sameTable, controlBody, uuidBody, tableBody}
+use Rattle.book.specs.Search.{wanted, hasWanted, tableWant}
+use Rattle.book.specs.Reading.{fieldOk, sameValue, sameTable, controlBody, uuidBody, tableBody}
 
 module _ (ok : Part → Bool) (s : List ℕ) where
   -- a field that fails
@@ -73,15 +73,6 @@ module _ (s : List ℕ) (p : Part) {b : Bool} where
       → has (sameValue s p) (parts s (p .to)) ≡ b
   unfolding hasWanted sameValue
   value-behind is h = ap (λ (m : ℕ). has (wanted (W.Value m) [] s) (parts s (p .to))) (sym is) ∙ sym h
-
-  -- the same for an entry's offset and type
-  pub entry-behind : {n : ℕ} {key : List ℕ} → n ≡ number 2 (take (p .to) s) (p .from) → key ≡ typeAt (take (p .to) s) (p .from)
-      → b ≡ hasWanted (W.Typed n) key s (p .to) → has (sameEntry s p) (parts s (p .to)) ≡ b
-  unfolding hasWanted sameEntry
-  entry-behind {n} {key} is type h =
-      ap (λ (m : ℕ). has (wanted (W.Typed m) (typeAt (take (p .to) s) (p .from)) s) (parts s (p .to))) (sym is)
-      ∙ ap (λ (k : List ℕ). has (wanted (W.Typed n) k s) (parts s (p .to))) (sym type)
-      ∙ sym h
 
   -- the same for a table's kind or UUID
   pub table-behind : {want : Want} → want ≡ tableWant (take (p .to) s) (p .tag) (p .from) → b ≡ hasWanted want [] s (p .to)

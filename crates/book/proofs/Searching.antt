@@ -3,7 +3,7 @@
 use Prim.Native.Nat.{ℕ, _+_, _≤_, _<_}
 use mathlib.Core.Path.{_≡_, _∙_, sym, ap, refl}
 use mathlib.Core.Bool.{Bool, true, false, cond, _&&_, _||_}
-use mathlib.Core.List.{List, [], _∷_}
+use mathlib.Core.List.{List, []}
 use mathlib.Core.Logic.{inl, ⊎-elim}
 use native.Mathlib.Omega.{arith}
 use borrow.Author.Tests.{eq-eqb, ne-eqb}
@@ -12,13 +12,11 @@ use lib.ListN.{length}
 use Rattle.text.specs.declared.place.Found.{Found}
 use Rattle.text.specs.declared.place.Found.the-variants.{At, Nothing}
 use Rattle.tlv.specs.declared.Step.the-variants.{End}
-use Rattle.tlv.specs.Number.{number}
-use Rattle.tlv.specs.Reading.{Part, Stands, fieldAt, refusalOf, walk, parts, has}
+use Rattle.tlv.specs.Reading.{Part, Stands, fieldAt, refusalOf, parts, has}
 use Rattle.tlv.proofs.Fields.{end-all, field-found}
 use Rattle.tlv.proofs.Fields as fields
 use Rattle.tlv.proofs.Numbers.{number-past}
 use Rattle.tlv.proofs.Walks.{by-fields, walk-end, walk-cut, walk-field, parts-end, parts-cut, parts-field}
-use Rattle.book.specs.declared.seek.Uuid.{Uuid}
 use Rattle.book.specs.declared.seek.Want.{Want}
 use Rattle.book.specs.Search.{bodyAt, after, nameAt, typeAt, uuidAt, tagOf, firstPart}
 use Rattle.book.proofs.Steps.{Bare, tag-bare}

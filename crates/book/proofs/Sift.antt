@@ -6,13 +6,12 @@ use mathlib.Core.Bool.{Bool, true, false, not, _&&_, _||_, and-false, false≢tr
 use mathlib.Core.List.{List, [], _∷_, _++_, append-assoc, append-nil}
 use mathlib.Core.Logic.{_⊎_, inl, inr, ⊎-elim}
 use native.Mathlib.Omega.{arith}
-use borrow.Author.Tests.{eqb-true, eq-eqb, not-true, not-false}
+use borrow.Author.Tests.{eqb-true, eq-eqb, not-true}
 use lib.Dec.{eqb}
-use lib.ListN.{length, getD, take, length-take}
+use lib.ListN.{length, take, length-take}
 use lib.Seq.{take-all, take-take}
 use Rattle.text.specs.Same.{sameText}
 use Rattle.text.proofs.Texts.{same-refl, same-true}
-use Rattle.tlv.specs.declared.Step.{Step}
 use Rattle.tlv.specs.declared.Step.the-variants.{End}
 use Rattle.tlv.specs.Number.{number}
 use Rattle.tlv.specs.Grammar.{All}

@@ -1,23 +1,21 @@
 -- Tables: a body passes the test just where it is made from a good table, and two stand twice just where they belong to the same kind or UUID.
 -- Assumes nothing.
-use Prim.Native.Nat.{ℕ, _+_, _^_, _≤_, _<_}
+use Prim.Native.Nat.{ℕ, _+_, _≤_}
 use mathlib.Core.Path.{_≡_, _∙_, sym, ap, refl}
-use mathlib.Core.Bool.{Bool, true, false, cond, _&&_, false≢true}
+use mathlib.Core.Bool.{Bool, true, false, cond, _&&_}
 use mathlib.Core.List.{List, [], _∷_, _++_, map}
 use native.Mathlib.Omega.{arith}
-use borrow.Author.Tests.{eqb-true, eqb-false, eq-eqb, ne-eqb, leb-true, le-leb}
+use borrow.Author.Tests.{eqb-true, eq-eqb, ne-eqb, leb-true, le-leb}
 use lib.Dec.{eqb, leb}
 use lib.ListN.{length, getD, take, drop, length-drop}
-use lib.Seq.{getD-take}
 use Rattle.tlv.specs.Number.{Bytes, number, numberBytes}
 use Rattle.tlv.specs.Grammar.{Piece, fieldsBytes, Apart, FromValue, Made}
-use Rattle.tlv.specs.Reading.{Part, Stands, between, parts, filled, once}
+use Rattle.tlv.specs.Reading.{Part, parts, filled, once}
 use Rattle.tlv.proofs.Numbers.{number-below, number-made, drop-next}
-use Rattle.tlv.proofs.Fields.{Found, field-found, drop-first}
-use Rattle.tlv.proofs.Places.{made-number, stands-cut, between-byte}
+use Rattle.tlv.proofs.Fields.{drop-first}
 use Rattle.tlv.proofs.Pieces.{both-true}
 use Rattle.tlv.proofs.Twice.{PartOf, once-apart, apart-once}
-use Rattle.book.specs.declared.seek.Uuid.{Uuid}
+use Rattle.book.specs.declared.Uuid.{Uuid}
 use Rattle.book.specs.declared.seek.Want.{Want}
 use Rattle.book.specs.declared.seek.Want.the-variants as W
 use Rattle.book.specs.Grammar.{
@@ -33,7 +31,7 @@ use Rattle.book.specs.Grammar.{
   GoodTable,
   tablePiece,
 }
-use Rattle.book.specs.Search.{uuidAt, sameUuid, tagOf, fits, wanted, tableWant}
+use Rattle.book.specs.Search.{uuidAt, sameUuid, fits, wanted, tableWant}
 use Rattle.book.specs.Reading.{entriesFill, controlBody, uuidBody, tableBody, tableOk, sameTable, tablesFill}
 use Rattle.book.proofs.Inside.{row-is, row-all, number-first, number-back, number-room}
 use Rattle.book.proofs.Entries.{FromEntries, entries-is, entries-all}

@@ -1,5 +1,5 @@
 -- One reading: bytes that were made from a value at any level are read as that value, so two values of the same bytes are one. Assumes nothing.
-use Prim.Native.Nat.{ℕ, _+_, _^_, _<_}
+use Prim.Native.Nat.{ℕ, _+_}
 use mathlib.Core.Path.{_≡_, _∙_, sym, ap, refl}
 use mathlib.Core.List.{List, _++_, map}
 use lib.ListN.{drop}

@@ -1,15 +1,15 @@
 -- Values of a bit range: a body passes the test just where it is made from a good value, and two stand twice just where their numbers are equal.
 -- Assumes nothing.
 use Prim.Native.Nat.{ℕ, _+_, _≤_}
-use mathlib.Core.Path.{_≡_, _∙_, sym, ap, ap₂}
+use mathlib.Core.Path.{_≡_, _∙_, sym, ap}
 use mathlib.Core.Bool.{Bool, true, _&&_}
-use mathlib.Core.List.{List, _++_}
+use mathlib.Core.List.{List}
 use native.Mathlib.Omega.{arith}
 use borrow.Author.Tests.{eqb-true, eq-eqb, leb-true, le-leb}
 use lib.Dec.{eqb, leb}
 use lib.ListN.{length, take, drop}
-use Rattle.tlv.specs.Number.{Bytes, number, numberBytes}
-use Rattle.tlv.specs.Grammar.{Piece, All, Apart, FromValue, Made}
+use Rattle.tlv.specs.Number.{Bytes, number}
+use Rattle.tlv.specs.Grammar.{Piece, Apart, FromValue, Made}
 use Rattle.tlv.specs.Reading.{Part, parts, filled, once}
 use Rattle.tlv.proofs.Numbers.{number-below, number-made}
 use Rattle.tlv.proofs.Pieces.{both-true}

@@ -10,7 +10,7 @@ use Rattle.text.specs.declared.place.Found.{Found}
 use Rattle.text.specs.declared.place.Found.the-variants.{At, Nothing}
 use Rattle.tlv.specs.Grammar.{Piece, All}
 use Rattle.tlv.specs.Reading.{Part, Stands, between, pieceOf, fieldAt, parts}
-use Rattle.book.specs.declared.seek.Uuid.{Uuid}
+use Rattle.book.specs.declared.Uuid.{Uuid}
 use Rattle.book.specs.declared.seek.Want.{Want}
 use Rattle.book.specs.declared.seek.Want.the-variants as W
 use Rattle.book.specs.Search.{atField, after, nameAt, typeAt, firstWanted}

@@ -7,7 +7,7 @@ use mathlib.Core.Option.{Option, some, none}
 use lib.ListN.{length}
 use Rattle.tlv.specs.Number.{numberBytes}
 use Rattle.tlv.specs.Grammar.{Piece, fieldBytes, fieldsBytes, All, Apart}
-use Rattle.book.specs.declared.seek.Uuid.{Uuid}
+use Rattle.book.specs.declared.Uuid.{Uuid}
 
 -- names are 1 to 255 bytes below 128
 pub record Name (n : List ℕ) : Type 0 where

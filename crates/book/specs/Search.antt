@@ -2,7 +2,7 @@
 -- Assumes nothing.
 use Prim.Native.Nat.{ℕ, _+_}
 use mathlib.Core.Bool.{Bool, cond, _&&_}
-use mathlib.Core.List.{List, [], _∷_}
+use mathlib.Core.List.{List, []}
 use lib.Dec.{eqb}
 use lib.ListN.{getD, take}
 use Rattle.text.specs.declared.place.Found.{Found}
@@ -12,7 +12,7 @@ use Rattle.tlv.specs.declared.Step.{Step}
 use Rattle.tlv.specs.declared.Step.the-variants.{Field, Stray, Overrun, End}
 use Rattle.tlv.specs.Number.{number}
 use Rattle.tlv.specs.Reading.{Part, between, fieldAt, walk, parts, has}
-use Rattle.book.specs.declared.seek.Uuid.{Uuid}
+use Rattle.book.specs.declared.Uuid.{Uuid}
 use Rattle.book.specs.declared.seek.Want.{Want}
 use Rattle.book.specs.declared.seek.Want.the-variants as W
 

@@ -1,7 +1,7 @@
 // The finders. A table, an entry, a bit range or a value is the place of its tag byte in the book; 0 is none for all but tables.
 // Each takes any book and any place; on a checked book each answers the one that document 01 names.
+use crate::Uuid;
 use crate::field::after;
-use crate::seek::Uuid;
 use crate::seek::Want;
 use crate::seek::first;
 use crate::seek::name_at;
@@ -52,10 +52,10 @@ pub fn entry_of_offset(book: &[u8], table: usize, offset: u16) -> usize
 }
 
 // The first entry of an offset and a type in a table; an empty type asks for the untyped entry.
-pub fn entry_of_type(book: &[u8], table: usize, offset: u16, kind: &[u8]) -> usize
-    ensures { λ r. ⌜ (r ≡ entryOfType (now (book .entry)) table offset (now (kind .entry))) × (r ≤ length (now (book .entry))) ⌝ }
+pub fn entry_of_type(book: &[u8], table: usize, offset: u16, name: &[u8]) -> usize
+    ensures { λ r. ⌜ (r ≡ entryOfType (now (book .entry)) table offset (now (name .entry))) × (r ≤ length (now (book .entry))) ⌝ }
 {
-    seek(book, table, Want::Typed(offset), kind)
+    seek(book, table, Want::Typed(offset), name)
 }
 
 // The first bit range of a name in an entry.

@@ -111,13 +111,13 @@ fn entries(s: &[u8], start: usize) -> bool
 }
 
 // Does an entry of that offset and type stand in the text from `start` on? There is none if the offset was not met.
-fn repeats(s: &[u8], start: usize, met: bool, offset: u16, kind: &[u8]) -> bool
-    ensures { λ r. ⌜ r ≡ (met && hasWanted (Want.Typed offset) (now (kind .entry)) (now (s .entry)) start) ⌝ }
+fn repeats(s: &[u8], start: usize, met: bool, offset: u16, name: &[u8]) -> bool
+    ensures { λ r. ⌜ r ≡ (met && hasWanted (Want.Typed offset) (now (name .entry)) (now (s .entry)) start) ⌝ }
 {
     if !met {
         return false;
     }
-    has(s, start, Want::Typed(offset), kind)
+    has(s, start, Want::Typed(offset), name)
 }
 
 // Two-byte offset, then at most one 4 (name), at most one 5 (packet type), then 6s.
@@ -134,11 +134,11 @@ fn entry(s: &[u8], from: usize) -> bool
     if !optional_name(s, 4, name) {
         return false;
     }
-    let kind = after(s, 4, name);
-    if !optional_name(s, 5, kind) {
+    let packet_type = after(s, 4, name);
+    if !optional_name(s, 5, packet_type) {
         return false;
     }
-    ranges(s, after(s, 5, kind))
+    ranges(s, after(s, 5, packet_type))
 }
 
 // Where a field of that tag stands at the place, its body is a name.

@@ -7,12 +7,20 @@
 mod field;
 pub mod find;
 mod grammar;
-pub mod seek;
+mod seek;
 mod seen;
 
 use crate::grammar::tables;
 ghost use mathlib.Core.Path.{_≡_};
 ghost use Rattle.book.specs.Reading.{checkOf};
+
+// The four dwords of a UUID, in the order of the book and of a packet.
+pub struct Uuid {
+    pub first: u32,
+    pub second: u32,
+    pub third: u32,
+    pub fourth: u32,
+}
 
 // What the check of a book answers: accepted, or a number.
 pub enum Checked {

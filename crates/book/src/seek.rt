@@ -1,4 +1,5 @@
 // One walk for every search: the first field from a place on that is wanted.
+use crate::Uuid;
 use crate::field::after;
 use crate::field::body_at;
 use text::place::Found;
@@ -18,14 +19,6 @@ ghost use Rattle.book.specs.Search.{
   hasWanted,
   tableWant,
 };
-
-// The four dwords of a UUID, in the order of the book and of a packet.
-pub struct Uuid {
-    pub first: u32,
-    pub second: u32,
-    pub third: u32,
-    pub fourth: u32,
-}
 
 // What a search is for. A key goes with it where a text must be the same, and an empty key is "no type".
 pub enum Want {

@@ -2,7 +2,6 @@
 use Rattle.book.proofs.Steps.{Bare, bare, tag-told, tag-other, tag-bare}
 use Rattle.book.specs.Search.{after}
 use mathlib.Core.Path.{sym, _∙_, subst}
-use native.Mathlib.Omega.{arith}
 use borrow.Author.Needs.{needs}
 use Rattle.book.proofs.field.after.Statement.{statement}
 use Rattle.book.proofs.field.after.Tie as tie

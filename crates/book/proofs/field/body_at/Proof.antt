@@ -4,7 +4,6 @@ use Rattle.book.specs.Search.{bodyAt}
 use Rattle.tlv.proofs.Places.{between-is}
 use Rattle.tlv.proofs.Fields.{field-found}
 use mathlib.Core.Path.{sym, _∙_, subst}
-use native.Mathlib.Omega.{arith}
 use borrow.Author.Needs.{needs}
 use Rattle.book.proofs.field.body_at.Statement.{statement}
 use Rattle.book.proofs.field.body_at.Tie as tie

@@ -3,11 +3,9 @@ use Rattle.book.proofs.Names.{isLow, name-empty, name-long, name-by-byt
 use Rattle.book.specs.Reading.{isName}
 use Rattle.tlv.specs.Reading.{all}
 use lib.ListN.{length, drop}
-use mathlib.Core.Bool.{true}
 use mathlib.Core.Path.{_≡_, sym, _∙_}
 use Prim.Native.Nat.{_≤_, _-_}
 use borrow.Author.Needs.{needs}
-use native.Mathlib.Omega.{arith}
 use Rattle.book.proofs.field.is_name.Statement.{statement}
 use Rattle.book.proofs.field.is_name.Tie as tie
 

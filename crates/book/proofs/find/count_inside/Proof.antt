@@ -7,7 +7,7 @@ use Rattle.tlv.specs.Reading.{Part, Stands, fieldAt, parts}
 use lib.ListN.{length, take, length-take}
 use mathlib.Core.List.{List}
 use mathlib.Core.Path.{_≡_, sym, ap, subst, _∙_}
-use Prim.Native.Nat.{ℕ, _≤_}
+use Prim.Native.Nat.{ℕ}
 use native.Mathlib.Omega.{arith}
 use borrow.Author.Needs.{needs}
 use Rattle.book.proofs.find.count_inside.Statement.{statement}

@@ -3,8 +3,6 @@ use Rattle.book.specs.Finders.{innerFrom}
 use Rattle.book.specs.Search.{after}
 use borrow.Author.Tests.{eq-eqb, ne-eqb}
 use mathlib.Core.Path.{ap, _∙_}
-use Prim.Native.Nat.{ℕ}
-use native.Mathlib.Omega.{arith}
 use borrow.Author.Needs.{needs}
 use Rattle.book.proofs.find.inner.Statement.{statement}
 use Rattle.book.proofs.find.inner.Tie as tie

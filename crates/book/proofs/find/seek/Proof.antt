@@ -2,16 +2,14 @@
 use Rattle.book.proofs.Searching.{first-bounds}
 use Rattle.book.proofs.Steps.{Bare, bare, field-bare}
 use Rattle.book.specs.Finders.{placeOf, innerFrom, seekOf}
-use Rattle.book.specs.Search.{atField, wanted, firstWanted}
+use Rattle.book.specs.Search.{wanted, firstWanted}
 use Rattle.tlv.proofs.Places.{stands-cut}
 use Rattle.tlv.proofs.Fields.{field-found}
 use Rattle.tlv.specs.Reading.{Part, Stands, fieldAt}
-use Rattle.tlv.specs.declared.Step.{Step}
-use Rattle.text.specs.declared.place.Found.{Found}
-use lib.ListN.{length, take, length-take}
+use lib.ListN.{take, length-take}
 use mathlib.Core.List.{List}
 use mathlib.Core.Path.{_≡_, sym, ap, subst, _∙_}
-use Prim.Native.Nat.{ℕ, _≤_}
+use Prim.Native.Nat.{ℕ}
 use native.Mathlib.Omega.{arith}
 use borrow.Author.Needs.{needs}
 use Rattle.book.proofs.find.seek.Statement.{statement}

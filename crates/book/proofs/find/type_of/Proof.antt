@@ -3,9 +3,7 @@ use Rattle.book.proofs.Steps.{Bare, bare, field-bare}
 use Rattle.book.specs.Finders.{typeOf}
 use Rattle.tlv.proofs.Places.{stands-cut}
 use Rattle.tlv.specs.Reading.{Part, Stands, fieldAt}
-use mathlib.Core.Path.{_≡_, sym, ap, subst, _∙_}
-use Prim.Native.Nat.{ℕ}
-use native.Mathlib.Omega.{arith}
+use mathlib.Core.Path.{_≡_, sym, subst, _∙_}
 use borrow.Author.Needs.{needs}
 use Rattle.book.proofs.find.type_of.Statement.{statement}
 use Rattle.book.proofs.find.type_of.Tie as tie

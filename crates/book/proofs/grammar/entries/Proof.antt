@@ -1,17 +1,17 @@
 -- `book::grammar::entries` meets its contract: the entries passed are good, apart and marked, so the answer is that for the rest. Assumes nothing.
 use Rattle.book.proofs.Sift.{Sifted, sift-start, sift-fails, sift-end, sift-twice, sift-next}
 use Rattle.book.proofs.Rows.{fill-stop, fill-stray, fill-overrun, field-other, field-body}
-use Rattle.book.specs.Reading.{fieldOk, entryBody, entriesFill}
+use Rattle.book.specs.Reading.{fieldOk, entryBody}
 use Rattle.book.proofs.Marks.{marks-length}
 use Rattle.tlv.proofs.Places.{stands-cut}
 use Rattle.tlv.proofs.Fields.{field-found}
-use Rattle.tlv.specs.Reading.{Part, Stands, filled}
+use Rattle.tlv.specs.Reading.{Part, Stands}
 use borrow.Author.Tests.{not-true, not-false}
 use lib.Seq.{length-take-le}
 use lib.ListN.{length}
 use mathlib.Core.List.{List}
 use mathlib.Core.Path.{_≡_, sym, ap, _∙_, subst⁻¹}
-use Prim.Native.Nat.{ℕ, _-_, _≤_, _<_, _/_}
+use Prim.Native.Nat.{ℕ, _-_, _<_, _/_}
 use borrow.Author.Needs.{needs}
 use native.Mathlib.Omega.{arith}
 use Rattle.book.proofs.grammar.entries.Statement.{statement}

@@ -4,7 +4,6 @@ use Rattle.book.specs.Reading.{isName, optionalName}
 use Rattle.tlv.proofs.Places.{between-is}
 use Rattle.tlv.proofs.Fields.{field-found}
 use mathlib.Core.Path.{sym, ap, _∙_, subst}
-use native.Mathlib.Omega.{arith}
 use borrow.Author.Needs.{needs}
 use Rattle.book.proofs.grammar.optional_name.Statement.{statement}
 use Rattle.book.proofs.grammar.optional_name.Tie as tie

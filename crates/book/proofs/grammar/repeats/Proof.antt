@@ -1,7 +1,5 @@
 -- `book::grammar::repeats` meets its contract: the bool decides whether the search is made. Assumes nothing.
-use mathlib.Core.Path.{sym}
 use borrow.Author.Tests.{not-true, not-false}
-use native.Mathlib.Omega.{arith}
 use borrow.Author.Needs.{needs}
 use Rattle.book.proofs.grammar.repeats.Statement.{statement}
 use Rattle.book.proofs.grammar.repeats.Tie as tie

@@ -3,8 +3,8 @@ use Rattle.book.proofs.Rows.{table-empty}
 use Rattle.book.specs.Reading.{tableBody, controlBody, uuidBody}
 use borrow.Author.Tests.{eq-eqb, ne-eqb, le-leb, lt-leb}
 use lib.ListN.{length, getD}
-use mathlib.Core.Path.{_≡_, sym, ap, _∙_}
-use Prim.Native.Nat.{ℕ, _+_}
+use mathlib.Core.Path.{sym}
+use Prim.Native.Nat.{_+_}
 use native.Mathlib.Omega.{arith}
 use borrow.Author.Needs.{needs}
 use Rattle.book.proofs.grammar.table.Statement.{statement}

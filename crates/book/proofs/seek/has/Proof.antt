@@ -2,7 +2,6 @@
 use Rattle.book.proofs.Searching.{isFound, has-found}
 use Rattle.book.specs.Search.{wanted, firstWanted, hasWanted}
 use mathlib.Core.Path.{sym, ap, _∙_}
-use native.Mathlib.Omega.{arith}
 use borrow.Author.Needs.{needs}
 use Rattle.book.proofs.seek.has.Statement.{statement}
 use Rattle.book.proofs.seek.has.Tie as tie

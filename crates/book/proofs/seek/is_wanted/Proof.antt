@@ -1,15 +1,12 @@
 -- `book::seek::is_wanted` meets its contract: another tag is not wanted, and of the right tag each arm reads the body. Assumes nothing.
 use Rattle.book.proofs.Searching.{other-tag, right-tag}
-use Rattle.book.specs.Search.{sameUuid, tagOf, fits}
-use Rattle.book.specs.declared.seek.Uuid.{Uuid}
-use Rattle.book.specs.declared.seek.Want.{Want}
+use Rattle.book.specs.Search.{sameUuid, fits}
+use Rattle.book.specs.declared.Uuid.{Uuid}
 use Rattle.text.specs.Same.{sameText}
-use lib.Dec.{eqb}
 use borrow.Author.Tests.{eq-eqb, ne-eqb}
 use mathlib.Core.List.{List}
 use mathlib.Core.Path.{sym, ap, _∙_}
 use Prim.Native.Nat.{ℕ}
-use native.Mathlib.Omega.{arith}
 use borrow.Author.Needs.{needs}
 use Rattle.book.proofs.seek.is_wanted.Statement.{statement}
 use Rattle.book.proofs.seek.is_wanted.Tie as tie

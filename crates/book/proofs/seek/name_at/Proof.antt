@@ -2,7 +2,6 @@
 use Rattle.book.proofs.Searching.{name-past}
 use Rattle.book.specs.Search.{nameAt}
 use mathlib.Core.Path.{sym}
-use native.Mathlib.Omega.{arith}
 use borrow.Author.Needs.{needs}
 use Rattle.book.proofs.seek.name_at.Statement.{statement}
 use Rattle.book.proofs.seek.name_at.Tie as tie

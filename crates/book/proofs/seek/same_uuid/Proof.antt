@@ -1,8 +1,6 @@
 -- `book::seek::same_uuid` meets its contract: each test decides one dword. Assumes nothing.
 use Rattle.book.specs.Search.{sameUuid}
 use borrow.Author.Tests.{eq-eqb, ne-eqb}
-use borrow.Author.Needs.{needs}
-use native.Mathlib.Omega.{arith}
 use Rattle.book.proofs.seek.same_uuid.Statement.{statement}
 use Rattle.book.proofs.seek.same_uuid.Tie as tie
 

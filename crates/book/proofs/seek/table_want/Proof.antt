@@ -2,8 +2,7 @@
 use Rattle.book.specs.Search.{tableWant}
 use Rattle.book.specs.declared.seek.Want.the-variants as W
 use borrow.Author.Tests.{eq-eqb, ne-eqb}
-use mathlib.Core.Path.{ap, sym, _∙_}
-use native.Mathlib.Omega.{arith}
+use mathlib.Core.Path.{ap}
 use borrow.Author.Needs.{needs}
 use Rattle.book.proofs.seek.table_want.Statement.{statement}
 use Rattle.book.proofs.seek.table_want.Tie as tie

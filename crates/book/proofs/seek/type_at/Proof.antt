@@ -3,7 +3,6 @@ use Rattle.book.proofs.Searching.{type-past}
 use Rattle.book.specs.Search.{bodyAt, typeAt}
 use mathlib.Core.Path.{sym, ap, _∙_}
 use Prim.Native.Nat.{ℕ}
-use native.Mathlib.Omega.{arith}
 use borrow.Author.Needs.{needs}
 use Rattle.book.proofs.seek.type_at.Statement.{statement}
 use Rattle.book.proofs.seek.type_at.Tie as tie

@@ -1,7 +1,6 @@
 -- `book::seek::uuid_at` meets its contract dword by dword. Assumes nothing.
 use Rattle.book.proofs.Searching.{uuid-past}
 use mathlib.Core.Path.{sym}
-use native.Mathlib.Omega.{arith}
 use borrow.Author.Needs.{needs}
 use Rattle.book.proofs.seek.uuid_at.Statement.{statement}
 use Rattle.book.proofs.seek.uuid_at.Tie as tie

@@ -1,7 +1,6 @@
 -- `book::seen::is_marked` meets its contract, which is its code in numbers. Assumes nothing.
 use Rattle.book.specs.Seen.{isMarked}
 use mathlib.Core.Path.{refl}
-use native.Mathlib.Omega.{arith}
 use borrow.Author.Needs.{needs}
 use Rattle.book.proofs.seen.is_marked.Statement.{statement}
 use Rattle.book.proofs.seen.is_marked.Tie as tie

@@ -5,8 +5,6 @@ use lib.Bits.{bitOr}
 use mathlib.Core.Path.{ap}
 use Prim.Native.Nat.{ℕ, _/_}
 use Rattle.book.specs.Seen.{marked}
-use mathlib.Core.Path.{refl}
-use native.Mathlib.Omega.{arith}
 use borrow.Author.Needs.{needs}
 use Rattle.book.proofs.seen.mark.Statement.{statement}
 use Rattle.book.proofs.seen.mark.Tie as tie

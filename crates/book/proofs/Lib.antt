@@ -15,3 +15,4 @@ pub mod Unique
 pub mod Counting
 pub mod Finding
 pub mod Answers
+pub mod Examples

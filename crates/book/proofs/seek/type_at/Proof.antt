@@ -1,0 +1,32 @@
+-- `book::seek::type_at` meets its contract: past the end there is no type. Assumes nothing.
+use Rattle.book.proofs.Searching.{type-past}
+use Rattle.book.specs.Search.{bodyAt, typeAt}
+use mathlib.Core.Path.{sym, ap, _∙_}
+use Prim.Native.Nat.{ℕ}
+use borrow.Author.Needs.{needs}
+use Rattle.book.proofs.seek.type_at.Statement.{statement}
+use Rattle.book.proofs.seek.type_at.Tie as tie
+
+slice-aggregate-result : tie.Need-slice-aggregate-result
+slice-aggregate-result c = search needs
+
+returns : tie.Need-returns
+returns c = sym (type-past (c .before .before .before .args .s .now) (c .before .before .before .args .from) (c .before .if1 .taken))
+
+add-after : tie.Need-add-after
+add-after c = search needs
+
+after-requires : tie.Need-after-requires
+after-requires c κs = search needs
+
+body-at-requires : tie.Need-body-at-requires
+body-at-requires c κs = search needs
+
+returns-2 : tie.Need-returns-2
+unfolding typeAt
+returns-2 c = c .body-at .ensures ∙ ap (λ (n : ℕ). bodyAt 5 (c .before .before .before .before .args .s .now) n) (c .before .after .ensures)
+
+pub type-at-spec : {M : Type 1} → statement M
+type-at-spec =
+    tie.close
+    (tie.spec slice-aggregate-result returns add-after after-requires body-at-requires returns-2)

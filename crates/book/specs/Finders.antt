@@ -1,0 +1,111 @@
+-- The finders, as functions of places: a table, an entry, a range or a value is the place of its tag byte in the book.
+-- Assumes nothing.
+use Prim.Native.Nat.{ℕ, zero, suc, _+_, _<_}
+use mathlib.Core.Path.{_≡_}
+use mathlib.Core.Bool.{cond}
+use mathlib.Core.List.{List, [], _∷_, _++_}
+use lib.Dec.{eqb}
+use lib.ListN.{length, take}
+use Rattle.text.specs.declared.place.Found.{Found}
+use Rattle.text.specs.declared.place.Found.the-variants.{At, Nothing}
+use Rattle.tlv.specs.Grammar.{Piece, All}
+use Rattle.tlv.specs.Reading.{Part, Stands, between, pieceOf, fieldAt, parts}
+use Rattle.book.specs.declared.Uuid.{Uuid}
+use Rattle.book.specs.declared.seek.Want.{Want}
+use Rattle.book.specs.declared.seek.Want.the-variants as W
+use Rattle.book.specs.Search.{atField, after, nameAt, typeAt, firstWanted}
+
+-- ---- what is meant
+
+module _ (s : List ℕ) {X : Type 0} (piece : X → Piece) where
+  -- the field of a value stands at a place of the text
+  pub record StandsAt (x : X) (place : ℕ) : Type 0 where
+    pub part : Part
+    pub stands : Stands s part
+    pub is : piece x ≡ pieceOf s part
+    pub here : part .at ≡ place
+
+  -- of some values the first that is so: its field stands at the place, and none before it is so
+  pub record FirstSo (So : X → Type 0) (xs : List X) (place : ℕ) : Type 0 where
+    pub before : List X
+    pub value : X
+    pub behind : List X
+    pub among : xs ≡ before ++ (value ∷ behind)
+    pub so : So value
+    pub none-before : All (λ x. So x → ⊥) before
+    pub at : StandsAt value place
+
+  -- an answer by place: 0 just where none is so, else the place of the first that is
+  pub record Finds (So : X → Type 0) (xs : List X) (answer : ℕ) : Type 0 where
+    pub none : answer ≡ 0 → All (λ x. So x → ⊥) xs
+    pub first : 0 < answer → FirstSo So xs answer
+
+-- ---- the one answer
+
+-- a place for an answer, 0 for nothing
+abbrev pub placeOf : Found → ℕ
+placeOf (At p) = p
+placeOf Nothing = 0
+
+-- where the fields inside a body start: behind the kind byte, behind the UUID, behind name and type, behind the name
+unfoldable pub innerFrom : ℕ → List ℕ → ℕ → ℕ
+innerFrom tag s from =
+    cond (eqb tag 1) (from + 1)
+    (cond (eqb tag 2) (from + 16)
+    (cond (eqb tag 3) (after 5 s (after 4 s (from + 2)))
+    (cond (eqb tag 6) (after 4 s (from + 2))
+    (length s))))
+
+-- the first wanted field inside the field at a place
+unfoldable pub seekOf : Want → List ℕ → List ℕ → ℕ → Found
+seekOf want key s place =
+    atField (λ tag from to. firstWanted want key (take to s) (innerFrom tag (take to s) from)) Nothing (fieldAt s place)
+
+-- how many fields stand inside the field at a place
+unfoldable pub countInside : List ℕ → ℕ → ℕ
+countInside s place =
+    atField (λ tag from to. length (parts (take to s) (innerFrom tag (take to s) from))) 0 (fieldAt s place)
+
+-- the place of the field with so many before it, 0 for none
+abbrev pub nthPlace : ℕ → List Part → ℕ
+nthPlace k [] = 0
+nthPlace zero (p ∷ l) = p .at
+nthPlace (suc k) (p ∷ l) = nthPlace k l
+
+-- the field with so many before it inside the field at a place
+unfoldable pub nthInside : List ℕ → ℕ → ℕ → ℕ
+nthInside s place k =
+    atField (λ tag from to. nthPlace k (parts (take to s) (innerFrom tag (take to s) from))) 0 (fieldAt s place)
+
+-- the control table of a kind
+abbrev pub controlTable : List ℕ → ℕ → Found
+controlTable s kind = firstWanted (W.Kind kind) [] s 0
+
+-- the table of a UUID; the all-zero UUID's is the header table
+abbrev pub uuidTable : List ℕ → Uuid → Found
+uuidTable s uuid = firstWanted (W.Uuid uuid) [] s 0
+
+-- the first entry of an offset in a table
+abbrev pub entryOfOffset : List ℕ → ℕ → ℕ → ℕ
+entryOfOffset s table offset = placeOf (seekOf (W.Offset offset) [] s table)
+
+-- the first entry of an offset and a type in a table, where the empty type is no type
+abbrev pub entryOfType : List ℕ → ℕ → ℕ → List ℕ → ℕ
+entryOfType s table offset type = placeOf (seekOf (W.Typed offset) type s table)
+
+-- the first bit range of a name in an entry
+abbrev pub rangeOfName : List ℕ → ℕ → List ℕ → ℕ
+rangeOfName s entry name = placeOf (seekOf W.Range name s entry)
+
+-- the value of a number in a bit range
+abbrev pub valueOfNumber : List ℕ → ℕ → ℕ → ℕ
+valueOfNumber s range n = placeOf (seekOf (W.Value n) [] s range)
+
+-- the name of an entry, a bit range or a value, empty where it has none
+unfoldable pub nameOf : List ℕ → ℕ → List ℕ
+nameOf s place =
+    atField (λ tag from to. cond (eqb tag 7) (between s (from + 4) to) (nameAt (take to s) from)) [] (fieldAt s place)
+
+-- the type of an entry, empty where it has none
+unfoldable pub typeOf : List ℕ → ℕ → List ℕ
+typeOf s place = atField (λ tag from to. typeAt (take to s) from) [] (fieldAt s place)

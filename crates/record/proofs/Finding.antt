@@ -42,7 +42,6 @@ pub record Spanned (t : List ℕ) (tag from to : ℕ) (ps : List Part) : Type 0 
   pub tag-is : part .tag ≡ tag
   pub from-is : part .from ≡ from
   pub to-is : part .to ≡ to
-  pub piece : lookup tag (map (pieceOf t) ps) ≡ some (between t from to)
 
 module _ (t : List ℕ) (tag : ℕ) where
   pub spanned : (ps : List Part) → All (Stands t) ps → {from to : ℕ} → spanAmong tag ps ≡ At from to → Spanned t tag from to ps
@@ -61,7 +60,6 @@ module _ (t : List ℕ) (tag : ℕ) where
             tag-is = eqb-true (p .tag) tag h;
             from-is = a;
             to-is = b;
-            piece = rw (h, a, b);
           }
       go false h rest =
           let r : Spanned t tag from to ps = rest (rw h at e) in
@@ -71,7 +69,6 @@ module _ (t : List ℕ) (tag : ℕ) where
             tag-is = r .tag-is;
             from-is = r .from-is;
             to-is = r .to-is;
-            piece = rw h (r .piece);
           }
 
   -- a field that is found lies within the text

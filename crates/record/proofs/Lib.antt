@@ -3,3 +3,8 @@ pub mod Texts
 pub mod Judging
 pub mod Slots
 pub mod Answers
+pub mod Rows
+pub mod Bodies
+pub mod Complete
+pub mod Sound
+pub mod Records

@@ -2,6 +2,7 @@
 pub mod Grammar
 pub mod Rule
 pub mod Judging
+pub mod Conditions
 pub mod Finding
 pub mod Gathering
 pub mod Reading

@@ -1,0 +1,4 @@
+pub mod Puts
+pub mod Checks
+pub mod Items
+pub mod Writes

@@ -127,27 +127,102 @@ module _ (v : EntryValue) (r : Ranged v) where
 
   rows-are-good : (task : ℕ) → task ≡ length (v .task) → GoodRows task 0 (rowsOf v)
   unfolding rowsOf ruleOf
-  rows-are-good task e =
-    (omega arith, refl, task-fits task,
-    (omega arith, refl, number-fits task Four 0xffffffff (v .pid) (r .pid) (omega (arith, r .pid)),
-    (omega arith, refl, number-fits task Two 999 (v .cpu) (omega (arith, r .cpu)) (r .cpu),
-    (omega arith, refl, number-fits task Eight 0x7fffffffffffffff (v .seconds) (omega (arith, r .seconds)) (omega (arith, r .seconds)),
-    (omega arith, refl, number-fits task Eight 0x7fffffffffffffff (v .microseconds) (omega (arith, r .microseconds)) (omega (arith, r .microseconds)),
-    (omega arith, refl, (λ b k. rw e (function-fits b k)),
-    (omega arith, refl, number-fits task One 12 (v .kind) (omega (arith, r .kind)) (r .kind),
-    (omega arith, refl, number-fits task Two 0xffff (v .size) (r .size) (omega (arith, r .size)),
-    (omega arith, refl, number-fits task One 1 (flag (v .dropped)) (omega (arith, flag-small (v .dropped))) (flag-small (v .dropped)),
-    (omega arith, refl, number-fits task Four 0xffffffff (v .domain) (r .domain) (omega (arith, r .domain)),
-    (omega arith, refl, number-fits task Eight 0xffffffffffffffff (v .route) (r .route) (omega (arith, r .route)),
-    (omega arith, refl, maybe-fits task Two 0xffff (v .offset) (r .offset) (λ n h. omega (arith, h)),
-    (omega arith, refl, maybe-fits task One 0xff (v .code) (r .code) (λ n h. omega (arith, h)),
-    (omega arith, refl, maybe-fits task Two 0xffff (v .len) (r .len) (λ n h. omega (arith, h)),
-    (omega arith, refl, maybe-fits task One 0xff (v .port) (r .port) (λ n h. omega (arith, h)),
-    (omega arith, refl, maybe-fits task One 0xff (v .config) (r .config) (λ n h. omega (arith, h)),
-    (omega arith, refl, maybe-fits task One 0xff (v .seq) (r .seq) (λ n h. omega (arith, h)),
-    (omega arith, refl, maybe-fits task One 0xff (v .unplug) (r .unplug) (λ n h. omega (arith, h)),
-    (omega arith, refl, dwords-fit task,
-    tt)))))))))))))))))))
+  rows-are-good task e = (
+    omega arith,
+    refl,
+    task-fits task,
+    (
+      omega arith,
+      refl,
+      number-fits task Four 0xffffffff (v .pid) (r .pid) (omega (arith, r .pid)),
+      (
+        omega arith,
+        refl,
+        number-fits task Two 999 (v .cpu) (omega (arith, r .cpu)) (r .cpu),
+        (
+          omega arith,
+          refl,
+          number-fits task Eight 0x7fffffffffffffff (v .seconds) (omega (arith, r .seconds)) (omega (arith, r .seconds)),
+          (
+            omega arith,
+            refl,
+            number-fits task Eight 0x7fffffffffffffff (v .microseconds) (omega (arith, r .microseconds)) (omega (arith, r .microseconds)),
+            (
+              omega arith,
+              refl,
+              (λ b k. rw e (function-fits b k)),
+              (
+                omega arith,
+                refl,
+                number-fits task One 12 (v .kind) (omega (arith, r .kind)) (r .kind),
+                (
+                  omega arith,
+                  refl,
+                  number-fits task Two 0xffff (v .size) (r .size) (omega (arith, r .size)),
+                  (
+                    omega arith,
+                    refl,
+                    number-fits task One 1 (flag (v .dropped)) (omega (arith, flag-small (v .dropped))) (flag-small (v .dropped)),
+                    (
+                      omega arith,
+                      refl,
+                      number-fits task Four 0xffffffff (v .domain) (r .domain) (omega (arith, r .domain)),
+                      (
+                        omega arith,
+                        refl,
+                        number-fits task Eight 0xffffffffffffffff (v .route) (r .route) (omega (arith, r .route)),
+                        (
+                          omega arith,
+                          refl,
+                          maybe-fits task Two 0xffff (v .offset) (r .offset) (λ n h. omega (arith, h)),
+                          (
+                            omega arith,
+                            refl,
+                            maybe-fits task One 0xff (v .code) (r .code) (λ n h. omega (arith, h)),
+                            (
+                              omega arith,
+                              refl,
+                              maybe-fits task Two 0xffff (v .len) (r .len) (λ n h. omega (arith, h)),
+                              (
+                                omega arith,
+                                refl,
+                                maybe-fits task One 0xff (v .port) (r .port) (λ n h. omega (arith, h)),
+                                (
+                                  omega arith,
+                                  refl,
+                                  maybe-fits task One 0xff (v .config) (r .config) (λ n h. omega (arith, h)),
+                                  (
+                                    omega arith,
+                                    refl,
+                                    maybe-fits task One 0xff (v .seq) (r .seq) (λ n h. omega (arith, h)),
+                                    (
+                                      omega arith,
+                                      refl,
+                                      maybe-fits task One 0xff (v .unplug) (r .unplug) (λ n h. omega (arith, h)),
+                                      (
+                                        omega arith,
+                                        refl,
+                                        dwords-fit task,
+                                        tt,
+                                      ),
+                                    ),
+                                  ),
+                                ),
+                              ),
+                            ),
+                          ),
+                        ),
+                      ),
+                    ),
+                  ),
+                ),
+              ),
+            ),
+          ),
+        ),
+      ),
+    ),
+  )
 
 -- the task is the first field
 pub task-size : (t : List ℕ) (v : EntryValue) → drop 3 t ≡ fieldsBytes (present (rowsOf v)) → taskSize t ≡ length (v .task)

@@ -176,11 +176,11 @@ flag-forth n h = go (eqb n 1) refl
     go true e = sym (eqb-true n 1 e)
     go false e = omega (arith, eqb-false n 1 e)
 
-task-byte : (b : ℕ) → isLetter L.Task b ≡ true → (b < 128) × (b ≡ 32 → ⊥)
+pub task-byte : (b : ℕ) → isLetter L.Task b ≡ true → (b < 128) × (b ≡ 32 → ⊥)
 unfolding isLetter
 task-byte b e = (ltb-true b 128 (both-right (not (eqb b 32)) _ e), eqb-false b 32 (not-true (eqb b 32) (both-left _ _ e)))
 
-function-byte : (b : ℕ) → isLetter L.Function b ≡ true → isWord b ≡ true
+pub function-byte : (b : ℕ) → isLetter L.Function b ≡ true → isWord b ≡ true
 unfolding isLetter
 function-byte b e = e
 

@@ -2,3 +2,4 @@ pub mod Puts
 pub mod Checks
 pub mod Items
 pub mod Writes
+pub mod RoundTrips

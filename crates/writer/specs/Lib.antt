@@ -2,4 +2,5 @@
 pub mod Put
 pub mod Item
 pub mod Ranges
+pub mod Typed
 pub mod Writing

@@ -27,7 +27,14 @@ pub fn put_fields(out: &mut [u8], at: usize, text: &[u8], e: Entry, dwords: &[u3
 }
 
 // A field, nothing where it is absent.
-pub fn put_item(out: &mut [u8], at: usize, tag: u8, item: Item, text: &[u8], dwords: &[u32]) -> usize
+pub fn put_item(
+    out: &mut [u8],
+    at: usize,
+    tag: u8,
+    item: Item,
+    text: &[u8],
+    dwords: &[u32],
+) -> usize
     requires { ⌜ ItemLies item (now text) (now dwords) × (at + length (itemBytes tag item (now text) (now dwords)) ≤ length (now out)) ⌝ }
     ensures { λ r. ⌜ Put (now (out .entry)) at (itemBytes tag item (now (text .entry)) (now (dwords .entry))) r (now (out .exit)) ⌝ }
 {
@@ -40,7 +47,14 @@ pub fn put_item(out: &mut [u8], at: usize, tag: u8, item: Item, text: &[u8], dwo
 }
 
 // A field whose body is a part of the text.
-pub fn put_text_field(out: &mut [u8], at: usize, tag: u8, text: &[u8], from: usize, len: usize) -> usize
+pub fn put_text_field(
+    out: &mut [u8],
+    at: usize,
+    tag: u8,
+    text: &[u8],
+    from: usize,
+    len: usize,
+) -> usize
     requires { ⌜ (from + len ≤ length (now text)) × (len < 65536) × (at + (len + 3) ≤ length (now out)) ⌝ }
     ensures { λ r. ⌜ Put (now (out .entry)) at (fieldBytes tag (partOf (now (text .entry)) from len)) r (now (out .exit)) ⌝ }
 {

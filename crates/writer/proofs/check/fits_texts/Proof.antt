@@ -26,13 +26,13 @@ returns-2 c = rw (sym (c .before .before .before .fits-part .ensures) ∙ not-fa
 returns-3 : tie.Need-returns-3
 unfolding fitsTexts
 returns-3 c =
-        let h : 4096 < c .before .before .before .before .before .before .before .args .e .«task_len» + c .before .before .before .before .before .before .before .args .e .«function_len» = omega (arith, c .if3 .taken) in
+    let h : 4096 < c .before .before .before .before .before .before .before .args .e .«task_len» + c .before .before .before .before .before .before .before .args .e .«function_len» = omega (arith, c .if3 .taken) in
     rw (sym (c .before .before .before .before .before .fits-part .ensures) ∙ not-false _ (c .before .before .before .before .if1 .left), sym (c .before .before .before .fits-part2 .ensures) ∙ not-false _ (c .before .before .if2 .left), lt-leb _ _ h)
 
 returns-4 : tie.Need-returns-4
 unfolding fitsTexts
 returns-4 c =
-        rw (sym (c .before .before .before .before .before .before .before .fits-part .ensures) ∙ not-false _ (c .before .before .before .before .before .before .if1 .left), sym (c .before .before .before .before .before .fits-part2 .ensures) ∙ not-false _ (c .before .before .before .before .if2 .left)) (together-same _ _ (c .before .before .if3 .left))
+    rw (sym (c .before .before .before .before .before .before .before .fits-part .ensures) ∙ not-false _ (c .before .before .before .before .before .before .if1 .left), sym (c .before .before .before .before .before .fits-part2 .ensures) ∙ not-false _ (c .before .before .before .before .if2 .left)) (together-same _ _ (c .before .before .if3 .left))
 
 pub fits-texts-spec : {M : Type 1} → statement M
 fits-texts-spec =

@@ -1,0 +1,10 @@
+pub mod Finding
+pub mod Texts
+pub mod Judging
+pub mod Slots
+pub mod Answers
+pub mod Rows
+pub mod Bodies
+pub mod Complete
+pub mod Sound
+pub mod Records

@@ -1,0 +1,139 @@
+-- The promises of reading: with 256 slots a text is accepted exactly if it is a record, and its entry is the one that the record is of; a record has
+-- one reading and at most 5,227 bytes; a refusal changes nothing. Assumes nothing.
+use Prim.Native.Nat.{ℕ, _+_, _*_, _≤_, _<_}
+use mathlib.Core.Path.{_≡_, _∙_, sym, ap, refl}
+use mathlib.Core.Bool.{Bool, true, false, cond}
+use mathlib.Core.List.{List, _++_}
+use mathlib.Core.Logic.{_↔_}
+use mathlib.Core.Option.{Option, some, none, Option·map}
+use native.Mathlib.Omega.{arith}
+use borrow.Author.Tests.{eqb-true, eq-eqb, le-leb, leb-true}
+use lib.Dec.{eqb, leb}
+use lib.ListN.{length, take, drop, length-append, length-drop}
+use lib.Seq.{take-append-seam}
+use Rattle.tlv.specs.Number.{Bytes, numberBytes}
+use Rattle.tlv.specs.Grammar.{fieldsBytes}
+use Rattle.tlv.proofs.Numbers.{number-bytes-length}
+use Rattle.tlv.proofs.Pieces.{field-bytes-length}
+use Rattle.entry.specs.declared.Entry.{Entry}
+use Rattle.entry.specs.Entry.{EntryValue, partOf, valueOf, Lies}
+use Rattle.entry.proofs.Parts.{part-in}
+use Rattle.record.specs.declared.Answer.{Answer}
+use Rattle.record.specs.declared.Answer.the-variants as A
+use Rattle.record.specs.Grammar.{rowsOf, present, recordBytes, Ranged, IsRecord}
+use Rattle.record.specs.Judging.{refusalOf}
+use Rattle.record.specs.Finding.{placeOf}
+use Rattle.record.specs.Gathering.{entryOf}
+use Rattle.record.specs.Reading.{over, dwordCount, dwordsOf, readOf, slotsBy, Reading}
+use Rattle.record.proofs.Rows.{sizeOf, sizesOf, present-length}
+use Rattle.record.proofs.Bodies.{dwords-bytes-length}
+use Rattle.record.proofs.Complete.{valueIn, part-all, record-not-refused, record-dword-count, record-dwords, record-value}
+use Rattle.record.proofs.Sound.{Passes, passes-all, passes-is, dwords-count, places-lie}
+
+-- a text is accepted as v: reading answers an entry whose parts lie in the text and the slots as left, and which says v
+pub record Accepts (t slots : List ℕ) (v : EntryValue) : Type 0 where
+  pub entry : Entry
+  pub answer : readOf t (length slots) ≡ A.Entry entry
+  pub lies : Lies entry t (over (dwordsOf t) slots)
+  pub value : valueOf entry t (over (dwordsOf t) slots) ≡ v
+
+-- the dwords of a text lie over the first slots
+module _ (ds slots : List ℕ) where
+  over-length : length ds ≤ length (over ds slots)
+  over-length = omega (arith, length-append ds (drop (length ds) slots))
+
+  over-part : partOf (over ds slots) 0 (length ds) ≡ ds
+  over-part = sym (part-in (over ds slots) 0 (length ds) (omega (arith, over-length))) ∙ take-append-seam ds (drop (length ds) slots)
+
+-- an entry that is read is the one of the text's fields
+entry-answered : (t : List ℕ) (n : ℕ) (e : Entry) → readOf t n ≡ A.Entry e → (refusalOf t ≡ 0) × (dwordCount t ≤ n) × (entryOf t ≡ e)
+unfolding readOf
+entry-answered t n e h = go (eqb (refusalOf t) 0) (leb (dwordCount t) n) refl refl h
+  where
+    go : (x y : Bool) → eqb (refusalOf t) 0 ≡ x → leb (dwordCount t) n ≡ y
+        → cond x (cond y (A.Entry (entryOf t)) (A.Refused 35)) (A.Refused (refusalOf t)) ≡ A.Entry e
+        → (refusalOf t ≡ 0) × (dwordCount t ≤ n) × (entryOf t ≡ e)
+    go false y a b h = absurd (let z : _≡_ {A = ℕ} 0 1 = cc in omega arith)
+    go true false a b h = absurd (let z : _≡_ {A = ℕ} 0 1 = cc in omega arith)
+    go true true a b h = (eqb-true (refusalOf t) 0 a, leb-true (dwordCount t) n b, (cc))
+
+-- the value of the entry with the slots as left is the value that the fields give
+slots-value : (t slots : List ℕ) → length (dwordsOf t) ≡ dwordCount t → valueOf (entryOf t) t (over (dwordsOf t) slots) ≡ valueIn t
+unfolding valueIn valueOf entryOf dwordCount
+slots-value t slots e =
+    let words : partOf (over (dwordsOf t) slots) 0 (dwordCount t) ≡ partOf (dwordsOf t) 0 (dwordCount t) =
+    ap (partOf (over (dwordsOf t) slots) 0) (sym e) ∙ over-part (dwordsOf t) slots ∙ sym (part-all (dwordsOf t) (dwordCount t) (sym e)) in
+    rw words
+
+-- with 256 slots a text is accepted as v exactly if it is the record of v
+pub record-accepted-exactly : (t : List ℕ) → Bytes t → (slots : List ℕ) → 256 ≤ length slots → (v : EntryValue) → Accepts t slots v ↔ IsRecord t v
+unfolding readOf
+record-accepted-exactly t bytes slots room v = (is, all)
+  where
+    is : Accepts t slots v → IsRecord t v
+    is a =
+        let h = entry-answered t (length slots) (a .entry) (a .answer) in
+        let p : Passes t = passes-all t (h .0) in
+        let e : valueIn t ≡ v =
+        sym (slots-value t slots (dwords-count t bytes p))
+        ∙ ap (λ (r : Entry). valueOf r t (over (dwordsOf t) slots)) (h .2)
+        ∙ a .value in
+        rw (← e) (passes-is t bytes p)
+
+    all : IsRecord t v → Accepts t slots v
+    all r =
+        let none-refused : refusalOf t ≡ 0 = record-not-refused t v r in
+        let p : Passes t = passes-all t none-refused in
+        let count : length (dwordsOf t) ≡ dwordCount t = dwords-count t bytes p in
+        let fits : dwordCount t ≤ length slots = omega (arith, record-dword-count t v r, r .ranged .few) in
+        record {
+          entry = entryOf t;
+          answer = rw (none-refused, le-leb (dwordCount t) (length slots) fits);
+          lies = places-lie t bytes p (over (dwordsOf t) slots) (omega (arith, over-length (dwordsOf t) slots, count));
+          value = slots-value t slots count ∙ record-value t v r;
+        }
+
+-- a record has one reading
+pub one-record-reading : (t : List ℕ) (v w : EntryValue) → IsRecord t v → IsRecord t w → v ≡ w
+one-record-reading t v w a b = sym (record-value t v a) ∙ record-value t w b
+
+optional-size : (k : ℕ) (o : Option ℕ) → sizeOf (Option·map (numberBytes k) o) ≤ k + 3
+optional-size k none = omega arith
+optional-size k (some n) = omega (arith, number-bytes-length k n)
+
+-- a record has at most 5,227 bytes
+pub record-at-most-5227 : (t : List ℕ) (v : EntryValue) → IsRecord t v → length t ≤ 5227
+unfolding recordBytes rowsOf
+record-at-most-5227 t v r =
+    let whole : length t ≡ length (fieldsBytes (present (rowsOf v))) + 3 =
+    ap length (sym (r .bytes)) ∙ field-bytes-length 0xA1 (fieldsBytes (present (rowsOf v))) in
+    let b04 : (n : ℕ) → length (numberBytes 4 n) ≡ 4 = number-bytes-length 4 in
+    omega (
+      arith,
+      whole,
+      present-length (rowsOf v),
+      r .ranged .together,
+      r .ranged .few,
+      dwords-bytes-length (v .dwords),
+      number-bytes-length 4 (v .pid),
+      number-bytes-length 2 (v .cpu),
+      number-bytes-length 8 (v .seconds),
+      number-bytes-length 8 (v .microseconds),
+      number-bytes-length 1 (v .kind),
+      number-bytes-length 2 (v .size),
+      number-bytes-length 1 (cond (v .dropped) 1 0),
+      number-bytes-length 4 (v .domain),
+      number-bytes-length 8 (v .route),
+      optional-size 2 (v .offset),
+      optional-size 1 (v .code),
+      optional-size 2 (v .len),
+      optional-size 1 (v .port),
+      optional-size 1 (v .config),
+      optional-size 1 (v .seq),
+      optional-size 1 (v .unplug),
+    )
+
+-- a refusal changes nothing
+pub refused-reading-changes-nothing : (t slots : List ℕ) (n : ℕ) (left : List ℕ) → Reading t slots (A.Refused n) left → left ≡ slots
+unfolding slotsBy
+refused-reading-changes-nothing t slots n left r = r .slots-left

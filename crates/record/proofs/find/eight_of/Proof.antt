@@ -1,0 +1,32 @@
+-- `find::eight_of` meets its contract. Assumes nothing.
+use Rattle.tlv.proofs.Numbers.{number-one}
+use Rattle.record.specs.Finding.{numberOf, maybeOf}
+use native.Mathlib.Omega.{arith}
+use borrow.Author.Needs.{needs}
+use Rattle.record.proofs.find.eight_of.Statement.{statement}
+use Rattle.record.proofs.find.eight_of.Tie as tie
+
+span-of-requires : tie.Need-span-of-requires
+span-of-requires c κs = search needs
+
+enum-known-span : tie.Need-enum-known-span
+enum-known-span c = search needs
+
+eight-at-requires : tie.Need-eight-at-requires
+eight-at-requires c κs = search needs
+
+enum-told : tie.Need-enum-told
+enum-told c = search needs
+
+returns : tie.Need-returns
+unfolding numberOf maybeOf
+returns c = rw (← c .before .before .before .before .span-of .ensures, c .before .before .span .given .1) (c .eight-at .ensures .is)
+
+returns-2 : tie.Need-returns-2
+unfolding numberOf maybeOf
+returns-2 c = rw (← c .before .before .span-of .ensures, c .enum-told .given .1)
+
+pub eight-of-spec : {M : Type 1} → statement M
+eight-of-spec =
+    tie.close
+    (tie.spec span-of-requires enum-known-span eight-at-requires enum-told returns returns-2)

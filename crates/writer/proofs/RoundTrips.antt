@@ -1,0 +1,213 @@
+-- The promises of writing: number 37 is the ranges and the parts; what is written reads back to the same entry; every record is what writing its entry
+-- gives; a refusal changes nothing. Assumes nothing.
+use Prim.Native.Nat.{ℕ, zero, suc, _+_, _-_, _^_, _≤_, _<_}
+use mathlib.Core.Path.{_≡_, _∙_, sym, ap, refl}
+use mathlib.Core.Bool.{Bool, true, false, cond, _&&_}
+use mathlib.Core.List.{List, [], _∷_, _++_}
+use mathlib.Core.Logic.{_↔_}
+use native.Mathlib.Omega.{arith}
+use native.Mathlib.Decide.{decLt}
+use borrow.Author.Tests.{le-leb, leb-true}
+use lib.Dec.{leb}
+use lib.ListN.{length, getD, take, drop, length-drop, length-take, List·getD-eq-default}
+use lib.Seq.{take-append-seam, getD-take, getD-drop, length-take-le}
+use Rattle.text.specs.Class.{isWord}
+use Rattle.tlv.specs.Number.{Bytes as AreBytes}
+use Rattle.tlv.specs.Grammar.{All}
+use Rattle.tlv.specs.Reading.{between}
+use Rattle.tlv.proofs.Places.{between-is, bytes-take}
+use Rattle.entry.specs.declared.Entry.{Entry}
+use Rattle.entry.specs.Entry.{EntryValue, partOf, byteValue, wordValue, valueOf, Lies, SameEntry}
+use Rattle.entry.proofs.Parts.{part-in}
+use Rattle.record.specs.declared.Answer.the-variants as A
+use Rattle.record.specs.declared.rule.Letters.the-variants as L
+use Rattle.record.specs.Grammar.{recordBytes, TaskText, FunctionText, Ranged, IsRecord}
+use Rattle.record.specs.Rule.{isLetter, fitsText}
+use Rattle.record.specs.Reading.{over, dwordsOf, readOf}
+use Rattle.record.proofs.Bodies.{fits-text-is, fits-text-all}
+use Rattle.record.proofs.Complete.{task-letter, function-letter}
+use Rattle.record.proofs.Sound.{task-byte, function-byte}
+use Rattle.record.proofs.Records.{Accepts, record-accepted-exactly, record-at-most-5227}
+use Rattle.writer.specs.declared.Written.{Written}
+use Rattle.writer.specs.declared.Written.the-variants.{Bytes, Refused}
+use Rattle.writer.specs.Ranges.{fitsPart, fitsTexts, fitsNumbers, writable}
+use Rattle.writer.specs.Typed.{Typed}
+use Rattle.writer.specs.Writing.{bytesOf, writeOf, bufferBy, Writing}
+use Rattle.writer.proofs.Puts.{part-length}
+use Rattle.writer.proofs.Writes.{Fits, fits-all}
+
+-- a part of the text, both ways of cutting it
+part-between : (l : List ℕ) (at n : ℕ) → at + n ≤ length l → between l at (at + n) ≡ partOf l at n
+part-between l at n h =
+    let e : at + n - at ≡ n = omega arith in
+    between-is l at (at + n) ∙ rw e (part-in l at n h)
+
+below-all : (l : List ℕ) → ((i : ℕ) → getD l i 0 < 2 ^ 32) → All (λ d. d < 2 ^ 32) l
+below-all [] h = tt
+below-all (d ∷ l) h = (h 0, below-all l (λ i. h (suc i)))
+
+-- a part of dwords is dwords
+below-part : (l : List ℕ) (n : ℕ) → n ≤ length l → ((i : ℕ) → getD l i 0 < 2 ^ 32) → All (λ d. d < 2 ^ 32) (partOf l 0 n)
+below-part l n h b =
+    rw (← part-in l 0 n (omega arith))
+    (below-all (take n l)
+    (λ i.
+    elim (decLt i n) [
+      | yes k ↦ rw (getD-take n l i 0 k) (b i)
+      | no k ↦ rw (List·getD-eq-default (take n l) 0 {n = i} (rw (length-take n l) (omega arith))) (omega arith)
+    ]))
+
+module _ (text : List ℕ) (e : Entry) (dwords : List ℕ) where
+  -- number 37 is not due: the entry's parts lie in what is lent, and it keeps the record's ranges
+  pub record Writable : Type 0 where
+    pub lies : Lies e text dwords
+    pub ranged : Ranged (valueOf e text dwords)
+
+  writable-is : Typed e dwords → writable text e dwords ≡ true → Writable
+  unfolding valueOf
+  writable-is t h =
+      let f : Fits text e dwords = fits-all text e dwords h in
+      let task : partOf text (e .«task_at») (e .«task_len») ≡ between text (e .«task_at») (e .«task_at» + e .«task_len») =
+      sym (part-between text (e .«task_at») (e .«task_len») (f .lies .task)) in
+      let function : partOf text (e .«function_at») (e .«function_len») ≡ between text (e .«function_at») (e .«function_at» + e .«function_len») =
+      sym (part-between text (e .«function_at») (e .«function_len») (f .lies .function)) in
+      let tt-task = fits-text-is (isLetter L.Task) (λ b. (b < 128) × (b ≡ 32 → ⊥)) task-byte (between text (e .«task_at») (e .«task_at» + e .«task_len»)) (f .task) in
+      let tt-function =
+      fits-text-is (isLetter L.Function) (λ b. isWord b ≡ true) function-byte (between text (e .«function_at») (e .«function_at» + e .«function_len»)) (f .function) in
+      record {
+        lies = f .lies;
+        ranged =
+            record {
+              task = record { some = rw task (tt-task .0); letters = rw task (tt-task .1) };
+              pid = t .pid;
+              cpu = f .cpu;
+              seconds = omega (arith, f .seconds);
+              microseconds = omega (arith, f .microseconds);
+              function = record { some = rw function (tt-function .0); letters = rw function (tt-function .1) };
+              together =
+                  omega (
+                    arith,
+                    f .together,
+                    part-length text (e .«task_at») (e .«task_len») (f .lies .task),
+                    part-length text (e .«function_at») (e .«function_len») (f .lies .function),
+                  );
+              kind = f .kind;
+              size = t .size;
+              domain = t .domain;
+              route = t .route;
+              offset = t .offset;
+              code = t .code;
+              len = t .len;
+              port = t .port;
+              config = t .config;
+              seq = t .seq;
+              unplug = t .unplug;
+              dwords = below-part dwords (e .dwords) (f .lies .dwords) (t .dword);
+              few = omega (arith, f .few, part-length dwords 0 (e .dwords) (omega (arith, f .lies .dwords)));
+            };
+      }
+
+  part-fits : (ok : ℕ → Bool) (P : ℕ → Type 0) → ((b : ℕ) → P b → ok b ≡ true) → (at n : ℕ) → at + n ≤ length text → 0 < length (partOf text at n)
+      → All P (partOf text at n) → fitsPart ok text at n ≡ true
+  unfolding fitsPart
+  part-fits ok P g at n h some letters =
+      rw (le-leb (at + n) (length text) h, part-between text at n h) (fits-text-all ok P g (partOf text at n) some letters)
+
+  writable-all : Writable → writable text e dwords ≡ true
+  unfolding writable fitsTexts fitsNumbers valueOf
+  writable-all w =
+      let l = w .lies in
+      let r = w .ranged in
+      let sum : e .«task_len» + e .«function_len» ≤ 4096 =
+      omega (
+        arith,
+        r .together,
+        part-length text (e .«task_at») (e .«task_len») (l .task),
+        part-length text (e .«function_at») (e .«function_len») (l .function),
+      ) in
+      let few : e .dwords ≤ 256 = omega (arith, r .few, part-length dwords 0 (e .dwords) (omega (arith, l .dwords))) in
+      let seconds : e .seconds ≤ 0x7fffffffffffffff = omega (arith, r .seconds) in
+      let microseconds : e .microseconds ≤ 0x7fffffffffffffff = omega (arith, r .microseconds) in
+      rw (
+        part-fits (isLetter L.Task) (λ b. (b < 128) × (b ≡ 32 → ⊥)) task-letter (e .«task_at») (e .«task_len») (l .task) (r .task .some) (r .task .letters),
+        part-fits (isLetter L.Function) (λ b. isWord b ≡ true) function-letter (e .«function_at») (e .«function_len») (l .function) (r .function .some) (r .function .letters),
+        le-leb (e .«task_len» + e .«function_len») 4096 sum,
+        le-leb (e .cpu) 999 (r .cpu),
+        le-leb (e .seconds) 0x7fffffffffffffff seconds,
+        le-leb (e .microseconds) 0x7fffffffffffffff microseconds,
+        le-leb (e .kind) 12 (r .kind),
+        le-leb (e .dwords) 256 few,
+        le-leb (e .dwords) (length dwords) (l .dwords),
+      )
+
+  -- number 37 is due exactly if the entry breaks the ranges or its parts lie outside what is lent
+  pub writable-exactly : Typed e dwords → (writable text e dwords ≡ true) ↔ Writable
+  writable-exactly t = (writable-is t, writable-all)
+
+-- an answer that is bytes: the entry was writable, and the bytes are the record's
+bytes-answered : (text : List ℕ) (e : Entry) (dwords : List ℕ) (room n : ℕ) → writeOf text e dwords room ≡ Bytes n
+    → (writable text e dwords ≡ true) × (length (bytesOf text e dwords) ≤ room) × (length (bytesOf text e dwords) ≡ n)
+unfolding writeOf
+bytes-answered text e dwords room n h =
+    go (writable text e dwords) (leb (length (bytesOf text e dwords)) room) refl refl h
+  where
+    go : (x y : Bool) → writable text e dwords ≡ x → leb (length (bytesOf text e dwords)) room ≡ y
+        → cond x (cond y (Bytes (length (bytesOf text e dwords))) (Refused 36)) (Refused 37) ≡ Bytes n
+        → (writable text e dwords ≡ true) × (length (bytesOf text e dwords) ≤ room) × (length (bytesOf text e dwords) ≡ n)
+    go false y a b h = absurd (let z : _≡_ {A = ℕ} 0 1 = cc in omega arith)
+    go true false a b h = absurd (let z : _≡_ {A = ℕ} 0 1 = cc in omega arith)
+    go true true a b h = (a, leb-true (length (bytesOf text e dwords)) room b, (cc))
+
+-- what was written is a record, and the record of what the entry says
+pub written-is-record : (text : List ℕ) (e : Entry) (dwords out : List ℕ) (n : ℕ) (left : List ℕ)
+    → Typed e dwords → Writing text e dwords out (Bytes n) left → IsRecord (take n left) (valueOf e text dwords)
+unfolding bytesOf bufferBy
+written-is-record text e dwords out n left t w =
+    let h = bytes-answered text e dwords (length out) n (sym (w .answer)) in
+    let r : Writable text e dwords = writable-is text e dwords t (h .0) in
+    let first : take n left ≡ recordBytes (valueOf e text dwords) =
+    ap (λ (m : ℕ). take m left) (sym (h .2))
+    ∙ ap (take (length (recordBytes (valueOf e text dwords)))) (w .buffer)
+    ∙ take-append-seam (recordBytes (valueOf e text dwords)) (drop (length (recordBytes (valueOf e text dwords))) out) in
+    record { ranged = r .ranged; bytes = sym first }
+
+-- what was written reads back, with 256 slots, to the same entry
+pub record ReadsBack (text : List ℕ) (e : Entry) (dwords t slots : List ℕ) : Type 0 where
+  pub entry : Entry
+  pub answer : readOf t (length slots) ≡ A.Entry entry
+  pub same : SameEntry e text dwords entry t (over (dwordsOf t) slots)
+
+pub record-reads-back : (text : List ℕ) (e : Entry) (dwords out : List ℕ) (n : ℕ) (left slots : List ℕ)
+    → Typed e dwords → AreBytes left → Writing text e dwords out (Bytes n) left → 256 ≤ length slots
+    → ReadsBack text e dwords (take n left) slots
+record-reads-back text e dwords out n left slots t bytes w room =
+    let h = bytes-answered text e dwords (length out) n (sym (w .answer)) in
+    let r : Writable text e dwords = writable-is text e dwords t (h .0) in
+    let a : Accepts (take n left) slots (valueOf e text dwords) =
+    record-accepted-exactly (take n left) (bytes-take left n bytes) slots room (valueOf e text dwords) .1
+    (written-is-record text e dwords out n left t w) in
+    record {
+      entry = a .entry;
+      answer = a .answer;
+      same = record { first-lies = r .lies; second-lies = a .lies; same = sym (a .value) };
+    }
+
+-- every record that is accepted is the writer's output for its entry: written from the record's own text and the slots as left, with room enough, it
+-- gives the record's bytes again
+pub record-writes-back : (t slots : List ℕ) → AreBytes t → 256 ≤ length slots → (v : EntryValue) (a : Accepts t slots v)
+    → (room : ℕ) → 5227 ≤ room
+    → (writeOf t (a .entry) (over (dwordsOf t) slots) room ≡ Bytes (length t)) × (bytesOf t (a .entry) (over (dwordsOf t) slots) ≡ t)
+unfolding writeOf bytesOf
+record-writes-back t slots bytes enough v a room h =
+    let r : IsRecord t v = record-accepted-exactly t bytes slots enough v .0 a in
+    let made : recordBytes (valueOf (a .entry) t (over (dwordsOf t) slots)) ≡ t = ap recordBytes (a .value) ∙ r .bytes in
+    let w : Writable t (a .entry) (over (dwordsOf t) slots) = record { lies = a .lies; ranged = rw (a .value) (r .ranged) } in (
+      rw (writable-all t (a .entry) (over (dwordsOf t) slots) w, made, le-leb (length t) room (omega (arith, record-at-most-5227 t v r))),
+      made,
+    )
+
+-- a refusal changes nothing
+pub refused-writing-changes-nothing : (text : List ℕ) (e : Entry) (dwords out : List ℕ) (k : ℕ) (left : List ℕ)
+    → Writing text e dwords out (Refused k) left → left ≡ out
+unfolding bufferBy
+refused-writing-changes-nothing text e dwords out k left w = w .buffer

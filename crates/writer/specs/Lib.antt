@@ -1,0 +1,6 @@
+-- What the contracts of `writer` cite: what is written at a place, the body of each tag, number 37, and the answer.
+pub mod Put
+pub mod Item
+pub mod Ranges
+pub mod Typed
+pub mod Writing

@@ -1,0 +1,39 @@
+// The record of an entry, written.
+//
+//     write     an entry's record into a lent buffer
+//     check     number 37
+//     item      the body of each tag, from the entry
+//     put       bytes, numbers, dwords and fields at a place of a buffer
+pub mod check;
+pub mod item;
+pub mod put;
+
+use crate::check::is_writable;
+use crate::item::record_size;
+use crate::put::put_fields;
+use crate::put::put_head;
+use entry::Entry;
+ghost use Rattle.writer.specs.Writing.{Writing};
+
+// How many bytes were written, or document 01's number.
+pub enum Written {
+    Bytes(usize),
+    Refused(u8),
+}
+
+// The record of the entry, whose task and function lie in the text and whose dwords are the first of the dwords, into the first bytes of the
+// buffer; no others change. Refusals: 37, then 36. They leave the buffer as found.
+pub fn write(text: &[u8], e: Entry, dwords: &[u32], out: &mut [u8]) -> Written
+    ensures { λ r. ⌜ Writing (now (text .entry)) e (now (dwords .entry)) (now (out .entry)) r (now (out .exit)) ⌝ }
+{
+    if !is_writable(text, e, dwords) {
+        return Written::Refused(37);
+    }
+    let size = record_size(e);
+    if out.len() < size {
+        return Written::Refused(36);
+    }
+    let at = put_head(out, 0, 0xA1, size - 3);
+    put_fields(out, at, text, e, dwords);
+    Written::Bytes(size)
+}

@@ -6,7 +6,6 @@ use mathlib.Core.List.{[], _∷_}
 use mathlib.Core.Option.{some}
 use Rattle.text.specs.declared.number.Number.the-variants as N
 use Rattle.text.specs.declared.number.HexAnswer.the-variants as X
-use Rattle.text.specs.declared.place.Found.the-variants as F
 use Rattle.text.specs.Number.{hexOf}
 use Rattle.text.specs.Quote.{bytes}
 use Rattle.text.proofs.Cases.{case-P9}
@@ -16,23 +15,28 @@ use Rattle.entry.specs.declared.events.Event.the-variants.{LinkRecovery, Unknow
 use Rattle.entry.specs.Event.{eventOf}
 use Rattle.entry.proofs.Cases.{case-P1}
 use Rattle.header.specs.declared.stamp.Stamp.the-variants as S
-use Rattle.header.specs.Dash.{taskOf, pidOf}
+use Rattle.header.specs.Dash.{Task, pidOf}
+use Rattle.header.proofs.Dashes.{task-is}
 use Rattle.header.specs.Stamp.{stampOf}
 use Rattle.header.proofs.Cases.{case-P2, case-P3}
-use Rattle.pairs.specs.Pair.{pairsFrom, decimalOf}
+use Rattle.pairs.specs.Pair.{pairsFrom, lastPair, decimalOf}
+use Rattle.pairs.specs.declared.pair.Span.the-variants.{At}
 use Rattle.pairs.specs.Data.{dataOf}
 use Rattle.pairs.proofs.PairLists.{placed}
-use Rattle.pairs.proofs.Cases.{case-P4, case-P5, case-P6, case-P7, case-P8}
+use Rattle.pairs.proofs.Cases.{case-P4, case-P5, case-P6}
+use mathlib.Core.Bool.{false}
+use Rattle.entry.specs.declared.optional.MaybeByte.the-variants as B
+use Rattle.entry.specs.declared.optional.MaybeWord.the-variants as W
 use Rattle.scan.specs.declared.Answer.the-variants as A
 use Rattle.scan.specs.Parse.{parseOf}
-use Rattle.scan.proofs.Cases.{refused-P8}
+use Rattle.scan.proofs.Cases.{accepted-P7, refused-P8}
 
 pub record Cases : Type 0 where
   -- P1: code 38 is link recovery, 3 unknown
   pub P1-named : eventOf 38 ≡ LinkRecovery
   pub P1-unknown : eventOf 3 ≡ Unknown 3
   -- P2: run `a-1-b`: task `a-1`, pid 1
-  pub P2-task : taskOf (bytes "a-1-b") ≡ F.At 3
+  pub P2-task : Task (bytes "a-1-b") (bytes "a-1")
   pub P2-pid : pidOf (bytes "a-1-b") ≡ N.Value 1
   -- P3: `12.34.56: f`: 34 s, 56 µs
   pub P3 : stampOf (bytes "12.34.56: f") ≡ S.At 34 56
@@ -41,9 +45,10 @@ pub record Cases : Type 0 where
   -- P5: `size=1 size=2`: 2
   pub P5 : decimalOf (bytes "size=1 size=2") (bytes "size") 0xffff ≡ N.Value 2
   -- P6: `data=[0x1, zz, 0x2]`: 1, 2
-  pub P6 : dataOf (bytes "[0x1, zz, 0x2]") ≡ some (1 ∷ 2 ∷ [])
+  pub P6-value : lastPair (bytes "data=[0x1, zz, 0x2]") (bytes "data") ≡ At 5 19
+  pub P6-dwords : dataOf (bytes "[0x1, zz, 0x2]") ≡ some (1 ∷ 2 ∷ [])
   -- P7: `data=[0x1,0x2]`: no dwords, accepted
-  pub P7 : dataOf (bytes "[0x1,0x2]") ≡ some []
+  pub P7 : parseOf (bytes "a-1 [002] 1.2: f: type=t size=3 domain=0 route=0 data=[0x1,0x2]") 256 ≡ A.Entry (record { «task_at» = 0; «task_len» = 1; pid = 1; cpu = 2; seconds = 1; microseconds = 2; «function_at» = 15; «function_len» = 1; kind = 0; size = 3; dropped = false; domain = 0; route = 0; offset = W.Absent; code = B.Absent; len = W.Absent; port = B.Absent; config = B.Absent; seq = B.Absent; unplug = B.Absent; dwords = 0 })
   -- P8: `data=[]`: 15
   pub P8 : parseOf (bytes "a-1 [002] 1.2: f: type=t size=3 domain=0 route=0 data=[]") 256 ≡ A.Refused 15
   -- P9: hex 16: `ffff` read, `10000` not
@@ -59,7 +64,7 @@ cases =
     record {
       P1-named = case-P1 .link-recovery;
       P1-unknown = case-P1 .unknown;
-      P2-task = case-P2 .task;
+      P2-task = task-is (bytes "a-1-b") (case-P2 .task);
       P2-pid = case-P2 .pid;
       P3 = case-P3;
       P4 = case-P4;

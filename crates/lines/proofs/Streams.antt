@@ -180,3 +180,32 @@ module _ (s : List ℕ) (from : ℕ) (line : List ℕ) (held : ℕ) (exit : List
 
         open-leaves : (d : List ℕ) → left (length line) (take held line) (d ++ []) ≡ left (length line) (take (length line) (take held line ++ d)) [] → left (length line) (take held line) d ≡ take (length line) (take held line ++ d)
         open-leaves d q = ap (left (length line) (take held line)) (sym (append-nil d)) ∙ q ∙ left-nothing (length line) _
+
+-- every stream has lines
+more-lines : (b : ℕ) (s : List ℕ) (ls : List (List ℕ)) → (b ≡ 10 → ⊥) → Lines s ls → (ms : List (List ℕ)) × Lines (b ∷ s) ms
+more-lines b s ls n Lines.none =
+    ((b ∷ []) ∷ [], Lines.last (b ∷ []) (omega arith) (alone b n))
+  where
+    alone : (b : ℕ) → (b ≡ 10 → ⊥) → Bare (b ∷ [])
+    alone b n zero h e = n e
+    alone b n (suc k) h e = absurd (omega arith)
+more-lines b s ls n (Lines.last l some bare) =
+    ((b ∷ l) ∷ [], Lines.last (b ∷ l) (omega arith) (longer bare))
+  where
+    longer : Bare l → Bare (b ∷ l)
+    longer f zero h e = n e
+    longer f (suc k) h e = f k (omega arith) e
+more-lines b s ls n (Lines.next l r {ls = rest} bare e more) =
+    (((b ∷ l) ++ (10 ∷ [])) ∷ rest, Lines.next (b ∷ l) r (longer bare) (ap (λ (t : List ℕ). b ∷ t) e) more)
+  where
+    longer : Bare l → Bare (b ∷ l)
+    longer f zero h q = n q
+    longer f (suc k) h q = f k (omega arith) q
+
+pub has-lines : (s : List ℕ) → (ls : List (List ℕ)) × Lines s ls
+has-lines [] = ([], Lines.none)
+has-lines (b ∷ s) = go (eqb b 10) refl (has-lines s)
+  where
+    go : (t : Bool) → eqb b 10 ≡ t → ((ls : List (List ℕ)) × Lines s ls) → (ms : List (List ℕ)) × Lines (b ∷ s) ms
+    go true q r = ((10 ∷ []) ∷ r .0, Lines.next [] s (λ k h e. absurd (omega arith)) (ap (λ (x : ℕ). x ∷ s) (eqb-true b 10 q)) (r .1))
+    go false q r = more-lines b s (r .0) (λ e. clash (eq-eqb b 10 e) q) (r .1)

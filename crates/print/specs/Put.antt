@@ -4,7 +4,7 @@ use mathlib.Core.Path.{_≡_}
 use mathlib.Core.Bool.{cond}
 use mathlib.Core.List.{List}
 use lib.Dec.{leb}
-use lib.ListN.{length, drop}
+use lib.ListN.{length, take, drop, replicate}
 use lib.Seq.{sets}
 use Rattle.text.specs.Decimal.{decimalText}
 
@@ -21,8 +21,9 @@ pub record Placed (out : List ℕ) (at : ℕ) (s exit : List ℕ) (r : ℕ) : Ty
   pub buffer : exit ≡ bufferAfter out at s
   pub place : r ≡ placeAfter out at s
 
--- the digits of a number stand at the end of the bytes
+-- the digits of a number stand at the end of the bytes, behind zeros
 pub record Digits (n : ℕ) (bytes : List ℕ) (from : ℕ) : Type 0 where
   pub size : length bytes ≡ 20
   pub within : from < 20
+  pub front : take from bytes ≡ replicate from 48
   pub is : drop from bytes ≡ decimalText n

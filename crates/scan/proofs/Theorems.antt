@@ -1,21 +1,21 @@
--- The promises of the line, as an auditor looks for them: accepted exactly when it belongs to the grammar, each number exactly when it
+-- The promises of the line, as an auditor looks for them: given 256 slots, accepted exactly when it belongs to the grammar; each number exactly when it
 -- applies first, one reading, no second answer. All follow from `judge` and from each field having one value. Assumes nothing.
 use Prim.Native.Nat.{ℕ, zero, suc, _+_, _-_, _^_, _≤_, _<_}
 use mathlib.Core.Path.{_≡_, refl, sym, ap, _∙_}
 use mathlib.Core.Bool.{Bool, true, false, cond}
-use mathlib.Core.List.{List, []}
+use mathlib.Core.List.{List, [], _++_}
 use mathlib.Core.Logic.{_↔_}
 use mathlib.Core.Option.{Option, some, none}
 use native.Mathlib.Omega.{arith}
 use lib.Dec.{eqb}
-use lib.ListN.{length}
+use lib.ListN.{length, drop}
 use borrow.Author.Tests.{eqb-true}
 use Rattle.text.specs.Number.{Decimal, HexNumber}
 use Rattle.text.specs.Quote.{bytes}
 use Rattle.text.proofs.Places.{by-order}
 use Rattle.text.proofs.Numbers.{one-number, one-hex}
 use Rattle.entry.specs.declared.Entry.{Entry}
-use Rattle.entry.specs.Entry.{EntryValue, valueOf}
+use Rattle.entry.specs.Entry.{EntryValue, partOf, valueOf}
 use Rattle.entry.specs.Kind.{kindOf}
 use Rattle.header.proofs.Dashes.{one-task, one-pid}
 use Rattle.header.proofs.Cpus.{one-cpu}
@@ -28,9 +28,10 @@ use Rattle.pairs.proofs.Slots.{one-data}
 use Rattle.scan.specs.declared.Answer.{Answer}
 use Rattle.scan.specs.declared.Answer.the-variants as A
 use Rattle.scan.specs.Frame.{Split}
-use Rattle.scan.specs.Parse.{parseOf, lineDwords, slotsBy, Parsed}
+use Rattle.scan.specs.Parse.{parseOf, lineDwords, slotsBy, Parsed, numberOfAnswer}
 use Rattle.scan.specs.Line.{KeyText, KeyDecimal, KeyHex, Optional, Dropped, Kind, Dwords, Line, Missing, Has, MoreThan, Condition, Applies}
 use Rattle.scan.proofs.Splits.{split-colon, one-header, one-payload}
+use Rattle.scan.proofs.Values.{dwords-part, dwords-whole}
 use Rattle.scan.proofs.Chain.{Clear, Answered}
 use Rattle.scan.proofs.Judged.{Says, judge}
 
@@ -207,6 +208,45 @@ number-10-never t room q =
     let a = line-number-exactly t room 10 .0 q in
     let h : Has t WithoutEquals = a .holds in
     no-pair-without-equals (h .payload) (h .there)
+
+-- the same through the number of an answer, which is 0 for an entry alone
+pub line-number-is : (t : List ℕ) (room k : ℕ) → 0 < k → (numberOfAnswer (parseOf t room) ≡ k) ↔ Applies t room k
+unfolding numberOfAnswer
+line-number-is t room k positive = (λ q. line-number-exactly t room k .0 (mp (parseOf t room) q), λ a. ap numberOfAnswer (line-number-exactly t room k .1 a))
+  where
+    mp : (r : Answer) → numberOfAnswer r ≡ k → r ≡ A.Refused k
+    mp (A.Entry e) q = absurd (omega arith)
+    mp (A.Refused j) q = ap A.Refused q
+
+entry-says : (t : List ℕ) (room : ℕ) {e : Entry} → parseOf t room ≡ A.Entry e → Says t e
+entry-says t room {e} q = go (parseOf t room) (judge t room) q
+  where
+    go : (r : Answer) → Answered t room (Says t) r → r ≡ A.Entry e → Says t e
+    go r (Answered.refused k a) n = absurd (let z : _≡_ {A = ℕ} 0 1 = cc in omega arith)
+    go r (Answered.entry f c s) n = let same : f ≡ e = cc in rw same at s
+
+-- what a call of `parse` leaves behind: its entry says what the line says, and the slots hold its dwords from the first, the rest as found
+pub record Handed (t out exit : List ℕ) (e : Entry) : Type 0 where
+  pub line : Line t (valueOf e t exit)
+  pub count : e .dwords ≡ length (valueOf e t exit .dwords)
+  pub slots : exit ≡ valueOf e t exit .dwords ++ drop (e .dwords) out
+
+pub parsed-entry : (t out : List ℕ) {exit : List ℕ} {e : Entry} → Parsed t out exit (A.Entry e) → Handed t out exit e
+unfolding slotsBy valueOf
+parsed-entry t out {exit} {e} p =
+    let s : Says t e = entry-says t (length out) (sym (p .answer)) in
+    let whole : partOf (lineDwords t) 0 (e .dwords) ≡ lineDwords t = rw (s .count) (dwords-whole (lineDwords t)) in
+    let now : partOf exit 0 (e .dwords) ≡ lineDwords t = rw (p .slots, s .count) (dwords-part (lineDwords t) out) in
+    record {
+      line = rw now (rw whole at (s .line));
+      count = rw now (s .count);
+      slots = rw (now, s .count) (p .slots);
+    }
+
+-- a refusal is the first number that applies, and no slot is touched
+pub parsed-refused : (t out : List ℕ) {exit : List ℕ} {k : ℕ} → Parsed t out exit (A.Refused k) → Applies t (length out) k × (exit ≡ out)
+unfolding slotsBy
+parsed-refused t out p = (line-number-exactly t (length out) _ .0 (sym (p .answer)), p .slots)
 
 -- no second answer satisfies the contract, slots included
 pub no-second-answer : (t out : List ℕ) {exit exit′ : List ℕ} {r r′ : Answer} → Parsed t out exit r → Parsed t out exit′ r′ → (r ≡ r′) × (exit ≡ exit′)

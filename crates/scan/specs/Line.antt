@@ -112,7 +112,8 @@ pub record Stamped (header : List ℕ) : Type 0 where
   pub microseconds : ℕ
   pub timestamp : Timestamp header seconds microseconds
 
--- when a number applies, given the number of slots: the table of document 01; no other number does
+-- when a number applies, given the number of slots: the table of document 01; no other number does. From 5 on the conditions speak of
+-- the header and payload, so without a colon some hold of nothing: 4 comes first there
 unfoldable pub Condition : List ℕ → ℕ → ℕ → Type 0
 Condition t room k =
     cond (eqb k 1) (Idle t)

@@ -1,4 +1,4 @@
--- Decimal and hex numbers: what is meant, for any base and any limit, and the one answer.
+-- Decimal and hex numbers: what is meant, for any base up to 16 and any limit, and the one answer.
 use Prim.Native.Nat.{ℕ, _+_, _*_, _-_, _≤_, _<_}
 use mathlib.Core.Path.{_≡_}
 use mathlib.Core.Bool.{Bool, true, false, cond, _&&_}

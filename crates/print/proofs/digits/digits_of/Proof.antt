@@ -1,5 +1,4 @@
 -- `digits::digits_of` meets its contract: the digits so far are a `Counted`. Assumes nothing.
-use lib.ListN.{length-replicate}
 use Rattle.print.proofs.Counting.{Counted, counted-starts, counted-goes-on, counted-steps, counted-ends}
 use Prim.Native.Nat.{ℕ, _+_, _^_, _<_}
 use borrow.Author.Needs.{needs}
@@ -14,7 +13,7 @@ abbrev μ-loop : tie.MeasureT-loop
 μ-loop n bytes₀ rest₀ i₀ bytes rest i = i
 
 loop-holds : tie.Need-loop-holds Inv-loop μ-loop
-loop-holds c = counted-starts _ _ (length-replicate {A = ℕ} 20 48) (omega (arith, c .fits .n))
+loop-holds c = counted-starts _ (omega (arith, c .fits .n))
 
 cast-bytes : tie.Need-cast-bytes Inv-loop μ-loop
 cast-bytes c = search needs

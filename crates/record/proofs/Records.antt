@@ -93,6 +93,10 @@ record-accepted-exactly t bytes slots room v = (is, all)
           value = slots-value t slots count ∙ record-value t v r;
         }
 
+-- whatever was accepted is a record
+pub accepted-is-record : (t : List ℕ) → Bytes t → (n : ℕ) (e : Entry) → readOf t n ≡ A.Entry e → IsRecord t (valueIn t)
+accepted-is-record t bytes n e q = passes-is t bytes (passes-all t (entry-answered t n e q .0))
+
 -- a record has one reading
 pub one-record-reading : (t : List ℕ) (v w : EntryValue) → IsRecord t v → IsRecord t w → v ≡ w
 one-record-reading t v w a b = sym (record-value t v a) ∙ record-value t w b

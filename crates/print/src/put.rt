@@ -1,4 +1,4 @@
-// Bytes, numbers and hex into a lent buffer.
+// Bytes and numbers into a lent buffer.
 use crate::digits::digits_of;
 ghost use mathlib.Core.Path.{_≡_};
 ghost use Rattle.text.specs.Decimal.{decimalText};

@@ -1,3 +1,4 @@
 -- The laws of putting text.
 pub mod Counting
 pub mod Copying
+pub mod Hexing

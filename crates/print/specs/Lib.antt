@@ -1,2 +1,3 @@
 -- What the contracts of `print` cite.
 pub mod Put
+pub mod Hex

@@ -1,0 +1,12 @@
+// The reader as a C call.
+use scan::Answer;
+use scan::parse;
+
+// 0 for an entry, whose dwords stand in the first slots; else the number that refuses the line.
+#[no_mangle]
+pub extern "C" fn ck_parse(line: &[u8], slots: &mut [u32]) -> u8 {
+    match parse(line, slots) {
+        Answer::Entry(_) => 0,
+        Answer::Refused(number) => number,
+    }
+}

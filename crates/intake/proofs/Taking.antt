@@ -1,0 +1,32 @@
+-- Record or line: the first byte decides, and each side's contract is the intake's. Assumes nothing.
+use Prim.Native.Nat.{ℕ}
+use mathlib.Core.Path.{_≡_, refl, sym, ap, _∙_}
+use mathlib.Core.List.{List}
+use lib.ListN.{length, getD}
+use borrow.Author.Tests.{eq-eqb, ne-eqb}
+use Rattle.entry.specs.declared.Entry.{Entry}
+use Rattle.scan.specs.declared.Answer.{Answer}
+use Rattle.scan.specs.declared.Answer.the-variants as A
+use Rattle.scan.specs.Parse as Line
+use Rattle.record.specs.declared.Answer as Record
+use Rattle.record.specs.declared.Answer.the-variants as R
+use Rattle.record.specs.Reading as Reading
+use Rattle.intake.specs.Intake.{startsA1, fromRecord, takenOf, takenDwords, Taken, RecordTaken}
+
+module _ (t out : List ℕ) {exit : List ℕ} where
+  pub taken-record : {r : Answer} → getD t 0 0 ≡ 0xA1 → RecordTaken t out exit r → Taken t out exit r
+  unfolding takenOf takenDwords startsA1
+  taken-record e p = record { answer = p .answer ∙ rw (eq-eqb _ _ e); slots = p .slots ∙ rw (eq-eqb _ _ e) }
+
+  pub taken-line : {r : Answer} → (getD t 0 0 ≡ 0xA1 → ⊥) → Line.Parsed t out exit r → Taken t out exit r
+  unfolding takenOf takenDwords startsA1
+  taken-line n p = record { answer = p .answer ∙ rw (ne-eqb _ _ n); slots = p .slots ∙ rw (ne-eqb _ _ n) }
+
+  module _ {q : Record.Answer} (read : Reading.Reading t out q exit) where
+    pub record-entry : {e : Entry} → q ≡ R.Entry e → RecordTaken t out exit (A.Entry e)
+    unfolding fromRecord Line.slotsBy Reading.slotsBy
+    record-entry e = record { answer = rw (← read .answer, e); slots = read .slots-left ∙ rw e }
+
+    pub record-refused : {k : ℕ} → q ≡ R.Refused k → RecordTaken t out exit (A.Refused k)
+    unfolding fromRecord Line.slotsBy Reading.slotsBy
+    record-refused e = record { answer = rw (← read .answer, e); slots = read .slots-left ∙ rw e }

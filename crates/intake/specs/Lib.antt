@@ -1,0 +1,2 @@
+-- What the intake answers.
+pub mod Intake

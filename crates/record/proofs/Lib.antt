@@ -8,3 +8,4 @@ pub mod Bodies
 pub mod Complete
 pub mod Sound
 pub mod Records
+pub mod Numbers

@@ -43,13 +43,13 @@ abbrev pub Lacks : ℕ → List Piece → Type 0
 Lacks tag [] = Unit {0}
 Lacks tag (p ∷ ps) = (p .tag ≡ tag → ⊥) × Lacks tag ps
 
--- what each number says of a text
-pub data Breaks (t : List ℕ) : ℕ → Type 0 where
-  frame : (Framed t → ⊥) → Breaks t 30
-  runs-past : (at : ℕ) (ps : List Piece) → GoodUpTo t at ps → RunsPast t at → Breaks t 31
-  tag : (at : ℕ) (ps : List Piece) (tag from to : ℕ) → GoodUpTo t at ps → FieldAt t at tag from to
-      → (lastTag 0 ps < tag → isKnown (ruleOf tag) ≡ true → ⊥) → Breaks t 32
-  missing : (ps : List Piece) (tag : ℕ) → GoodUpTo t (length t) ps → List·Memᴰ tag requiredTags → Lacks tag ps → Breaks t 33
-  body : (at : ℕ) (ps : List Piece) (tag from to : ℕ) → GoodUpTo t at ps → FieldAt t at tag from to
+-- what each number says of a text: 30; field by field 31, 32, 34; then 33
+pub data Breaks (t : List ℕ) (k : ℕ) : Type 0 where
+  unframed : k ≡ 30 → (Framed t → ⊥) → Breaks t k
+  runs-past : k ≡ 31 → (at : ℕ) (ps : List Piece) → GoodUpTo t at ps → RunsPast t at → Breaks t k
+  wrong-tag : k ≡ 32 → (at : ℕ) (ps : List Piece) (tag from to : ℕ) → GoodUpTo t at ps → FieldAt t at tag from to
+      → (lastTag 0 ps < tag → isKnown (ruleOf tag) ≡ true → ⊥) → Breaks t k
+  wrong-body : k ≡ 34 → (at : ℕ) (ps : List Piece) (tag from to : ℕ) → GoodUpTo t at ps → FieldAt t at tag from to
       → lastTag 0 ps < tag → isKnown (ruleOf tag) ≡ true
-      → (fitsRule (ruleOf tag) (taskSize t) (between t from to) ≡ true → ⊥) → Breaks t 34
+      → (fitsRule (ruleOf tag) (taskSize t) (between t from to) ≡ true → ⊥) → Breaks t k
+  lacks-tag : k ≡ 33 → (ps : List Piece) (tag : ℕ) → GoodUpTo t (length t) ps → List·Memᴰ tag requiredTags → Lacks tag ps → Breaks t k

@@ -5,6 +5,7 @@ use Prim.Native.Nat.{ℕ, suc, _+_, _≤_, _<_}
 use mathlib.Core.Path.{_≡_, _∙_, sym, ap, subst, refl}
 use mathlib.Core.Bool.{Bool, true, false, cond, _&&_}
 use mathlib.Core.List.{List, [], _∷_, _++_, map}
+use mathlib.Core.Option.{Option}
 use native.Mathlib.Nat.{add-zero}
 use native.Mathlib.Omega.{arith}
 use borrow.Author.Tests.{eqb-true, eq-eqb}
@@ -27,6 +28,8 @@ use Rattle.book.specs.declared.Uuid.{Uuid}
 use Rattle.book.specs.declared.seek.Want.{Want}
 use Rattle.book.specs.declared.seek.Want.the-variants as W
 use Rattle.book.specs.Grammar.{
+  Name,
+  Optional,
   Value,
   GoodValue,
   valuePiece,
@@ -66,9 +69,9 @@ use Rattle.book.specs.Finders.{
 use Rattle.book.proofs.Inside.{number-back, textOf}
 use Rattle.book.proofs.Values.{value-tag, value-number}
 use Rattle.book.proofs.Ranges.{ReadRange, range-reads}
-use Rattle.book.proofs.Entries.{behindOffset, ReadEntry, entry-reads, entry-tag, entry-offset, entry-type}
+use Rattle.book.proofs.Entries.{behindOffset, ReadEntry, entry-reads, entry-tag, entry-offset, entry-type, same-option}
 use Rattle.book.proofs.Tables.{ownerWant, ownerSize, owner-back, table-told, table-wanted}
-use Rattle.book.proofs.Finding.{Says, search-is, finds-inside}
+use Rattle.book.proofs.Finding.{Says, search-is, finds-is}
 
 -- ---- tables
 
@@ -155,11 +158,11 @@ module _ {X : Type 0} (piece : X → Piece) (s : List ℕ) (x : X) (place : ℕ)
     seek-finds : (want : Want) (key : List ℕ) (So : Y → Type 0)
         → ((p : Part) (y : Y) → PartOf piece′ Good′ body p y → wanted want key body p ≡ true → So y)
         → ((p : Part) (y : Y) → PartOf piece′ Good′ body p y → So y → wanted want key body p ≡ true)
-        → Finds s piece′ So ys (placeOf (seekOf want key s place))
+        → Finds body piece′ So ys (placeOf (seekOf want key s place))
     unfolding seekOf firstWanted body
     seek-finds want key So told wants =
         rw (field-there, starts)
-        (finds-inside piece′ s (a .part .to) Good′ (wanted want key body) So ys start some
+        (finds-is piece′ Good′ body (wanted want key body) So ys start some
         (search-is piece′ Good′ body (wanted want key body) So told wants start (record { values = ys; good = good; bytes = made })))
 
     -- as many fields stand inside as there are values
@@ -193,8 +196,8 @@ module _ (s : List ℕ) (t : Table) (place : ℕ) (good : GoodTable t) (a : Stan
       (body-is tablePiece s t place a)
 
   -- the first entry of an offset, whatever its type
-  pub entry-of-offset-is : (o : ℕ) → Finds s entryPiece (λ e. e .offset ≡ o) (t .entries) (entryOfOffset s place o)
-  unfolding wanted fits entries-start
+  pub entry-of-offset-is : (o : ℕ) → Finds (take (a .part .to) s) entryPiece (λ e. e .offset ≡ o) (t .entries) (entryOfOffset s place o)
+  unfolding wanted fits entries-start body
   entry-of-offset-is o =
       seek-finds tablePiece s t place a entryPiece GoodEntry (t .entries) (good .entries-good) entries-start entries-some
       (inner-table (t .owner) (body tablePiece s t place a) (a .part .from)) entries-made (W.Offset o) [] (λ e. e .offset ≡ o)
@@ -206,32 +209,33 @@ module _ (s : List ℕ) (t : Table) (place : ℕ) (good : GoodTable t) (a : Stan
       let u : List ℕ = body tablePiece s t place a in
       rw (eq-eqb (p .tag) 3 (entry-tag u p e q)) (eq-eqb (number 2 (take (p .to) u) (p .from)) o (entry-offset u p e q ∙ h)))
 
-  -- the first entry of an offset and a type, where an empty text is no type
-  pub entry-of-type-is : (o : ℕ) (type : List ℕ)
-      → Finds s entryPiece (λ e. (e .offset ≡ o) × (textOf (e .type) ≡ type)) (t .entries) (entryOfType s place o type)
-  unfolding wanted fits entries-start
-  entry-of-type-is o type =
+  -- the first entry of an offset and a type, or of an offset and no type; the text asked for is empty for no type
+  pub entry-of-type-is : (o : ℕ) (type : Option (List ℕ)) → Optional Name type
+      → Finds (take (a .part .to) s) entryPiece (λ e. (e .offset ≡ o) × (e .type ≡ type)) (t .entries) (entryOfType s place o (textOf type))
+  unfolding wanted fits entries-start body
+  entry-of-type-is o type named =
       seek-finds tablePiece s t place a entryPiece GoodEntry (t .entries) (good .entries-good) entries-start entries-some
-      (inner-table (t .owner) (body tablePiece s t place a) (a .part .from)) entries-made (W.Typed o) type
-      (λ e. (e .offset ≡ o) × (textOf (e .type) ≡ type))
+      (inner-table (t .owner) (body tablePiece s t place a) (a .part .from)) entries-made (W.Typed o) (textOf type)
+      (λ e. (e .offset ≡ o) × (e .type ≡ type))
       (λ p e q h.
       let u : List ℕ = body tablePiece s t place a in
       let number-test : Bool = eqb (number 2 (take (p .to) u) (p .from)) o in
-      let text-test : Bool = sameText (typeAt (take (p .to) u) (p .from)) type in
+      let text-test : Bool = sameText (typeAt (take (p .to) u) (p .from)) (textOf type) in
       let w = both-true (eqb (p .tag) 3) (number-test && text-test) h in
       let v = both-true number-test text-test (w .1) in (
         sym (entry-offset u p e q) ∙ eqb-true (number 2 (take (p .to) u) (p .from)) o (v .0),
-        sym (entry-type u p e q) ∙ same-true (typeAt (take (p .to) u) (p .from)) type (v .1),
+        same-option (e .type) type (q .good .type-good) named
+            (sym (entry-type u p e q) ∙ same-true (typeAt (take (p .to) u) (p .from)) (textOf type) (v .1)),
       ))
       (λ p e q h.
       let u : List ℕ = body tablePiece s t place a in
+      let text : typeAt (take (p .to) u) (p .from) ≡ textOf type = entry-type u p e q ∙ ap textOf (h .1) in
       rw (
         eq-eqb (p .tag) 3 (entry-tag u p e q),
         eq-eqb (number 2 (take (p .to) u) (p .from)) o (entry-offset u p e q ∙ h .0),
-        entry-type u p e q,
-        h .1,
+        text,
       )
-      (same-refl type))
+      (same-refl (textOf type)))
 
   -- the number of a table's entries, of every offset and type
   pub count-entries-is : countInside s place ≡ length (t .entries)
@@ -280,8 +284,8 @@ module _ (s : List ℕ) (e : Entry) (place : ℕ) (good : GoodEntry e) (a : Stan
   entry-type-is = rw (field-there entryPiece s e place a) (entry-read .type-read .text)
 
   -- the first bit range of a name
-  pub range-of-name-is : (name : List ℕ) → Finds s rangePiece (λ r. r .name ≡ name) (e .ranges) (rangeOfName s place name)
-  unfolding wanted fits nameAt
+  pub range-of-name-is : (name : List ℕ) → Finds (take (a .part .to) s) rangePiece (λ r. r .name ≡ name) (e .ranges) (rangeOfName s place name)
+  unfolding wanted fits nameAt body
   range-of-name-is name =
       seek-finds entryPiece s e place a rangePiece GoodRange (e .ranges) (good .ranges-good) ranges-start ranges-some
       ranges-inner ranges-made W.Range name (λ r. r .name ≡ name)
@@ -341,8 +345,8 @@ module _ (s : List ℕ) (r : Range) (place : ℕ) (good : GoodRange r) (a : Stan
   range-name-is = rw (field-there rangePiece s r place a) (range-read .name-is)
 
   -- the value of a number
-  pub value-of-number-is : (n : ℕ) → Finds s valuePiece (λ v. v .number ≡ n) (r .values) (valueOfNumber s place n)
-  unfolding wanted fits
+  pub value-of-number-is : (n : ℕ) → Finds (take (a .part .to) s) valuePiece (λ v. v .number ≡ n) (r .values) (valueOfNumber s place n)
+  unfolding wanted fits body
   value-of-number-is n =
       seek-finds rangePiece s r place a valuePiece GoodValue (r .values) (good .values-good) values-start values-some
       values-inner values-made (W.Value n) [] (λ v. v .number ≡ n)

@@ -1,7 +1,7 @@
 -- The finders on a book of the grammar: each answers the first table, entry, range or value that document 01 names, and what it reads there is
 -- the value's own. The field at a place is the value's, what stands inside it is made from the values inside, and a search finds the first.
 -- Assumes nothing.
-use Prim.Native.Nat.{ℕ, suc, _+_, _≤_, _<_}
+use Prim.Native.Nat.{ℕ, zero, suc, _+_, _≤_, _<_}
 use mathlib.Core.Path.{_≡_, _∙_, sym, ap, subst, refl}
 use mathlib.Core.Bool.{Bool, true, false, cond, _&&_}
 use mathlib.Core.List.{List, [], _∷_, _++_, map}
@@ -19,10 +19,11 @@ use Rattle.tlv.specs.declared.Step.{Step}
 use Rattle.tlv.specs.declared.Step.the-variants.{Field, Stray, Overrun, End}
 use Rattle.tlv.specs.Number.{number}
 use Rattle.tlv.specs.Grammar.{Piece, fieldsBytes, All}
-use Rattle.tlv.specs.Reading.{Part, fieldAt, places}
+use Rattle.tlv.specs.Reading.{Part, partAt, Stands, fieldAt, parts, places}
 use Rattle.tlv.proofs.Fields.{Found as FieldFound, field-found}
 use Rattle.tlv.proofs.Places.{made-number}
-use Rattle.tlv.proofs.Pieces.{both-true, made-parts}
+use Rattle.tlv.proofs.Pieces.{both-true, rest-empty, made-field, made-back, made-parts}
+use Rattle.tlv.proofs.Walks.{parts-end, parts-field}
 use Rattle.tlv.proofs.Twice.{PartOf}
 use Rattle.book.specs.declared.Uuid.{Uuid}
 use Rattle.book.specs.declared.seek.Want.{Want}
@@ -57,6 +58,8 @@ use Rattle.book.specs.Finders.{
   innerFrom,
   seekOf,
   countInside,
+  nthPlace,
+  nthInside,
   controlTable,
   uuidTable,
   entryOfOffset,
@@ -130,6 +133,32 @@ after-up tag u at = by (fieldAt u at) refl
     by Overrun e = omega arith
     by End e = omega arith
 
+-- fields made from values, by their number
+module _ {Y : Type 0} (piece : Y → Piece) (u : List ℕ) where
+  nth-made : (before : List Y) (y : Y) (behind : List Y) (at : ℕ) → drop at u ≡ fieldsBytes (map piece (before ++ (y ∷ behind)))
+      → drop (nthPlace (length before) (parts u at)) u ≡ fieldsBytes (map piece (y ∷ behind))
+  unfolding fieldsBytes
+  nth-made [] y behind at made =
+      let q : Part = partAt at (piece y .tag) (length (piece y .body)) in
+      let stands : Stands u q = made-field u at (piece y .tag) (piece y .body) (fieldsBytes (map piece behind)) made in
+      rw (parts-field u q stands) made
+  nth-made (x ∷ before) y behind at made =
+      let back : List ℕ = fieldsBytes (map piece (before ++ (y ∷ behind))) in
+      let q : Part = partAt at (piece x .tag) (length (piece x .body)) in
+      let stands : Stands u q = made-field u at (piece x .tag) (piece x .body) back made in
+      rw (parts-field u q stands) (nth-made before y behind (q .to) (made-back u at (piece x .tag) (piece x .body) back made))
+
+  nth-past : (xs : List Y) (k at : ℕ) → length xs ≤ k → drop at u ≡ fieldsBytes (map piece xs) → nthPlace k (parts u at) ≡ 0
+  unfolding fieldsBytes
+  nth-past [] k at h made = rw (parts-end u at (rest-empty u at made))
+  nth-past (x ∷ xs) zero at h made = absurd (omega arith)
+  nth-past (x ∷ xs) (suc k) at h made =
+      let back : List ℕ = fieldsBytes (map piece xs) in
+      let q : Part = partAt at (piece x .tag) (length (piece x .body)) in
+      let stands : Stands u q = made-field u at (piece x .tag) (piece x .body) back made in
+      rw (parts-field u q stands)
+      (nth-past xs k (q .to) (omega arith) (made-back u at (piece x .tag) (piece x .body) back made))
+
 module _ {X : Type 0} (piece : X → Piece) (s : List ℕ) (x : X) (place : ℕ) (a : StandsAt s piece x place) where
   -- the field of a value, with the text up to its end
   body : List ℕ
@@ -164,6 +193,18 @@ module _ {X : Type 0} (piece : X → Piece) (s : List ℕ) (x : X) (place : ℕ)
         rw (field-there, starts)
         (finds-is piece′ Good′ body (wanted want key body) So ys start some
         (search-is piece′ Good′ body (wanted want key body) So told wants start (record { values = ys; good = good; bytes = made })))
+
+    -- the field inside with so many before it is that of the value with so many before it
+    nth-is : (before : List Y) (y : Y) (behind : List Y) → ys ≡ before ++ (y ∷ behind)
+        → drop (nthInside s place (length before)) body ≡ fieldsBytes (map piece′ (y ∷ behind))
+    unfolding nthInside body
+    nth-is before y behind e =
+        rw (field-there, starts) (nth-made piece′ body before y behind start (made ∙ ap (λ (l : List Y). fieldsBytes (map piece′ l)) e))
+
+    -- behind the last there is none
+    nth-none : (k : ℕ) → length ys ≤ k → nthInside s place k ≡ 0
+    unfolding nthInside body
+    nth-none k h = rw (field-there, starts) (nth-past piece′ body ys k start h made)
 
     -- as many fields stand inside as there are values
     count-is : countInside s place ≡ length ys
@@ -297,6 +338,19 @@ module _ (s : List ℕ) (e : Entry) (place : ℕ) (good : GoodEntry e) (a : Stan
       let u : List ℕ = take (p .to) (body entryPiece s e place a) in
       let is : nameAt u (p .from) ≡ name = range-reads r u (p .from) (ap (λ (x : Piece). x .body) (sym (q .is))) .name-is ∙ h in
       rw (eq-eqb (p .tag) 6 (ap (λ (x : Piece). x .tag) (sym (q .is))), is) (same-refl name))
+
+  -- its bit ranges by their number
+  pub nth-range-is : (before : List Range) (r : Range) (behind : List Range) → e .ranges ≡ before ++ (r ∷ behind)
+      → drop (nthInside s place (length before)) (take (a .part .to) s) ≡ fieldsBytes (map rangePiece (r ∷ behind))
+  unfolding body
+  nth-range-is =
+      nth-is entryPiece s e place a rangePiece GoodRange (e .ranges) (good .ranges-good) ranges-start ranges-some
+      ranges-inner ranges-made
+
+  pub nth-range-none : (k : ℕ) → length (e .ranges) ≤ k → nthInside s place k ≡ 0
+  nth-range-none =
+      nth-none entryPiece s e place a rangePiece GoodRange (e .ranges) (good .ranges-good) ranges-start ranges-some
+      ranges-inner ranges-made
 
   pub count-ranges-is : countInside s place ≡ length (e .ranges)
   count-ranges-is =

@@ -31,6 +31,7 @@ use Rattle.book.specs.declared.seek.Want.the-variants as W
 use Rattle.book.specs.Grammar.{
   Name,
   Optional,
+  textOf,
   Value,
   GoodValue,
   valuePiece,
@@ -58,6 +59,8 @@ use Rattle.book.specs.Finders.{
   innerFrom,
   seekOf,
   countInside,
+  entryCount,
+  nthRange,
   nthPlace,
   nthInside,
   controlTable,
@@ -69,7 +72,7 @@ use Rattle.book.specs.Finders.{
   nameOf,
   typeOf,
 }
-use Rattle.book.proofs.Inside.{number-back, textOf}
+use Rattle.book.proofs.Inside.{number-back}
 use Rattle.book.proofs.Values.{value-tag, value-number}
 use Rattle.book.proofs.Ranges.{ReadRange, range-reads}
 use Rattle.book.proofs.Entries.{behindOffset, ReadEntry, entry-reads, entry-tag, entry-offset, entry-type, same-option}
@@ -279,7 +282,7 @@ module _ (s : List ℕ) (t : Table) (place : ℕ) (good : GoodTable t) (a : Stan
       (same-refl (textOf type)))
 
   -- the number of a table's entries, of every offset and type
-  pub count-entries-is : countInside s place ≡ length (t .entries)
+  pub count-entries-is : entryCount s place ≡ length (t .entries)
   unfolding entries-start
   count-entries-is =
       count-is tablePiece s t place a entryPiece GoodEntry (t .entries) (good .entries-good) entries-start entries-some
@@ -341,20 +344,15 @@ module _ (s : List ℕ) (e : Entry) (place : ℕ) (good : GoodEntry e) (a : Stan
 
   -- its bit ranges by their number
   pub nth-range-is : (before : List Range) (r : Range) (behind : List Range) → e .ranges ≡ before ++ (r ∷ behind)
-      → drop (nthInside s place (length before)) (take (a .part .to) s) ≡ fieldsBytes (map rangePiece (r ∷ behind))
+      → drop (nthRange s place (length before)) (take (a .part .to) s) ≡ fieldsBytes (map rangePiece (r ∷ behind))
   unfolding body
   nth-range-is =
       nth-is entryPiece s e place a rangePiece GoodRange (e .ranges) (good .ranges-good) ranges-start ranges-some
       ranges-inner ranges-made
 
-  pub nth-range-none : (k : ℕ) → length (e .ranges) ≤ k → nthInside s place k ≡ 0
+  pub nth-range-none : (k : ℕ) → length (e .ranges) ≤ k → nthRange s place k ≡ 0
   nth-range-none =
       nth-none entryPiece s e place a rangePiece GoodRange (e .ranges) (good .ranges-good) ranges-start ranges-some
-      ranges-inner ranges-made
-
-  pub count-ranges-is : countInside s place ≡ length (e .ranges)
-  count-ranges-is =
-      count-is entryPiece s e place a rangePiece GoodRange (e .ranges) (good .ranges-good) ranges-start ranges-some
       ranges-inner ranges-made
 
 -- ---- inside a bit range

@@ -94,6 +94,14 @@ entryOfOffset s table offset = placeOf (seekOf (W.Offset offset) [] s table)
 abbrev pub entryOfType : List ℕ → ℕ → ℕ → List ℕ → ℕ
 entryOfType s table offset type = placeOf (seekOf (W.Typed offset) type s table)
 
+-- how many entries a table has, of every offset and type
+abbrev pub entryCount : List ℕ → ℕ → ℕ
+entryCount s table = countInside s table
+
+-- the bit range of an entry with so many before it
+abbrev pub nthRange : List ℕ → ℕ → ℕ → ℕ
+nthRange s entry k = nthInside s entry k
+
 -- the first bit range of a name in an entry
 abbrev pub rangeOfName : List ℕ → ℕ → List ℕ → ℕ
 rangeOfName s entry name = placeOf (seekOf W.Range name s entry)

@@ -21,6 +21,11 @@ abbrev pub Optional : {A : Type 0} → (A → Type 0) → Option A → Type 0
 Optional P (some a) = P a
 Optional P none = Unit {0}
 
+-- the text of what may be there, empty for none
+abbrev pub textOf : Option (List ℕ) → List ℕ
+textOf (some n) = n
+textOf none = []
+
 -- at most one field of that tag, whose body is a name
 abbrev pub optionalBytes : ℕ → Option (List ℕ) → List ℕ
 optionalBytes tag (some n) = fieldBytes tag n

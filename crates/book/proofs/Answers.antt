@@ -1,10 +1,11 @@
 -- The finders on a book of the grammar: each answers the first table, entry, range or value that document 01 names, and what it reads there is
 -- the value's own. The field at a place is the value's, what stands inside it is made from the values inside, and a search finds the first.
 -- Assumes nothing.
-use Prim.Native.Nat.{ℕ, suc, _+_, _≤_, _<_}
+use Prim.Native.Nat.{ℕ, zero, suc, _+_, _≤_, _<_}
 use mathlib.Core.Path.{_≡_, _∙_, sym, ap, subst, refl}
 use mathlib.Core.Bool.{Bool, true, false, cond, _&&_}
 use mathlib.Core.List.{List, [], _∷_, _++_, map}
+use mathlib.Core.Option.{Option}
 use native.Mathlib.Nat.{add-zero}
 use native.Mathlib.Omega.{arith}
 use borrow.Author.Tests.{eqb-true, eq-eqb}
@@ -18,15 +19,19 @@ use Rattle.tlv.specs.declared.Step.{Step}
 use Rattle.tlv.specs.declared.Step.the-variants.{Field, Stray, Overrun, End}
 use Rattle.tlv.specs.Number.{number}
 use Rattle.tlv.specs.Grammar.{Piece, fieldsBytes, All}
-use Rattle.tlv.specs.Reading.{Part, fieldAt, places}
+use Rattle.tlv.specs.Reading.{Part, partAt, Stands, fieldAt, parts, places}
 use Rattle.tlv.proofs.Fields.{Found as FieldFound, field-found}
 use Rattle.tlv.proofs.Places.{made-number}
-use Rattle.tlv.proofs.Pieces.{both-true, made-parts}
+use Rattle.tlv.proofs.Pieces.{both-true, rest-empty, made-field, made-back, made-parts}
+use Rattle.tlv.proofs.Walks.{parts-end, parts-field}
 use Rattle.tlv.proofs.Twice.{PartOf}
 use Rattle.book.specs.declared.Uuid.{Uuid}
 use Rattle.book.specs.declared.seek.Want.{Want}
 use Rattle.book.specs.declared.seek.Want.the-variants as W
 use Rattle.book.specs.Grammar.{
+  Name,
+  Optional,
+  textOf,
   Value,
   GoodValue,
   valuePiece,
@@ -54,6 +59,10 @@ use Rattle.book.specs.Finders.{
   innerFrom,
   seekOf,
   countInside,
+  entryCount,
+  nthRange,
+  nthPlace,
+  nthInside,
   controlTable,
   uuidTable,
   entryOfOffset,
@@ -63,12 +72,12 @@ use Rattle.book.specs.Finders.{
   nameOf,
   typeOf,
 }
-use Rattle.book.proofs.Inside.{number-back, textOf}
+use Rattle.book.proofs.Inside.{number-back}
 use Rattle.book.proofs.Values.{value-tag, value-number}
 use Rattle.book.proofs.Ranges.{ReadRange, range-reads}
-use Rattle.book.proofs.Entries.{behindOffset, ReadEntry, entry-reads, entry-tag, entry-offset, entry-type}
+use Rattle.book.proofs.Entries.{behindOffset, ReadEntry, entry-reads, entry-tag, entry-offset, entry-type, same-option}
 use Rattle.book.proofs.Tables.{ownerWant, ownerSize, owner-back, table-told, table-wanted}
-use Rattle.book.proofs.Finding.{Says, search-is, finds-inside}
+use Rattle.book.proofs.Finding.{Says, search-is, finds-is}
 
 -- ---- tables
 
@@ -127,6 +136,32 @@ after-up tag u at = by (fieldAt u at) refl
     by Overrun e = omega arith
     by End e = omega arith
 
+-- fields made from values, by their number
+module _ {Y : Type 0} (piece : Y → Piece) (u : List ℕ) where
+  nth-made : (before : List Y) (y : Y) (behind : List Y) (at : ℕ) → drop at u ≡ fieldsBytes (map piece (before ++ (y ∷ behind)))
+      → drop (nthPlace (length before) (parts u at)) u ≡ fieldsBytes (map piece (y ∷ behind))
+  unfolding fieldsBytes
+  nth-made [] y behind at made =
+      let q : Part = partAt at (piece y .tag) (length (piece y .body)) in
+      let stands : Stands u q = made-field u at (piece y .tag) (piece y .body) (fieldsBytes (map piece behind)) made in
+      rw (parts-field u q stands) made
+  nth-made (x ∷ before) y behind at made =
+      let back : List ℕ = fieldsBytes (map piece (before ++ (y ∷ behind))) in
+      let q : Part = partAt at (piece x .tag) (length (piece x .body)) in
+      let stands : Stands u q = made-field u at (piece x .tag) (piece x .body) back made in
+      rw (parts-field u q stands) (nth-made before y behind (q .to) (made-back u at (piece x .tag) (piece x .body) back made))
+
+  nth-past : (xs : List Y) (k at : ℕ) → length xs ≤ k → drop at u ≡ fieldsBytes (map piece xs) → nthPlace k (parts u at) ≡ 0
+  unfolding fieldsBytes
+  nth-past [] k at h made = rw (parts-end u at (rest-empty u at made))
+  nth-past (x ∷ xs) zero at h made = absurd (omega arith)
+  nth-past (x ∷ xs) (suc k) at h made =
+      let back : List ℕ = fieldsBytes (map piece xs) in
+      let q : Part = partAt at (piece x .tag) (length (piece x .body)) in
+      let stands : Stands u q = made-field u at (piece x .tag) (piece x .body) back made in
+      rw (parts-field u q stands)
+      (nth-past xs k (q .to) (omega arith) (made-back u at (piece x .tag) (piece x .body) back made))
+
 module _ {X : Type 0} (piece : X → Piece) (s : List ℕ) (x : X) (place : ℕ) (a : StandsAt s piece x place) where
   -- the field of a value, with the text up to its end
   body : List ℕ
@@ -155,12 +190,24 @@ module _ {X : Type 0} (piece : X → Piece) (s : List ℕ) (x : X) (place : ℕ)
     seek-finds : (want : Want) (key : List ℕ) (So : Y → Type 0)
         → ((p : Part) (y : Y) → PartOf piece′ Good′ body p y → wanted want key body p ≡ true → So y)
         → ((p : Part) (y : Y) → PartOf piece′ Good′ body p y → So y → wanted want key body p ≡ true)
-        → Finds s piece′ So ys (placeOf (seekOf want key s place))
+        → Finds body piece′ So ys (placeOf (seekOf want key s place))
     unfolding seekOf firstWanted body
     seek-finds want key So told wants =
         rw (field-there, starts)
-        (finds-inside piece′ s (a .part .to) Good′ (wanted want key body) So ys start some
+        (finds-is piece′ Good′ body (wanted want key body) So ys start some
         (search-is piece′ Good′ body (wanted want key body) So told wants start (record { values = ys; good = good; bytes = made })))
+
+    -- the field inside with so many before it is that of the value with so many before it
+    nth-is : (before : List Y) (y : Y) (behind : List Y) → ys ≡ before ++ (y ∷ behind)
+        → drop (nthInside s place (length before)) body ≡ fieldsBytes (map piece′ (y ∷ behind))
+    unfolding nthInside body
+    nth-is before y behind e =
+        rw (field-there, starts) (nth-made piece′ body before y behind start (made ∙ ap (λ (l : List Y). fieldsBytes (map piece′ l)) e))
+
+    -- behind the last there is none
+    nth-none : (k : ℕ) → length ys ≤ k → nthInside s place k ≡ 0
+    unfolding nthInside body
+    nth-none k h = rw (field-there, starts) (nth-past piece′ body ys k start h made)
 
     -- as many fields stand inside as there are values
     count-is : countInside s place ≡ length ys
@@ -193,8 +240,8 @@ module _ (s : List ℕ) (t : Table) (place : ℕ) (good : GoodTable t) (a : Stan
       (body-is tablePiece s t place a)
 
   -- the first entry of an offset, whatever its type
-  pub entry-of-offset-is : (o : ℕ) → Finds s entryPiece (λ e. e .offset ≡ o) (t .entries) (entryOfOffset s place o)
-  unfolding wanted fits entries-start
+  pub entry-of-offset-is : (o : ℕ) → Finds (take (a .part .to) s) entryPiece (λ e. e .offset ≡ o) (t .entries) (entryOfOffset s place o)
+  unfolding wanted fits entries-start body
   entry-of-offset-is o =
       seek-finds tablePiece s t place a entryPiece GoodEntry (t .entries) (good .entries-good) entries-start entries-some
       (inner-table (t .owner) (body tablePiece s t place a) (a .part .from)) entries-made (W.Offset o) [] (λ e. e .offset ≡ o)
@@ -206,35 +253,36 @@ module _ (s : List ℕ) (t : Table) (place : ℕ) (good : GoodTable t) (a : Stan
       let u : List ℕ = body tablePiece s t place a in
       rw (eq-eqb (p .tag) 3 (entry-tag u p e q)) (eq-eqb (number 2 (take (p .to) u) (p .from)) o (entry-offset u p e q ∙ h)))
 
-  -- the first entry of an offset and a type, where an empty text is no type
-  pub entry-of-type-is : (o : ℕ) (type : List ℕ)
-      → Finds s entryPiece (λ e. (e .offset ≡ o) × (textOf (e .type) ≡ type)) (t .entries) (entryOfType s place o type)
-  unfolding wanted fits entries-start
-  entry-of-type-is o type =
+  -- the first entry of an offset and a type, or of an offset and no type; the text asked for is empty for no type
+  pub entry-of-type-is : (o : ℕ) (type : Option (List ℕ)) → Optional Name type
+      → Finds (take (a .part .to) s) entryPiece (λ e. (e .offset ≡ o) × (e .type ≡ type)) (t .entries) (entryOfType s place o (textOf type))
+  unfolding wanted fits entries-start body
+  entry-of-type-is o type named =
       seek-finds tablePiece s t place a entryPiece GoodEntry (t .entries) (good .entries-good) entries-start entries-some
-      (inner-table (t .owner) (body tablePiece s t place a) (a .part .from)) entries-made (W.Typed o) type
-      (λ e. (e .offset ≡ o) × (textOf (e .type) ≡ type))
+      (inner-table (t .owner) (body tablePiece s t place a) (a .part .from)) entries-made (W.Typed o) (textOf type)
+      (λ e. (e .offset ≡ o) × (e .type ≡ type))
       (λ p e q h.
       let u : List ℕ = body tablePiece s t place a in
       let number-test : Bool = eqb (number 2 (take (p .to) u) (p .from)) o in
-      let text-test : Bool = sameText (typeAt (take (p .to) u) (p .from)) type in
+      let text-test : Bool = sameText (typeAt (take (p .to) u) (p .from)) (textOf type) in
       let w = both-true (eqb (p .tag) 3) (number-test && text-test) h in
       let v = both-true number-test text-test (w .1) in (
         sym (entry-offset u p e q) ∙ eqb-true (number 2 (take (p .to) u) (p .from)) o (v .0),
-        sym (entry-type u p e q) ∙ same-true (typeAt (take (p .to) u) (p .from)) type (v .1),
+        same-option (e .type) type (q .good .type-good) named
+            (sym (entry-type u p e q) ∙ same-true (typeAt (take (p .to) u) (p .from)) (textOf type) (v .1)),
       ))
       (λ p e q h.
       let u : List ℕ = body tablePiece s t place a in
+      let text : typeAt (take (p .to) u) (p .from) ≡ textOf type = entry-type u p e q ∙ ap textOf (h .1) in
       rw (
         eq-eqb (p .tag) 3 (entry-tag u p e q),
         eq-eqb (number 2 (take (p .to) u) (p .from)) o (entry-offset u p e q ∙ h .0),
-        entry-type u p e q,
-        h .1,
+        text,
       )
-      (same-refl type))
+      (same-refl (textOf type)))
 
   -- the number of a table's entries, of every offset and type
-  pub count-entries-is : countInside s place ≡ length (t .entries)
+  pub count-entries-is : entryCount s place ≡ length (t .entries)
   unfolding entries-start
   count-entries-is =
       count-is tablePiece s t place a entryPiece GoodEntry (t .entries) (good .entries-good) entries-start entries-some
@@ -280,8 +328,8 @@ module _ (s : List ℕ) (e : Entry) (place : ℕ) (good : GoodEntry e) (a : Stan
   entry-type-is = rw (field-there entryPiece s e place a) (entry-read .type-read .text)
 
   -- the first bit range of a name
-  pub range-of-name-is : (name : List ℕ) → Finds s rangePiece (λ r. r .name ≡ name) (e .ranges) (rangeOfName s place name)
-  unfolding wanted fits nameAt
+  pub range-of-name-is : (name : List ℕ) → Finds (take (a .part .to) s) rangePiece (λ r. r .name ≡ name) (e .ranges) (rangeOfName s place name)
+  unfolding wanted fits nameAt body
   range-of-name-is name =
       seek-finds entryPiece s e place a rangePiece GoodRange (e .ranges) (good .ranges-good) ranges-start ranges-some
       ranges-inner ranges-made W.Range name (λ r. r .name ≡ name)
@@ -294,9 +342,17 @@ module _ (s : List ℕ) (e : Entry) (place : ℕ) (good : GoodEntry e) (a : Stan
       let is : nameAt u (p .from) ≡ name = range-reads r u (p .from) (ap (λ (x : Piece). x .body) (sym (q .is))) .name-is ∙ h in
       rw (eq-eqb (p .tag) 6 (ap (λ (x : Piece). x .tag) (sym (q .is))), is) (same-refl name))
 
-  pub count-ranges-is : countInside s place ≡ length (e .ranges)
-  count-ranges-is =
-      count-is entryPiece s e place a rangePiece GoodRange (e .ranges) (good .ranges-good) ranges-start ranges-some
+  -- its bit ranges by their number
+  pub nth-range-is : (before : List Range) (r : Range) (behind : List Range) → e .ranges ≡ before ++ (r ∷ behind)
+      → drop (nthRange s place (length before)) (take (a .part .to) s) ≡ fieldsBytes (map rangePiece (r ∷ behind))
+  unfolding body
+  nth-range-is =
+      nth-is entryPiece s e place a rangePiece GoodRange (e .ranges) (good .ranges-good) ranges-start ranges-some
+      ranges-inner ranges-made
+
+  pub nth-range-none : (k : ℕ) → length (e .ranges) ≤ k → nthRange s place k ≡ 0
+  nth-range-none =
+      nth-none entryPiece s e place a rangePiece GoodRange (e .ranges) (good .ranges-good) ranges-start ranges-some
       ranges-inner ranges-made
 
 -- ---- inside a bit range
@@ -341,8 +397,8 @@ module _ (s : List ℕ) (r : Range) (place : ℕ) (good : GoodRange r) (a : Stan
   range-name-is = rw (field-there rangePiece s r place a) (range-read .name-is)
 
   -- the value of a number
-  pub value-of-number-is : (n : ℕ) → Finds s valuePiece (λ v. v .number ≡ n) (r .values) (valueOfNumber s place n)
-  unfolding wanted fits
+  pub value-of-number-is : (n : ℕ) → Finds (take (a .part .to) s) valuePiece (λ v. v .number ≡ n) (r .values) (valueOfNumber s place n)
+  unfolding wanted fits body
   value-of-number-is n =
       seek-finds rangePiece s r place a valuePiece GoodValue (r .values) (good .values-good) values-start values-some
       values-inner values-made (W.Value n) [] (λ v. v .number ≡ n)

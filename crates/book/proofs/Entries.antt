@@ -20,6 +20,7 @@ use Rattle.tlv.proofs.Twice.{PartOf, once-apart, apart-once}
 use Rattle.book.specs.Grammar.{
   Name,
   Optional,
+  textOf,
   optionalBytes,
   Range,
   rangePiece,
@@ -36,7 +37,6 @@ use Rattle.book.proofs.Inside.{
   number-first,
   number-back,
   number-room,
-  textOf,
   FromOptional,
   optional-is,
   ReadOptional,

@@ -43,6 +43,7 @@ use Rattle.book.specs.Finders.{
   innerFrom,
   seekOf,
   countInside,
+  entryCount,
   nthInside,
   controlTable,
   uuidTable,
@@ -111,7 +112,7 @@ reads-value-name : nameOf book 22 ≡ bytes "v"
 unfolding computed range control header book
 reads-value-name = refl
 
-counts-entries : countInside book 0 ≡ 2
+counts-entries : entryCount book 0 ≡ 2
 unfolding computed range control header book
 counts-entries = refl
 

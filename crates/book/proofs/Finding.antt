@@ -35,13 +35,13 @@ module _ {X : Type 0} (piece : X → Piece) (Good : X → Type 0) (s : List ℕ)
           among = ap (λ (l : List X). x ∷ l) (f .among);
           so = f .so;
           none-before = (isnt, f .none-before);
-          at = f .at;
+          rest = f .rest;
         }
     passed x xs isnt Nothing f = (isnt, f)
 
-    one-by-one : (xs : List X) (x : X) (q : Part) → PartOf piece Good s q x
+    one-by-one : (xs : List X) (x : X) (q : Part) → PartOf piece Good s q x → drop (q .at) s ≡ fieldsBytes (map piece (x ∷ xs))
         → Says xs (firstPart ok s (q .to)) → (b : Bool) → ok q ≡ b → Says (x ∷ xs) (firstPart ok s (q .at))
-    one-by-one xs x q o rest true e =
+    one-by-one xs x q o made rest true e =
         rw (first-hit ok s q (o .stands) e)
         (record {
           before = [];
@@ -50,9 +50,9 @@ module _ {X : Type 0} (piece : X → Piece) (Good : X → Type 0) (s : List ℕ)
           among = refl;
           so = told q x o e;
           none-before = tt;
-          at = record { part = q; stands = o .stands; is = o .is; here = refl };
+          rest = made;
         })
-    one-by-one xs x q o rest false e =
+    one-by-one xs x q o made rest false e =
         rw (first-miss ok s q (o .stands) e)
         (passed x xs (λ h. false≢true (sym e ∙ wants q x o h)) (firstPart ok s (q .to)) rest)
 
@@ -68,41 +68,41 @@ module _ {X : Type 0} (piece : X → Piece) (Good : X → Type 0) (s : List ℕ)
           good = g .0;
           is = sym (made-piece s at (piece x .tag) (piece x .body) back made);
         } in
-        one-by-one xs x q o
+        one-by-one xs x q o made
         (values-first xs (q .to) (g .1) (made-back s at (piece x .tag) (piece x .body) back made)) (ok q) refl
 
     -- the search answers the first value that is so, or that none is
     pub search-is : (at : ℕ) (m : Made piece Good (drop at s)) → Says (m .values) (firstPart ok s at)
     search-is at m = values-first (m .values) at (m .good) (m .bytes)
 
--- what stands in a cut text stands in the whole
-module _ {X : Type 0} (piece : X → Piece) (s : List ℕ) (cut : ℕ) where
-  widen : (x : X) (place : ℕ) → StandsAt (take cut s) piece x place → StandsAt s piece x place
-  widen x place a =
-      let w = stands-widens s cut (a .part) (a .stands) in
-      record { part = a .part; stands = w .0; is = a .is ∙ piece-take s cut (a .part) (w .1); here = a .here }
+-- an answer by place: a search that does not start at 0 finds nothing at 0
+pub finds-is : {X : Type 0} (piece : X → Piece) (Good : X → Type 0) (s : List ℕ) (ok : Part → Bool) (So : X → Type 0) (xs : List X) (from : ℕ)
+    → 0 < from → Says piece Good s ok So xs (firstPart ok s from) → Finds s piece So xs (placeOf (firstPart ok s from))
+finds-is {X} piece Good s ok So xs from some says = by (firstPart ok s from) refl says
+  where
+    by : (r : Found) → firstPart ok s from ≡ r → Says piece Good s ok So xs r → Finds s piece So xs (placeOf r)
+    by (At place) e f =
+        let bounds = first-bounds ok s from place e in
+        record { none = λ h. absurd (omega (arith, bounds .0)); first = λ h. f }
+    by Nothing e f = record { none = λ h. f; first = λ h. absurd (omega arith) }
 
-  -- an answer about a cut text, by place, is one about the whole
-  pub finds-inside : (Good : X → Type 0) (ok : Part → Bool) (So : X → Type 0) (xs : List X) (from : ℕ) → 0 < from
-      → Says piece Good (take cut s) ok So xs (firstPart ok (take cut s) from)
-      → Finds s piece So xs (placeOf (firstPart ok (take cut s) from))
-  finds-inside Good ok So xs from some says = by (firstPart ok (take cut s) from) refl says
-    where
-      by : (r : Found) → firstPart ok (take cut s) from ≡ r → Says piece Good (take cut s) ok So xs r → Finds s piece So xs (placeOf r)
-      by (At place) e f =
-          let bounds = first-bounds ok (take cut s) from place e in
-          record {
-            none = λ h. absurd (omega (arith, bounds .0));
-            first =
-                λ h.
-                record {
-                  before = f .before;
-                  value = f .value;
-                  behind = f .behind;
-                  among = f .among;
-                  so = f .so;
-                  none-before = f .none-before;
-                  at = widen (f .value) place (f .at);
-                };
-          }
-      by Nothing e f = record { none = λ h. f; first = λ h. absurd (omega arith) }
+-- the field of what was found stands at its place
+pub first-stands : {X : Type 0} {piece : X → Piece} {s : List ℕ} {So : X → Type 0} {xs : List X} {place : ℕ}
+    (f : FirstSo s piece So xs place) → StandsAt s piece (f .value) place
+unfolding fieldsBytes
+first-stands {X} {piece} {s} {So} {xs} {place} f =
+    let tag : ℕ = piece (f .value) .tag in
+    let body : List ℕ = piece (f .value) .body in
+    let back : List ℕ = fieldsBytes (map piece (f .behind)) in
+    record {
+      part = partAt place tag (length body);
+      stands = made-field s place tag body back (f .rest);
+      is = sym (made-piece s place tag body back (f .rest));
+      here = refl;
+    }
+
+-- what stands in a cut text stands in the whole
+pub stands-whole : {X : Type 0} {piece : X → Piece} (s : List ℕ) (cut : ℕ) {x : X} {place : ℕ} → StandsAt (take cut s) piece x place → StandsAt s piece x place
+stands-whole s cut a =
+    let w = stands-widens s cut (a .part) (a .stands) in
+    record { part = a .part; stands = w .0; is = a .is ∙ piece-take s cut (a .part) (w .1); here = a .here }

@@ -21,7 +21,7 @@ use Rattle.tlv.proofs.Numbers.{number-bytes-is, number-bytes-length}
 use Rattle.tlv.proofs.Fields.{Found, field-found}
 use Rattle.tlv.proofs.Places.{bytes-take}
 use Rattle.tlv.proofs.Pieces.{made-field, made-body, made-back, part-made, filled-made, made-filled}
-use Rattle.book.specs.Grammar.{Name, Optional, optionalBytes}
+use Rattle.book.specs.Grammar.{Name, Optional, textOf, optionalBytes}
 use Rattle.book.specs.Search.{bodyAt, after}
 use Rattle.book.specs.Reading.{isName, optionalName}
 use Rattle.book.proofs.Names.{name-is, name-all}
@@ -141,11 +141,6 @@ module _ (tag : ℕ) (u : List ℕ) (at : ℕ) where
       h (getD-drop at u 0 0 ∙ ap (λ (n : ℕ). getD u n 0) (add-zero at) ∙ sym (f .tag-is) ∙ k))
 
 -- ---- a name that may be there
-
--- the text of what may be there, empty for none
-abbrev pub textOf : Option (List ℕ) → List ℕ
-textOf (some n) = n
-textOf none = []
 
 module _ (tag : ℕ) (u : List ℕ) (at : ℕ) where
   -- sound: what passes is made from a name, or from none

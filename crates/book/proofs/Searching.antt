@@ -18,7 +18,7 @@ use Rattle.tlv.proofs.Fields as fields
 use Rattle.tlv.proofs.Numbers.{number-past}
 use Rattle.tlv.proofs.Walks.{by-fields, walk-end, walk-cut, walk-field, parts-end, parts-cut, parts-field}
 use Rattle.book.specs.declared.seek.Want.{Want}
-use Rattle.book.specs.Search.{bodyAt, after, nameAt, typeAt, uuidAt, tagOf, firstPart}
+use Rattle.book.specs.Search.{bodyAt, after, nameAt, typeAt, uuidAt, tagOf, wanted, firstPart, firstWanted}
 use Rattle.book.proofs.Steps.{Bare, tag-bare}
 
 -- ---- the walk
@@ -87,6 +87,11 @@ module _ (ok : Part → Bool) (s : List ℕ) where
           let f : fields.Found s (p .at) (p .tag) (p .from) (p .to) = field-found s (p .at) e in
           let w = rest q h in
           (omega arith, omega arith)
+
+-- the same of what is wanted, for callers that only know the search
+pub wanted-bounds : (want : Want) (key s : List ℕ) (at q : ℕ) → firstWanted want key s at ≡ At q → (at ≤ q) × (q < length s)
+unfolding firstWanted
+wanted-bounds want key s = first-bounds (wanted want key s) s
 
 -- ---- what is wanted
 

@@ -3,12 +3,12 @@
 use Prim.Native.Nat.{ℕ, zero, suc, _+_, _<_}
 use mathlib.Core.Path.{_≡_}
 use mathlib.Core.Bool.{cond}
-use mathlib.Core.List.{List, [], _∷_, _++_}
+use mathlib.Core.List.{List, [], _∷_, _++_, map}
 use lib.Dec.{eqb}
-use lib.ListN.{length, take}
+use lib.ListN.{length, take, drop}
 use Rattle.text.specs.declared.place.Found.{Found}
 use Rattle.text.specs.declared.place.Found.the-variants.{At, Nothing}
-use Rattle.tlv.specs.Grammar.{Piece, All}
+use Rattle.tlv.specs.Grammar.{Piece, fieldsBytes, All}
 use Rattle.tlv.specs.Reading.{Part, Stands, between, pieceOf, fieldAt, parts}
 use Rattle.book.specs.declared.Uuid.{Uuid}
 use Rattle.book.specs.declared.seek.Want.{Want}
@@ -25,7 +25,8 @@ module _ (s : List ℕ) {X : Type 0} (piece : X → Piece) where
     pub is : piece x ≡ pieceOf s part
     pub here : part .at ≡ place
 
-  -- of some values the first that is so: its field stands at the place, and none before it is so
+  -- of the values that a text ends with the first that is so: none before it is, and from the place on the text is made from it and those
+  -- behind it
   pub record FirstSo (So : X → Type 0) (xs : List X) (place : ℕ) : Type 0 where
     pub before : List X
     pub value : X
@@ -33,7 +34,7 @@ module _ (s : List ℕ) {X : Type 0} (piece : X → Piece) where
     pub among : xs ≡ before ++ (value ∷ behind)
     pub so : So value
     pub none-before : All (λ x. So x → ⊥) before
-    pub at : StandsAt value place
+    pub rest : drop place s ≡ fieldsBytes (map piece (value ∷ behind))
 
   -- an answer by place: 0 just where none is so, else the place of the first that is
   pub record Finds (So : X → Type 0) (xs : List X) (answer : ℕ) : Type 0 where
@@ -92,6 +93,14 @@ entryOfOffset s table offset = placeOf (seekOf (W.Offset offset) [] s table)
 -- the first entry of an offset and a type in a table, where the empty type is no type
 abbrev pub entryOfType : List ℕ → ℕ → ℕ → List ℕ → ℕ
 entryOfType s table offset type = placeOf (seekOf (W.Typed offset) type s table)
+
+-- how many entries a table has, of every offset and type
+abbrev pub entryCount : List ℕ → ℕ → ℕ
+entryCount s table = countInside s table
+
+-- the bit range of an entry with so many before it
+abbrev pub nthRange : List ℕ → ℕ → ℕ → ℕ
+nthRange s entry k = nthInside s entry k
 
 -- the first bit range of a name in an entry
 abbrev pub rangeOfName : List ℕ → ℕ → List ℕ → ℕ

@@ -1,4 +1,5 @@
--- The book, as what its bytes are made from, level by level. Nothing here searches.
+-- The book, as what its bytes are made from, level by level from the inmost out: a value of each level, when it is good, and the field that it
+-- makes. Nothing here searches.
 -- Assumes nothing.
 use Prim.Native.Nat.{ℕ, _≤_, _<_, _^_}
 use mathlib.Core.Path.{_≡_}
@@ -20,6 +21,11 @@ abbrev pub Optional : {A : Type 0} → (A → Type 0) → Option A → Type 0
 Optional P (some a) = P a
 Optional P none = Unit {0}
 
+-- the text of what may be there, empty for none
+abbrev pub textOf : Option (List ℕ) → List ℕ
+textOf (some n) = n
+textOf none = []
+
 -- at most one field of that tag, whose body is a name
 abbrev pub optionalBytes : ℕ → Option (List ℕ) → List ℕ
 optionalBytes tag (some n) = fieldBytes tag n
@@ -30,10 +36,12 @@ pub record Value : Type 0 where
   pub number : ℕ
   pub name : List ℕ
 
+-- the value fits four bytes, and the name is one
 pub record GoodValue (v : Value) : Type 0 where
   pub number-fits : v .number < 256 ^ 4
   pub name-good : Name (v .name)
 
+-- its field
 abbrev pub valuePiece : Value → Piece
 valuePiece v = record { tag = 7; body = numberBytes 4 (v .number) ++ v .name }
 
@@ -44,7 +52,7 @@ pub record Range : Type 0 where
   pub name : List ℕ
   pub values : List Value
 
--- low ≤ high ≤ 31, and no value twice
+-- low ≤ high ≤ 31, and no value twice in one range
 pub record GoodRange (r : Range) : Type 0 where
   pub low-high : r .low ≤ r .high
   pub high-most : r .high ≤ 31
@@ -52,6 +60,7 @@ pub record GoodRange (r : Range) : Type 0 where
   pub values-good : All GoodValue (r .values)
   pub values-apart : Apart (λ v w. v .number ≡ w .number) (r .values)
 
+-- its field
 abbrev pub rangePiece : Range → Piece
 rangePiece r =
     record { tag = 6; body = r .low ∷ r .high ∷ (fieldBytes 4 (r .name) ++ fieldsBytes (map valuePiece (r .values))) }
@@ -63,12 +72,14 @@ pub record Entry : Type 0 where
   pub type : Option (List ℕ)
   pub ranges : List Range
 
+-- the offset fits two bytes, and names are names
 pub record GoodEntry (e : Entry) : Type 0 where
   pub offset-fits : e .offset < 256 ^ 2
   pub name-good : Optional Name (e .name)
   pub type-good : Optional Name (e .type)
   pub ranges-good : All GoodRange (e .ranges)
 
+-- its field
 abbrev pub entryPiece : Entry → Piece
 entryPiece e =
     record {
@@ -78,7 +89,7 @@ entryPiece e =
           ++ (optionalBytes 4 (e .name) ++ (optionalBytes 5 (e .type) ++ fieldsBytes (map rangePiece (e .ranges))));
     }
 
--- the same offset and type, where none counts as one
+-- the same offset and type, where no type counts as one
 pub record SameEntry (e f : Entry) : Type 0 where
   pub same-offset : e .offset ≡ f .offset
   pub same-type : e .type ≡ f .type
@@ -88,19 +99,22 @@ pub data Owner : Type 0 where
   kind : ℕ → Owner
   uuid : Uuid → Owner
 
--- kind byte 1 to 12; four dwords of a UUID
+-- a kind is 1 to 12; a UUID is four dwords
 abbrev pub GoodOwner : Owner → Type 0
 GoodOwner (kind k) = (1 ≤ k) × (k ≤ 12)
 GoodOwner (uuid u) = (u .first < 256 ^ 4) × (u .second < 256 ^ 4) × (u .third < 256 ^ 4) × (u .fourth < 256 ^ 4)
 
+-- tag 1 for a kind, tag 2 for a UUID
 abbrev pub ownerTag : Owner → ℕ
 ownerTag (kind k) = 1
 ownerTag (uuid u) = 2
 
+-- four dwords and what comes behind them
 abbrev pub uuidBytes : Uuid → List ℕ → List ℕ
 uuidBytes u back =
     numberBytes 4 (u .first) ++ (numberBytes 4 (u .second) ++ (numberBytes 4 (u .third) ++ (numberBytes 4 (u .fourth) ++ back)))
 
+-- kind byte or UUID, and what comes behind
 abbrev pub ownerBytes : Owner → List ℕ → List ℕ
 ownerBytes (kind k) back = k ∷ back
 ownerBytes (uuid u) back = uuidBytes u back
@@ -110,16 +124,17 @@ pub record Table : Type 0 where
   pub owner : Owner
   pub entries : List Entry
 
--- no entry of the same offset and type in one table
+-- no entry of the same offset and type twice in one table
 pub record GoodTable (t : Table) : Type 0 where
   pub owner-good : GoodOwner (t .owner)
   pub entries-good : All GoodEntry (t .entries)
   pub entries-apart : Apart SameEntry (t .entries)
 
+-- its field
 abbrev pub tablePiece : Table → Piece
 tablePiece t = record { tag = ownerTag (t .owner); body = ownerBytes (t .owner) (fieldsBytes (map entryPiece (t .entries))) }
 
--- the book: at most 65,535 bytes, made from tables, none of one kind or of one UUID twice
+-- the book: at most 65,535 bytes, made from tables, empty allowed, no kind's table and no UUID's table twice
 pub record IsBook (s : List ℕ) : Type 0 where
   pub at-most : length s ≤ 65535
   pub tables : List Table

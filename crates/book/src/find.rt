@@ -17,9 +17,9 @@ ghost use Rattle.book.specs.Finders.{
   placeOf,
   innerFrom,
   seekOf,
-  countInside,
+  entryCount,
   nthPlace,
-  nthInside,
+  nthRange,
   controlTable,
   uuidTable,
   entryOfOffset,
@@ -72,11 +72,11 @@ pub fn value_of_number(book: &[u8], range: usize, number: u32) -> usize
     seek(book, range, Want::Value(number), b"")
 }
 
-// How many fields stand inside the field at the place: the entries of a table, the ranges of an entry, the values of a range.
-pub fn count_inside(book: &[u8], place: usize) -> usize
-    ensures { λ r. ⌜ r ≡ countInside (now (book .entry)) place ⌝ }
+// How many entries a table has, of every offset and type.
+pub fn count_entries(book: &[u8], table: usize) -> usize
+    ensures { λ r. ⌜ r ≡ entryCount (now (book .entry)) table ⌝ }
 {
-    let step = tlv::field_at(book, place);
+    let step = tlv::field_at(book, table);
     let Step::Field { tag, from, to } = step else {
         return 0;
     };
@@ -84,11 +84,11 @@ pub fn count_inside(book: &[u8], place: usize) -> usize
     count(body, inner(body, tag, from))
 }
 
-// The field with `k` before it inside the field at the place, 0 for none: to go through the ranges of an entry.
-pub fn nth_inside(book: &[u8], place: usize, k: usize) -> usize
-    ensures { λ r. ⌜ (r ≡ nthInside (now (book .entry)) place k) × (r ≤ length (now (book .entry))) ⌝ }
+// The bit range of an entry with `k` before it.
+pub fn nth_range(book: &[u8], entry: usize, k: usize) -> usize
+    ensures { λ r. ⌜ (r ≡ nthRange (now (book .entry)) entry k) × (r ≤ length (now (book .entry))) ⌝ }
 {
-    let step = tlv::field_at(book, place);
+    let step = tlv::field_at(book, entry);
     let Step::Field { tag, from, to } = step else {
         return 0;
     };

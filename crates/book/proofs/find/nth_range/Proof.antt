@@ -1,4 +1,4 @@
--- `book::find::nth_inside` meets its contract, case by case of what stands at the place. Assumes nothing.
+-- `book::find::nth_range` meets its contract, case by case of what stands at the place. Assumes nothing.
 use Rattle.book.proofs.Steps.{Bare, bare, field-bare}
 use Rattle.book.specs.Finders.{nthPlace, nthInside}
 use Rattle.tlv.proofs.Places.{stands-cut}
@@ -10,8 +10,8 @@ use mathlib.Core.Path.{_≡_, sym, ap, subst, _∙_}
 use Prim.Native.Nat.{ℕ}
 use native.Mathlib.Omega.{arith}
 use borrow.Author.Needs.{needs}
-use Rattle.book.proofs.find.nth_inside.Statement.{statement}
-use Rattle.book.proofs.find.nth_inside.Tie as tie
+use Rattle.book.proofs.find.nth_range.Statement.{statement}
+use Rattle.book.proofs.find.nth_range.Tie as tie
 
 field-at-requires : tie.Need-field-at-requires
 field-at-requires c κs = search needs
@@ -22,17 +22,17 @@ enum-known-step c = search needs
 returns : tie.Need-returns
 unfolding nthInside
 returns c =
-    (sym (field-bare _ _ (fieldAt (c .before .before .before .args .book .now) (c .before .before .before .args .place)) (subst Bare (c .before .field-at .ensures) (bare _ (c .match .keys2)))), search needs)
+    (sym (field-bare _ _ (fieldAt (c .before .before .before .args .book .now) (c .before .before .before .args .entry)) (subst Bare (c .before .field-at .ensures) (bare _ (c .match .keys2)))), search needs)
 
 slice-aggregate-body : tie.Need-slice-aggregate-body
 slice-aggregate-body c =
-    let p : Part = record { at = c .before .before .before .before .before .before .args .place; tag = c .before .before .step .given .0 .0; from = c .before .before .step .given .0 .1 .0; to = c .before .before .step .given .0 .1 .1 .0 } in
+    let p : Part = record { at = c .before .before .before .before .before .before .args .entry; tag = c .before .before .step .given .0 .0; from = c .before .before .step .given .0 .1 .0; to = c .before .before .step .given .0 .1 .1 .0 } in
     let e : Stands (c .before .before .before .before .before .before .args .book .now) p = sym (c .before .before .before .before .field-at .ensures) ∙ c .before .before .step .given .1 in
     stands-cut (c .before .before .before .before .before .before .args .book .now) p e
 
 inner-requires : tie.Need-inner-requires
 inner-requires c κs =
-    let f = field-found (c .before .before .before .before .before .before .args .book .now) (c .before .before .before .before .before .before .args .place) (sym (c .before .before .before .before .field-at .ensures) ∙ c .before .before .step .given .1) in
+    let f = field-found (c .before .before .before .before .before .before .args .book .now) (c .before .before .before .before .before .before .args .entry) (sym (c .before .before .before .before .field-at .ensures) ∙ c .before .before .step .given .1) in
     rw (length-take (c .before .before .step .given .0 .1 .1 .0) (c .before .before .before .before .before .before .args .book .now)) (omega arith)
 
 nth-requires : tie.Need-nth-requires
@@ -43,11 +43,11 @@ unfolding nthInside
 returns-2 c =
     let s : List ℕ = c .before .before .before .before .before .before .before .before .args .book .now in
     let u : List ℕ = take (c .before .before .before .before .step .given .0 .1 .1 .0) s in
-    let is : fieldAt s (c .before .before .before .before .before .before .before .before .args .place) ≡ _ = sym (c .before .before .before .before .before .before .field-at .ensures) ∙ c .before .before .before .before .step .given .1 in
+    let is : fieldAt s (c .before .before .before .before .before .before .before .before .args .entry) ≡ _ = sym (c .before .before .before .before .before .before .field-at .ensures) ∙ c .before .before .before .before .step .given .1 in
     (sym (rw is (ap (λ (n : ℕ). nthPlace (c .before .before .before .before .before .before .before .before .args .k) (parts u n)) (sym (c .before .inner .ensures)) ∙ sym (c .nth .ensures .0))), omega (arith, c .nth .ensures .1, length-take (c .before .before .before .before .step .given .0 .1 .1 .0) s))
 
-pub nth-inside-spec : {M : Type 1} → statement M
-nth-inside-spec =
+pub nth-range-spec : {M : Type 1} → statement M
+nth-range-spec =
     tie.close
     (tie.spec
     field-at-requires

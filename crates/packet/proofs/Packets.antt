@@ -38,6 +38,7 @@ use Rattle.packet.specs.Packet.{
   viewed,
   entriesOf,
   numberChecked,
+  after,
   numberOf,
   stepOne,
   placesOf,
@@ -253,7 +254,7 @@ module _ (kind : ℕ) (s ds out : List ℕ) (checked : checkOf s ≡ C.Accepted)
       refuses (suc n) h lt = rw h
 
 -- the check refuses by one number
-number-20 : (s : List ℕ) {k : ℕ} → checkOf s ≡ C.Refused k → k ≡ 20
+pub number-20 : (s : List ℕ) {k : ℕ} → checkOf s ≡ C.Refused k → k ≡ 20
 unfolding checkOf
 number-20 s {k} e = by (leb (length s) 65535 && tablesFill s 0) e
   where
@@ -277,3 +278,18 @@ parsed-20 kind s ds out {k} e =
     let twenty : k ≡ 20 = number-20 s e in
     let none : checkOf s ≡ C.Refused 20 = e ∙ ap C.Refused twenty in
     record { answer = rw (twenty, none); places = refl }
+
+-- a call leaves as many places as it was lent
+pub length-listed : (kind : ℕ) (s ds out : List ℕ) → length (listBy (parseOf kind s ds (length out)) (placesOf kind s ds) out) ≡ length out
+unfolding parseOf listBy numberOf
+length-listed kind s ds out = by (refusalOf (checkOf s)) (numberChecked kind s (length ds) (length out)) refl
+  where
+    by : (a b : ℕ) → numberChecked kind s (length ds) (length out) ≡ b
+        → length (listBy (unless (after a b) (packetOf kind s ds)) (placesOf kind s ds) out) ≡ length out
+    by (suc a) b e = refl
+    by zero (suc b) e = refl
+    by zero zero e =
+        let fit : length ds ≤ length out = passed kind s (length ds) (length out) e .fit in
+        let size = length-places kind s ds in
+        length-append (placesOf kind s ds) (drop (length (placesOf kind s ds)) out)
+        ∙ omega (arith, size, length-drop (length (placesOf kind s ds)) out, fit)

@@ -121,7 +121,7 @@ first-good {X} Good f g = among (f .before) (subst (All Good) (f .among) g)
 -- ---- inside a field
 
 -- the place behind a field is not before the field
-after-up : (tag : ℕ) (u : List ℕ) (at : ℕ) → at ≤ after tag u at
+pub after-up : (tag : ℕ) (u : List ℕ) (at : ℕ) → at ≤ after tag u at
 unfolding after
 after-up tag u at = by (fieldAt u at) refl
   where
@@ -135,6 +135,22 @@ after-up tag u at = by (fieldAt u at) refl
     by Stray e = omega arith
     by Overrun e = omega arith
     by End e = omega arith
+
+-- what stands inside a body does not start before it
+pub inner-up : (tag : ℕ) (u : List ℕ) (from : ℕ) → from ≤ length u → from ≤ innerFrom tag u from
+unfolding innerFrom
+inner-up tag u from h = by (eqb tag 1) (eqb tag 2) (eqb tag 3) (eqb tag 6)
+  where
+    by : (a b c d : Bool)
+        → from ≤ cond a (from + 1) (cond b (from + 16) (cond c (after 5 u (after 4 u (from + 2))) (cond d (after 4 u (from + 2)) (length u))))
+    by true b c d = omega arith
+    by false true c d = omega arith
+    by false false true d =
+        let one : from + 2 ≤ after 4 u (from + 2) = after-up 4 u (from + 2) in
+        let two : after 4 u (from + 2) ≤ after 5 u (after 4 u (from + 2)) = after-up 5 u (after 4 u (from + 2)) in
+        omega arith
+    by false false false true = let one : from + 2 ≤ after 4 u (from + 2) = after-up 4 u (from + 2) in omega arith
+    by false false false false = h
 
 -- fields made from values, by their number
 module _ {Y : Type 0} (piece : Y → Piece) (u : List ℕ) where

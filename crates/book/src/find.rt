@@ -182,7 +182,7 @@ fn seek(book: &[u8], place: usize, want: Want, key: &[u8]) -> usize
 }
 
 // Where the fields inside a body start: behind kind, UUID, name and type, or name, by the tag.
-fn inner(s: &[u8], tag: u8, from: usize) -> usize
+pub fn inner(s: &[u8], tag: u8, from: usize) -> usize
     requires { ⌜ from ≤ length (now s) ⌝ }
     ensures { λ r. ⌜ r ≡ innerFrom tag (now (s .entry)) from ⌝ }
 {

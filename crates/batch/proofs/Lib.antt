@@ -1,0 +1,2 @@
+-- The laws that the proofs of `batch` cite, and its theorem.
+pub mod Batches

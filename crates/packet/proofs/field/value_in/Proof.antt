@@ -1,0 +1,29 @@
+-- `packet::field::value_in` meets its contract: low bit, high bit, and the range between them. Assumes nothing.
+use Rattle.packet.specs.Field.{valueIn}
+use mathlib.Core.Path.{sym, _∙_, ap₂}
+use Rattle.bits.specs.Range.{rangeOf}
+use native.Mathlib.Omega.{arith}
+use borrow.Author.Needs.{needs}
+use Rattle.packet.proofs.field.value_in.Statement.{statement}
+use Rattle.packet.proofs.field.value_in.Tie as tie
+use Rattle.packet.proofs.field.value_in.Reads as reads
+use Rattle.packet.proofs.field.value_in.Lts as lts
+use Rattle.bits.proofs.range.Reads as range-reads
+use Rattle.book.proofs.find.high_of.Reads as high-of-reads
+use Rattle.book.proofs.find.low_of.Reads as low-of-reads
+
+low-of-requires : tie.Need-low-of-requires
+low-of-requires c κs = search needs
+
+high-of-requires : tie.Need-high-of-requires
+high-of-requires c κs = search needs
+
+range-requires : tie.Need-range-requires
+range-requires c κs = search needs
+
+returns : tie.Need-returns
+unfolding valueIn
+returns c = c .range .ensures ∙ ap₂ (rangeOf (c .before .before .before .before .args .dword)) (c .before .before .low-of .ensures) (c .before .high-of .ensures)
+
+pub value-in-spec : {M : Type 1} → statement M
+value-in-spec = tie.close (tie.spec low-of-requires high-of-requires range-requires returns)

@@ -1,0 +1,136 @@
+-- The packet of a kind, a book and dwords, and the number that refuses it.
+-- Assumes nothing.
+use Prim.Native.Nat.{ℕ, zero, suc, _+_, _%_, _^_}
+use mathlib.Core.Path.{_≡_}
+use mathlib.Core.Bool.{Bool, true, false, not, cond, _&&_, _||_}
+use mathlib.Core.List.{List, [], _∷_, _++_}
+use lib.Dec.{eqb, ltb}
+use lib.ListN.{length, drop}
+use Rattle.text.specs.Quote.{bytes}
+use Rattle.text.specs.declared.place.Found.{Found}
+use Rattle.text.specs.declared.place.Found.the-variants.{At, Nothing}
+use Rattle.entry.specs.declared.optional.MaybeWord.{MaybeWord}
+use Rattle.entry.specs.declared.optional.MaybeWord.the-variants as W
+use Rattle.book.specs.declared.Checked.{Checked}
+use Rattle.book.specs.declared.Checked.the-variants as C
+use Rattle.book.specs.declared.Uuid.{Uuid}
+use Rattle.book.specs.Reading.{checkOf, refusalOf}
+use Rattle.book.specs.Finders.{placeOf, controlTable, uuidTable, entryCount}
+use Rattle.packet.specs.declared.Answer.{Answer}
+use Rattle.packet.specs.declared.Answer.the-variants as A
+use Rattle.packet.specs.declared.Packet.{Packet}
+use Rattle.packet.specs.declared.MaybeUuid.{MaybeUuid}
+use Rattle.packet.specs.declared.MaybeUuid.the-variants.{Is, Absent}
+use Rattle.packet.specs.declared.field.Ask.the-variants.{Holds}
+use Rattle.packet.specs.Field.{asks}
+use Rattle.packet.specs.Steps.{controlPlaces, headerPlaces, gathered, uuidPlaces}
+
+-- kinds 2 and 3 have a data view from n onward; kinds 8 and 9 cross domains
+unfoldable pub viewed : ℕ → Bool
+viewed kind = eqb kind 2 || eqb kind 3
+
+unfoldable pub crosses : ℕ → Bool
+crosses kind = eqb kind 8 || eqb kind 9
+
+-- the all-zero UUID is the header table's
+abbrev pub noUuid : Uuid
+noUuid = record { first = 0; second = 0; third = 0; fourth = 0 }
+
+abbrev pub isNothing : Found → Bool
+isNothing (At p) = false
+isNothing Nothing = true
+
+-- where the control table of a kind stands, and where the header table stands
+unfoldable pub controlAt : List ℕ → ℕ → ℕ
+controlAt s kind = placeOf (controlTable s kind)
+
+unfoldable pub headerAt : List ℕ → ℕ
+headerAt s = placeOf (uuidTable s noUuid)
+
+-- n: the number of control entries
+unfoldable pub entriesOf : List ℕ → ℕ → ℕ
+entriesOf s kind = entryCount s (controlAt s kind)
+
+-- ---- numbers 20 to 26, in their order; 0 for none
+
+-- of so many dwords, over a checked book, with so many places lent
+unfoldable pub numberChecked : ℕ → List ℕ → ℕ → ℕ → ℕ
+numberChecked kind s count room =
+    cond (eqb kind 0) 21
+    (cond (isNothing (controlTable s kind)) 22
+    (cond (crosses kind && isNothing (uuidTable s noUuid)) 23
+    (cond (ltb 256 count) 24
+    (cond (viewed kind && ltb count (entriesOf s kind)) 25
+    (cond (ltb room count) 26
+    0)))))
+
+abbrev pub after : ℕ → ℕ → ℕ
+after zero k = k
+after (suc n) k = suc n
+
+unfoldable pub numberOf : ℕ → List ℕ → ℕ → ℕ → ℕ
+numberOf kind s count room = after (refusalOf (checkOf s)) (numberChecked kind s count room)
+
+-- ---- the packet
+
+-- the place of each dword's entry
+unfoldable pub stepOne : ℕ → List ℕ → List ℕ → List ℕ
+stepOne kind s ds = headerPlaces s (headerAt s) (controlPlaces s (controlAt s kind) ds)
+
+unfoldable pub placesOf : ℕ → List ℕ → List ℕ → List ℕ
+placesOf kind s ds = cond (crosses kind) (uuidPlaces s ds (stepOne kind s ds)) (controlPlaces s (controlAt s kind) ds)
+
+-- the UUID that step 2 gathers
+unfoldable pub uuidOf : ℕ → List ℕ → List ℕ → MaybeUuid
+uuidOf kind s ds = cond (crosses kind) (gathered s (bytes "UUID") ds (stepOne kind s ds)) Absent
+
+-- the first index from i on at which an entry is as asked
+unfoldable pub firstFrom : (ℕ → Bool) → ℕ → List ℕ → Found
+firstFrom ok i [] = Nothing
+firstFrom ok i (p ∷ ps) = cond (ok p) (At i) (firstFrom ok (suc i) ps)
+
+-- just after what was found
+abbrev pub behind : Found → Found
+behind (At i) = At (i + 1)
+behind Nothing = Nothing
+
+-- where the data view starts: for kinds 2 and 3 at n; for kinds 8 and 9 just after the first field with `Properties Block Generation`
+unfoldable pub viewFrom : ℕ → List ℕ → List ℕ → Found
+viewFrom kind s ps =
+    cond (viewed kind) (At (entriesOf s kind))
+    (cond (crosses kind) (behind (firstFrom (asks Holds s (bytes "Properties Block Generation")) 0 ps))
+    Nothing)
+
+-- a start, cut to 16 bits
+abbrev pub word : Found → MaybeWord
+word (At i) = W.Is (i % 65536)
+word Nothing = W.Absent
+
+unfoldable pub packetOf : ℕ → List ℕ → List ℕ → Packet
+packetOf kind s ds =
+    record { kind = kind; dwords = length ds; uuid = uuidOf kind s ds; start = word (viewFrom kind s (placesOf kind s ds)) }
+
+-- ---- the answer
+
+-- a packet, unless a number refuses it
+abbrev pub unless : ℕ → Packet → Answer
+unless zero p = A.Packet p
+unless (suc k) p = A.Refused (suc k)
+
+unfoldable pub parseOf : ℕ → List ℕ → List ℕ → ℕ → Answer
+parseOf kind s ds room = unless (numberOf kind s (length ds) room) (packetOf kind s ds)
+
+-- document 01's number for an answer, 0 for a packet
+abbrev pub numberOfAnswer : Answer → ℕ
+numberOfAnswer (A.Packet p) = 0
+numberOfAnswer (A.Refused k) = k
+
+-- a packet writes its places from the first and no others; a refusal nothing
+unfoldable pub listBy : Answer → List ℕ → List ℕ → List ℕ
+listBy (A.Packet p) ps out = ps ++ drop (length ps) out
+listBy (A.Refused k) ps out = out
+
+-- the answer, and each lent place
+pub record Parsed (kind : ℕ) (s ds out exit : List ℕ) (r : Answer) : Type 0 where
+  pub answer : r ≡ parseOf kind s ds (length out)
+  pub places : exit ≡ listBy r (placesOf kind s ds) out

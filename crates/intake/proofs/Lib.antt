@@ -1,3 +1,5 @@
--- The laws of the intake, and the first half of demand 3.
+-- The laws of the intake, and demand 3 for lines and records.
 pub mod Taking
 pub mod Theorems
+pub mod Ranges
+pub mod Demand3

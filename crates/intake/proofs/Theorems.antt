@@ -1,13 +1,13 @@
 -- Demand 3, first half: given 256 slots a text is accepted exactly when it belongs to the line grammar or to the record grammar; no text
 -- belongs to both; each has one reading. A record starts with A1, which is no byte of a line. Assumes nothing.
-use Prim.Native.Nat.{ℕ, _≤_, _<_}
+use Prim.Native.Nat.{ℕ}
 use mathlib.Core.Path.{_≡_, refl, sym, ap, _∙_}
-use mathlib.Core.Bool.{Bool, true, false, cond}
+use mathlib.Core.Bool.{Bool, true, false}
 use mathlib.Core.List.{List, [], _∷_}
 use mathlib.Core.Logic.{_↔_}
 use native.Mathlib.Omega.{arith}
 use lib.Dec.{eqb}
-use lib.ListN.{length, getD, replicate, length-replicate}
+use lib.ListN.{getD, replicate}
 use borrow.Author.Tests.{eq-eqb, ne-eqb, eqb-true, eqb-false}
 use Rattle.tlv.specs.Number.{Bytes}
 use Rattle.tlv.specs.Grammar.{fieldBytes}
@@ -26,7 +26,7 @@ use Rattle.record.proofs.Records.{record-accepted-exactly, accepted-is-record, 
 use Rattle.intake.specs.Intake.{Belongs, startsA1, fromRecord, takenOf}
 
 -- a record starts with A1
-record-starts : (t : List ℕ) (v : EntryValue) → IsRecord t v → getD t 0 0 ≡ 0xA1
+pub record-starts : (t : List ℕ) (v : EntryValue) → IsRecord t v → getD t 0 0 ≡ 0xA1
 unfolding recordBytes fieldBytes
 record-starts t v r = ap (λ (l : List ℕ). getD l 0 0) (sym (r .bytes))
 
@@ -46,12 +46,12 @@ one-reading t v w (Belongs.line a) (Belongs.a-record b) = absurd (no-text-is-bot
 one-reading t v w (Belongs.a-record a) (Belongs.line b) = absurd (no-text-is-both t w v b a)
 one-reading t v w (Belongs.a-record a) (Belongs.a-record b) = one-record-reading t v w a b
 
-taken-from : (q : Record.Answer) {e : Entry} → fromRecord q ≡ A.Entry e → q ≡ R.Entry e
+pub taken-from : (q : Record.Answer) {e : Entry} → fromRecord q ≡ A.Entry e → q ≡ R.Entry e
 unfolding fromRecord
 taken-from (R.Entry f) {e} n = let same : f ≡ e = cc in ap R.Entry same
 taken-from (R.Refused k) {e} n = absurd (let z : _≡_ {A = ℕ} 0 1 = cc in omega arith)
 
-from-record : (q : Record.Answer) {e : Entry} → q ≡ R.Entry e → fromRecord q ≡ A.Entry e
+pub from-record : (q : Record.Answer) {e : Entry} → q ≡ R.Entry e → fromRecord q ≡ A.Entry e
 unfolding fromRecord
 from-record q n = rw n
 

@@ -1,2 +1,3 @@
--- What the intake answers.
+-- What the intake answers, and what demand 3 asks of lines and records.
 pub mod Intake
+pub mod Demand3

@@ -154,16 +154,16 @@ pub dwords-size : (l : List ℕ) (n : ℕ) → n ≤ length l → length (dwords
 dwords-size l n h = dwords-bytes-length (partOf l 0 n) ∙ ap (λ (m : ℕ). 4 * m) (part-length l 0 n (omega arith))
 
 module _ (e : Entry) (text dwords : List ℕ) where
-  pub field-first : (tag : ℕ) → tag < 20
-      → fieldsFrom (20 - tag) tag e text dwords ≡ itemBytes tag (itemOf e tag) text dwords ++ fieldsFrom (20 - (tag + 1)) (tag + 1) e text dwords
+  pub field-first : (past tag : ℕ) → tag < past
+      → fieldsFrom (past - tag) tag e text dwords ≡ itemBytes tag (itemOf e tag) text dwords ++ fieldsFrom (past - (tag + 1)) (tag + 1) e text dwords
   unfolding fieldsFrom
-  field-first tag h =
-      let left : 20 - tag ≡ suc (20 - (tag + 1)) = omega arith in
+  field-first past tag h =
+      let left : past - tag ≡ suc (past - (tag + 1)) = omega arith in
       rw (left, add-one tag)
 
-  pub field-none : (tag : ℕ) → 20 ≤ tag → fieldsFrom (20 - tag) tag e text dwords ≡ []
+  pub field-none : (past tag : ℕ) → past ≤ tag → fieldsFrom (past - tag) tag e text dwords ≡ []
   unfolding fieldsFrom
-  field-none tag h = let left : 20 - tag ≡ 0 = omega arith in rw left
+  field-none past tag h = let left : past - tag ≡ 0 = omega arith in rw left
 
 -- ---- a field is its head and its body
 
@@ -211,14 +211,14 @@ module _ (text dwords : List ℕ) (tag at room : ℕ) (item : Item) (lies : Item
       (h .0 .0, h .0 .1, omega (arith, h .1, field-bytes-length tag (dwordsBytes (partOf dwords 0 n)), dwords-size dwords n (h .0 .0)))
 
 -- there is room for the next field
-pub field-room : (e : Entry) (text dwords : List ℕ) (tag at : ℕ) {found whole out : List ℕ} {place : ℕ}
-    → Filling found at whole out place (fieldsFrom (20 - tag) tag e text dwords) → tag < 20 → at + length whole ≤ length found
+pub field-room : (e : Entry) (text dwords : List ℕ) (past tag at : ℕ) {found whole out : List ℕ} {place : ℕ}
+    → Filling found at whole out place (fieldsFrom (past - tag) tag e text dwords) → tag < past → at + length whole ≤ length found
     → place + length (itemBytes tag (itemOf e tag) text dwords) ≤ length out
-field-room e text dwords tag at {found} {whole} {out} {place} f h room =
+field-room e text dwords past tag at {found} {whole} {out} {place} f h room =
     omega (
       arith,
       f .size,
       f .sum,
-      ap length (field-first e text dwords tag h),
-      length-append (itemBytes tag (itemOf e tag) text dwords) (fieldsFrom (20 - (tag + 1)) (tag + 1) e text dwords),
+      ap length (field-first e text dwords past tag h),
+      length-append (itemBytes tag (itemOf e tag) text dwords) (fieldsFrom (past - (tag + 1)) (tag + 1) e text dwords),
     )

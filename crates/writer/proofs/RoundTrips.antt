@@ -206,6 +206,19 @@ record-writes-back t slots bytes enough v a room h =
       made,
     )
 
+-- an entry that keeps the ranges, its parts in what is lent, is written where 5,227 bytes are lent: the answer is the record's length, and the record lies
+-- over the first bytes, all others as found
+pub writable-is-written : (text : List ℕ) (e : Entry) (dwords out : List ℕ) {r : Written} {left : List ℕ}
+    → Writable text e dwords → 5227 ≤ length out → Writing text e dwords out r left
+    → (r ≡ Bytes (length (bytesOf text e dwords))) × (left ≡ over (bytesOf text e dwords) out)
+unfolding writeOf bytesOf bufferBy
+writable-is-written text e dwords out {r} {left} w room c =
+    let short : length (recordBytes (valueOf e text dwords)) ≤ 5227 =
+    record-at-most-5227 (recordBytes (valueOf e text dwords)) (valueOf e text dwords) (record { ranged = w .ranged; bytes = refl }) in
+    let answer : r ≡ Bytes (length (recordBytes (valueOf e text dwords))) =
+    c .answer ∙ rw (writable-all text e dwords w, le-leb (length (recordBytes (valueOf e text dwords))) (length out) (omega (arith, short))) in
+    (answer, c .buffer ∙ rw answer)
+
 -- a refusal changes nothing
 pub refused-writing-changes-nothing : (text : List ℕ) (e : Entry) (dwords out : List ℕ) (k : ℕ) (left : List ℕ)
     → Writing text e dwords out (Refused k) left → left ≡ out

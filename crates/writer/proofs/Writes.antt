@@ -1,6 +1,6 @@
 -- The fields written tag by tag are the record's rows, the size computed is the record's length, and each way out is one of the ways to an answer.
 -- Assumes nothing.
-use Prim.Native.Nat.{ℕ, zero, suc, _+_, _-_, _*_, _≤_, _<_}
+use Prim.Native.Nat.{ℕ, zero, suc, _+_, _-_, _≤_, _<_}
 use mathlib.Core.Path.{_≡_, _∙_, sym, ap, refl}
 use mathlib.Core.Bool.{Bool, true, false, cond, _&&_}
 use mathlib.Core.List.{List, [], _∷_, _++_}
@@ -8,7 +8,8 @@ use mathlib.Core.Option.{Option, some, none, Option·map}
 use native.Mathlib.Omega.{arith}
 use borrow.Author.Tests.{leb-true, le-leb, lt-leb}
 use lib.Dec.{leb}
-use lib.ListN.{length, getD, length-append}
+use lib.ListN.{length, getD}
+use lib.Seq.{sets}
 use Rattle.text.proofs.Texts.{both-left, both-right}
 use Rattle.tlv.specs.Number.{numberBytes}
 use Rattle.tlv.specs.Grammar.{fieldBytes, fieldsBytes, All}
@@ -44,13 +45,14 @@ use Rattle.writer.specs.Item.{
   itemBytes,
   fieldsFrom,
   ItemLies,
+  ItemsLie,
   byteSize,
   wordSize,
   recordSize,
 }
 use Rattle.writer.specs.Ranges.{fitsPart, fitsTexts, fitsNumbers, writable}
 use Rattle.writer.specs.Writing.{bytesOf, writeOf, bufferBy, Writing}
-use Rattle.writer.proofs.Puts.{put-then, put-length, head-length, field-head, part-length, dwords-size}
+use Rattle.writer.proofs.Puts.{field-head, part-length, dwords-size}
 
 -- ---- what the test of 37 says
 
@@ -259,13 +261,12 @@ module _ (text : List ℕ) (e : Entry) (dwords out : List ℕ) where
     pub size-asks : (e .«task_len» ≤ 4096) × (e .«function_len» ≤ 4096) × (e .dwords ≤ 256)
     size-asks = (omega (arith, f .together), omega (arith, f .together), f .few)
 
-    pub head-asks : (n : ℕ) → n ≡ recordSize e → n ≤ length out → (3 ≤ n) × (n - 3 < 65536) × (0 + 3 ≤ length out)
-    head-asks n s k = let small = size-small text e dwords f in (omega (arith, small .0), omega (arith, small .1), omega (arith, small .0))
+    pub size-least : (n : ℕ) → n ≡ recordSize e → 3 ≤ n
+    size-least n s = omega (arith, size-small text e dwords f .0)
 
-    pub fields-ask : (n : ℕ) → n ≡ recordSize e → n ≤ length out → {at : ℕ} {mid : List ℕ} → Put out 0 (headBytes 0xA1 (n - 3)) at mid
-        → ((tag : ℕ) → ItemLies (itemOf e tag) text dwords) × (at + length (fieldsFrom 19 1 e text dwords) ≤ length mid)
-    fields-ask n s k {at} {mid} p =
-        (items-lie text e dwords f, omega (arith, p .next, put-length p, head-length 0xA1 (n - 3), size-is text e dwords f))
+    pub record-asks : (n : ℕ) → n ≡ recordSize e → n ≤ length out
+        → ItemsLie e text dwords × (n - 3 < 65536) × (3 + length (fieldsFrom 19 1 e text dwords) ≤ length out)
+    record-asks n s k = (items-lie text e dwords f, omega (arith, size-small text e dwords f .1), omega (arith, size-is text e dwords f))
 
     pub refused-36 : (n : ℕ) → n ≡ recordSize e → length out < n → Writing text e dwords out (Refused 36) out
     unfolding writeOf bufferBy
@@ -273,15 +274,15 @@ module _ (text : List ℕ) (e : Entry) (dwords out : List ℕ) where
         let l : length (bytesOf text e dwords) ≡ n = length-is text e dwords f ∙ sym s in
         record { answer = rw (h, l, lt-leb n (length out) k); buffer = refl }
 
-    pub written : (n : ℕ) → n ≡ recordSize e → n ≤ length out → {at r : ℕ} {mid left : List ℕ} → Put out 0 (headBytes 0xA1 (n - 3)) at mid
-        → Put mid at (fieldsFrom 19 1 e text dwords) r left → Writing text e dwords out (Bytes n) left
+    pub written : (n : ℕ) → n ≡ recordSize e → n ≤ length out → {r : ℕ} {left : List ℕ}
+        → Put out 0 (headBytes 0xA1 (n - 3) ++ fieldsFrom 19 1 e text dwords) r left → Writing text e dwords out (Bytes r) left
     unfolding writeOf bufferBy
-    written n s k {at} {r} {mid} {left} p q =
+    written n s k {r} {left} p =
         let l : length (bytesOf text e dwords) ≡ n = length-is text e dwords f ∙ sym s in
-        let whole : Put out 0 (bytesOf text e dwords) r left =
-        put-then (headBytes 0xA1 (n - 3)) (fieldsFrom 19 1 e text dwords) (bytesOf text e dwords) p q
-        (record-is text e dwords f ∙ ap (λ (m : ℕ). headBytes 0xA1 (m - 3) ++ fieldsFrom 19 1 e text dwords) (sym s)) in
+        let bytes : headBytes 0xA1 (n - 3) ++ fieldsFrom 19 1 e text dwords ≡ bytesOf text e dwords =
+        ap (λ (m : ℕ). headBytes 0xA1 (m - 3) ++ fieldsFrom 19 1 e text dwords) s ∙ sym (record-is text e dwords f) in
+        let r-is : r ≡ n = omega (arith, p .next, ap length bytes, l) in
         record {
-          answer = rw (h, l, le-leb n (length out) k);
-          buffer = whole .is ∙ sets-over (bytesOf text e dwords) out (omega (arith, l));
+          answer = rw (h, l, le-leb n (length out) k, r-is);
+          buffer = p .is ∙ ap (sets out 0) bytes ∙ sets-over (bytesOf text e dwords) out (omega (arith, l));
         }

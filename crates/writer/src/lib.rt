@@ -4,14 +4,15 @@
 //     check     number 37
 //     item      the body of each tag, from the entry
 //     put       bytes, numbers, dwords and fields at a place of a buffer
+//     small     the small writer, which holds the lent buffer
 pub mod check;
 pub mod item;
 pub mod put;
+pub mod small;
 
 use crate::check::is_writable;
 use crate::item::record_size;
-use crate::put::put_fields;
-use crate::put::put_head;
+use crate::small::put_record;
 use entry::Entry;
 ghost use Rattle.writer.specs.Writing.{Writing};
 
@@ -33,7 +34,5 @@ pub fn write(text: &[u8], e: Entry, dwords: &[u32], out: &mut [u8]) -> Written
     if out.len() < size {
         return Written::Refused(36);
     }
-    let at = put_head(out, 0, 0xA1, size - 3);
-    put_fields(out, at, text, e, dwords);
-    Written::Bytes(size)
+    Written::Bytes(put_record(out, size - 3, text, e, dwords))
 }

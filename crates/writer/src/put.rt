@@ -3,7 +3,7 @@ use crate::item::Item;
 use crate::item::item_of;
 use entry::Entry;
 ghost use mathlib.Core.Path.{_≡_};
-ghost use Prim.Native.Nat.{_+_, _*_, _≤_, _<_};
+ghost use Prim.Native.Nat.{_+_, _-_, _*_, _≤_, _<_};
 ghost use lib.ListN.{length};
 ghost use Rattle.tlv.specs.Number.{numberBytes};
 ghost use Rattle.tlv.specs.Grammar.{fieldBytes};
@@ -12,14 +12,22 @@ ghost use Rattle.entry.specs.Entry.{partOf};
 ghost use Rattle.writer.specs.Item.{itemOf, ItemLies, itemBytes, headBytes, fieldsFrom, ItemsLie};
 ghost use Rattle.writer.specs.Put.{Put};
 
-// The fields of an entry, tag by tag.
-pub fn put_fields(out: &mut [u8], at: usize, text: &[u8], e: Entry, dwords: &[u32]) -> usize
-    requires { ⌜ ItemsLie e (now text) (now dwords) × (at + length (fieldsFrom 19 1 e (now text) (now dwords)) ≤ length (now out)) ⌝ }
-    ensures { λ r. ⌜ Put (now (out .entry)) at (fieldsFrom 19 1 e (now (text .entry)) (now (dwords .entry))) r (now (out .exit)) ⌝ }
+// The fields of an entry from a tag on, tag by tag, up to another.
+pub fn put_fields(
+    out: &mut [u8],
+    at: usize,
+    first: u8,
+    past: u8,
+    text: &[u8],
+    e: Entry,
+    dwords: &[u32],
+) -> usize
+    requires { ⌜ ItemsLie e (now text) (now dwords) × (at + length (fieldsFrom (past - first) first e (now text) (now dwords)) ≤ length (now out)) ⌝ }
+    ensures { λ r. ⌜ Put (now (out .entry)) at (fieldsFrom (past - first) first e (now (text .entry)) (now (dwords .entry))) r (now (out .exit)) ⌝ }
 {
     let mut place = at;
-    let mut tag = 1u8;
-    while tag < 20 {
+    let mut tag = first;
+    while tag < past {
         place = put_item(out, place, tag, item_of(e, tag), text, dwords);
         tag += 1;
     }

@@ -1,9 +1,7 @@
 -- `write` meets its contract: each way out is one of the ways to an answer. Assumes nothing.
-use mathlib.Core.Path.{_≡_, sym, _∙_}
+use mathlib.Core.Path.{sym, _∙_}
 use borrow.Author.Tests.{not-true, not-false}
-use Rattle.writer.proofs.Puts.{put-length}
-use Rattle.writer.proofs.Writes.{refused-37, size-asks, head-asks, fields-ask, refused-36, written}
-use native.Mathlib.Omega.{arith}
+use Rattle.writer.proofs.Writes.{refused-37, size-asks, size-least, record-asks, refused-36, written}
 use borrow.Author.Needs.{needs}
 use Rattle.writer.proofs.write.Statement.{statement}
 use Rattle.writer.proofs.write.Tie as tie
@@ -20,24 +18,17 @@ record-size-requires c κs = size-asks _ _ _ (c .before .before .before .before 
 returns-2 : tie.Need-returns-2
 returns-2 c = refused-36 _ _ _ _ (sym (c .before .before .before .is-writable .ensures) ∙ not-false _ (c .before .before .if1 .left)) _ (c .before .record-size .ensures) (c .if2 .taken)
 
-sub-put-head : tie.Need-sub-put-head
-sub-put-head c =
-    omega (arith, head-asks _ _ _ (c .before .before .before .before .before .before .before .before .args .out .now) (sym (c .before .before .before .before .is-writable .ensures) ∙ not-false _ (c .before .before .before .if1 .left)) _ (c .before .before .record-size .ensures) (c .before .if2 .left) .0)
+sub-put-record : tie.Need-sub-put-record
+sub-put-record c = size-least _ _ _ (c .before .before .before .before .before .before .before .before .args .out .now) (sym (c .before .before .before .before .is-writable .ensures) ∙ not-false _ (c .before .before .before .if1 .left)) _ (c .before .before .record-size .ensures)
 
-put-head-requires : tie.Need-put-head-requires
-put-head-requires c κs =
-    let h = head-asks _ _ _ (c .before .before .before .before .before .before .before .before .args .out .now) (sym (c .before .before .before .before .is-writable .ensures) ∙ not-false _ (c .before .before .before .if1 .left)) _ (c .before .before .record-size .ensures) (c .before .if2 .left) in (h .1, h .2)
-
-put-fields-requires : tie.Need-put-fields-requires
-put-fields-requires c κs =
-    fields-ask _ _ _ _ (sym (c .before .before .before .before .before .before .before .before .is-writable .ensures) ∙ not-false _ (c .before .before .before .before .before .before .before .if1 .left)) _ (c .before .before .before .before .before .before .record-size .ensures) (c .before .before .before .before .before .if2 .left) (c .before .before .before .put-head .ensures)
+put-record-requires : tie.Need-put-record-requires
+put-record-requires c κs = record-asks _ _ _ (c .before .before .before .before .before .before .before .before .args .out .now) (sym (c .before .before .before .before .is-writable .ensures) ∙ not-false _ (c .before .before .before .if1 .left)) _ (c .before .before .record-size .ensures) (c .before .if2 .left)
 
 same-length : tie.Need-same-length
-same-length c = put-length (c .before .before .put-fields .ensures) ∙ put-length (c .before .before .before .before .before .before .put-head .ensures)
+same-length c = search needs
 
 returns-3 : tie.Need-returns-3
-returns-3 c =
-    written _ _ _ _ (sym (c .before .before .before .before .before .before .before .before .before .before .before .is-writable .ensures) ∙ not-false _ (c .before .before .before .before .before .before .before .before .before .before .if1 .left)) _ (c .before .before .before .before .before .before .before .before .before .record-size .ensures) (c .before .before .before .before .before .before .before .before .if2 .left) (c .before .before .before .before .before .before .put-head .ensures) (c .before .before .put-fields .ensures)
+returns-3 c = written _ _ _ _ (sym (c .before .before .before .before .before .before .before .is-writable .ensures) ∙ not-false _ (c .before .before .before .before .before .before .if1 .left)) _ (c .before .before .before .before .before .record-size .ensures) (c .before .before .before .before .if2 .left) (c .before .before .put-record .ensures)
 
 pub write-spec : {M : Type 1} → statement M
 write-spec =
@@ -47,8 +38,7 @@ write-spec =
     returns
     record-size-requires
     returns-2
-    sub-put-head
-    put-head-requires
-    put-fields-requires
+    sub-put-record
+    put-record-requires
     same-length
     returns-3)

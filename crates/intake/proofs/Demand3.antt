@@ -1,0 +1,161 @@
+-- Demand 3 for lines and records: what a line says keeps the record's ranges, so there is a record of it; the writer writes that record, and the record's
+-- own round trips do the rest. The ground for a text that is a record already is the same. Assumes nothing.
+use Prim.Native.Nat.{ℕ, _+_, _≤_, _<_}
+use mathlib.Core.Path.{_≡_, refl, sym, ap, _∙_}
+use mathlib.Core.Bool.{true, false}
+use mathlib.Core.List.{List}
+use native.Mathlib.Omega.{arith}
+use native.Mathlib.Decide.{decLt}
+use borrow.Author.Tests.{eq-eqb}
+use lib.ListN.{length, take, drop, length-append}
+use lib.Seq.{take-append-seam, drop-append-seam}
+use Rattle.entry.specs.declared.Entry.{Entry}
+use Rattle.entry.specs.Entry.{EntryValue, partOf, valueOf, Lies, SameEntry}
+use Rattle.entry.proofs.Parts.{part-out}
+use Rattle.scan.specs.declared.Answer.{Answer}
+use Rattle.scan.specs.declared.Answer.the-variants as A
+use Rattle.scan.specs.Parse.{slotsBy, Parsed}
+use Rattle.scan.specs.Line.{Line}
+use Rattle.scan.proofs.Theorems.{Handed, parsed-entry}
+use Rattle.record.specs.declared.Answer.the-variants as R
+use Rattle.record.specs.Grammar.{recordBytes, Ranged, IsRecord}
+use Rattle.record.specs.Reading.{over, dwordsOf, readOf}
+use Rattle.record.proofs.Records.{Accepts, record-accepted-exactly, accepted-is-record, record-at-most-5227}
+use Rattle.writer.specs.declared.Written.{Written}
+use Rattle.writer.specs.Writing.{bytesOf}
+use Rattle.writer.proofs.RoundTrips.{Writable, writable-is-written}
+use Rattle.intake.specs.Intake.{startsA1, fromRecord, takenOf, takenDwords}
+use Rattle.intake.specs.Demand3.{ReadCall, WriteCall, Wrote, Says, HasRecord, LinesAndRecords}
+use Rattle.intake.proofs.Theorems.{record-starts, taken-from, from-record, accepted-exactly-when-it-belongs, no-text-is-both, one-reading}
+use Rattle.intake.proofs.Ranges.{line-ranged}
+
+-- ---- what an accepted text says
+
+-- a part with a byte in it lies inside
+part-lies : (l : List ℕ) (at n : ℕ) → 0 < length (partOf l at n) → at + n ≤ length l
+part-lies l at n some =
+    elim (decLt (length l) (at + n)) [
+      | yes outside ↦ absurd (omega (arith, some, ap length (part-out l at n outside)))
+      | no inside ↦ omega (arith, inside)
+    ]
+
+-- an accepted text that does not start with A1 is a line, and its entry says what the line says
+accepted-line : (text slots : List ℕ) (e : Entry) (left : List ℕ) → startsA1 text ≡ false → ReadCall text slots (A.Entry e) left
+    → Line text (valueOf e text left) × Lies e text left
+unfolding takenOf takenDwords valueOf
+accepted-line text slots e left first c =
+    let parsed : Parsed text slots left (A.Entry e) = record { answer = c .contract .answer ∙ rw first; slots = c .contract .slots ∙ rw first } in
+    let h : Handed text slots left e = parsed-entry text slots parsed in
+    let r : Ranged (valueOf e text left) = line-ranged text (h .line) in (
+      h .line,
+      record {
+        task = part-lies text (e .«task_at») (e .«task_len») (r .task .some);
+        function = part-lies text (e .«function_at») (e .«function_len») (r .function .some);
+        dwords = omega (arith, h .count, ap length (h .slots), length-append (partOf left 0 (e .dwords)) (drop (e .dwords) slots));
+      },
+    )
+
+-- a call of `read` on a record, by the record's own reader
+module _ (text slots : List ℕ) {answer : Answer} (left : List ℕ) (first : startsA1 text ≡ true) (c : ReadCall text slots answer left) where
+  record-answer : answer ≡ fromRecord (readOf text (length slots))
+  unfolding takenOf
+  record-answer = c .contract .answer ∙ rw first
+
+  record-slots : {e : Entry} → answer ≡ A.Entry e → left ≡ over (dwordsOf text) slots
+  unfolding takenDwords slotsBy
+  record-slots e = c .contract .slots ∙ rw (e, first)
+
+-- the intake accepts a record, and its entry says what the record says
+record-accepted : (text : List ℕ) (v : EntryValue) → IsRecord text v → (slots : List ℕ) (answer : Answer) (left : List ℕ) → ReadCall text slots answer left
+    → (f : Entry) × (answer ≡ A.Entry f) × Says text f left v
+unfolding startsA1
+record-accepted text v r slots answer left c =
+    let first : startsA1 text ≡ true = eq-eqb _ _ (record-starts text v r) in
+    let a : Accepts text slots v = record-accepted-exactly text (c .bytes) slots (c .enough) v .1 r in
+    let accepted : answer ≡ A.Entry (a .entry) = record-answer text slots left first c ∙ from-record (readOf text (length slots)) (a .answer) in
+    let slots-left : left ≡ over (dwordsOf text) slots = record-slots text slots left first c accepted in
+    (a .entry, accepted, record { lies = rw slots-left (a .lies); is = rw slots-left (a .value) })
+
+-- an accepted text that starts with A1 is a record
+accepted-record : (text slots : List ℕ) (e : Entry) (left : List ℕ) → startsA1 text ≡ true → ReadCall text slots (A.Entry e) left
+    → (v : EntryValue) × IsRecord text v × Says text e left v
+accepted-record text slots e left first c =
+    let read : readOf text (length slots) ≡ R.Entry e = taken-from (readOf text (length slots)) (sym (record-answer text slots left first c)) in
+    let r = accepted-is-record text (c .bytes) (length slots) e read in
+    let g = record-accepted text _ r slots (A.Entry e) left c in
+    let same : g .0 ≡ e = cc in
+    (_, r, rw same at (g .2))
+
+-- ---- its record
+
+-- an entry that says v is written as the record of v
+writes-record : (text : List ℕ) (e : Entry) (dwords : List ℕ) (v : EntryValue) → Says text e dwords v → Ranged v
+    → (buffer : List ℕ) (answer : Written) (left : List ℕ) → WriteCall text e dwords buffer answer left → Wrote (recordBytes v) buffer answer left
+unfolding bytesOf
+writes-record text e dwords v s r buffer answer left c =
+    let w : Writable text e dwords = record { lies = s .lies; ranged = rw (s .is) r } in
+    let h = writable-is-written text e dwords buffer w (c .enough) (c .contract) in
+    let bytes : recordBytes (valueOf e text dwords) ≡ recordBytes v = ap recordBytes (s .is) in
+    let buffered : left ≡ over (recordBytes v) buffer = rw bytes at (h .1) in
+    record {
+      number = rw bytes at (h .0);
+      first = ap (take (length (recordBytes v))) buffered ∙ take-append-seam (recordBytes v) (drop (length (recordBytes v)) buffer);
+      rest = ap (drop (length (recordBytes v))) buffered ∙ drop-append-seam (recordBytes v) (drop (length (recordBytes v)) buffer);
+    }
+
+-- what keeps the ranges has a record
+has-record : (text : List ℕ) (e : Entry) (dwords : List ℕ) (v : EntryValue) → Says text e dwords v → Ranged v → HasRecord text e dwords v
+has-record text e dwords v s r =
+    record {
+      says = s;
+      is-record = made;
+      short = record-at-most-5227 (recordBytes v) v made;
+      written = writes-record text e dwords v s r;
+      reads-back = back;
+      writes-again = again;
+    }
+  where
+    made : IsRecord (recordBytes v) v
+    made = record { ranged = r; bytes = refl }
+
+    back : (slots : List ℕ) (answer : Answer) (left : List ℕ) → ReadCall (recordBytes v) slots answer left
+        → (f : Entry) × (answer ≡ A.Entry f) × SameEntry e text dwords f (recordBytes v) left
+    back slots answer left c =
+        let f = record-accepted (recordBytes v) v made slots answer left c in
+        (f .0, f .1, record { first-lies = s .lies; second-lies = f .2 .lies; same = s .is ∙ sym (f .2 .is) })
+
+    again : (slots : List ℕ) (f : Entry) (left buffer : List ℕ) (answer : Written) (after : List ℕ)
+        → ReadCall (recordBytes v) slots (A.Entry f) left → WriteCall (recordBytes v) f left buffer answer after
+        → Wrote (recordBytes v) buffer answer after
+    again slots f left buffer answer after c d =
+        let g = record-accepted (recordBytes v) v made slots (A.Entry f) left c in
+        let same : g .0 ≡ f = cc in
+        writes-record (recordBytes v) f left v (rw same at (g .2)) r buffer answer after d
+
+-- ---- the promises
+
+-- every accepted line has a record
+pub line-has-a-record : (text slots : List ℕ) (e : Entry) (left : List ℕ) → startsA1 text ≡ false → ReadCall text slots (A.Entry e) left
+    → (v : EntryValue) × Line text v × HasRecord text e left v
+line-has-a-record text slots e left first c =
+    let a = accepted-line text slots e left first c in
+    (valueOf e text left, a .0, has-record text e left (valueOf e text left) (record { lies = a .1; is = refl }) (line-ranged text (a .0)))
+
+-- every accepted record is what writing its entry gives
+pub record-is-the-writers : (text slots : List ℕ) (e : Entry) (left : List ℕ) → startsA1 text ≡ true → ReadCall text slots (A.Entry e) left
+    → (v : EntryValue) × (recordBytes v ≡ text) × HasRecord text e left v
+record-is-the-writers text slots e left first c =
+    let a = accepted-record text slots e left first c in
+    (a .0, a .1 .bytes, has-record text e left (a .0) (a .2) (a .1 .ranged))
+
+-- demand 3 for lines and records
+pub lines-and-records : LinesAndRecords
+lines-and-records =
+    record {
+      accepted = accepted-exactly-when-it-belongs;
+      never-both = no-text-is-both;
+      one-reading = one-reading;
+      line-has-a-record = line-has-a-record;
+      record-is-the-writers = record-is-the-writers;
+      record-at-most-5227 = record-at-most-5227;
+    }

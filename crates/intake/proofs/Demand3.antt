@@ -28,6 +28,7 @@ use Rattle.intake.specs.Intake.{startsA1, fromRecord, takenOf, takenDwor
 use Rattle.intake.specs.Demand3.{ReadCall, WriteCall, Wrote, Says, HasRecord, LinesAndRecords}
 use Rattle.intake.proofs.Theorems.{record-starts, taken-from, from-record, accepted-exactly-when-it-belongs, no-text-is-both, one-reading}
 use Rattle.intake.proofs.Ranges.{line-ranged}
+use Rattle.intake.proofs.Made.{record-bytes}
 
 -- ---- what an accepted text says
 
@@ -110,6 +111,7 @@ has-record text e dwords v s r =
       says = s;
       is-record = made;
       short = record-at-most-5227 (recordBytes v) v made;
+      bytes = record-bytes v r;
       written = writes-record text e dwords v s r;
       reads-back = back;
       writes-again = again;

@@ -56,8 +56,9 @@ pub record HasRecord (text : List ℕ) (e : Entry) (dwords : List ℕ) (v : Entr
   pub says : Says text e dwords v
   -- The bytes for v are a record: v keeps the ranges.
   pub is-record : IsRecord (recordBytes v) v
-  -- They are at most 5,227.
+  -- They are at most 5,227, each below 256, so they can be lent as a text.
   pub short : length (recordBytes v) ≤ 5227
+  pub bytes : Bytes (recordBytes v)
   -- Writing the entry writes them.
   pub written : (buffer : List ℕ) (answer : Written) (left : List ℕ) → WriteCall text e dwords buffer answer left
       → Wrote (recordBytes v) buffer answer left

@@ -16,7 +16,7 @@ use Rattle.record.specs.Grammar.{recordBytes, IsRecord}
 use Rattle.writer.specs.declared.Written.{Written}
 use Rattle.writer.specs.declared.Written.the-variants as W
 use Rattle.writer.specs.Writing.{Writing}
-use Rattle.intake.specs.Intake.{Belongs, startsA1, takenOf, Taken}
+use Rattle.intake.specs.Intake.{Belongs, startsA1, Taken}
 
 -- A call of `read` with enough slots: it was lent a text and slots, and gave this answer and left the slots so.
 pub record ReadCall (text slots : List ℕ) (answer : Answer) (left : List ℕ) : Type 0 where
@@ -73,7 +73,8 @@ pub record HasRecord (text : List ℕ) (e : Entry) (dwords : List ℕ) (v : Entr
 -- What demand 3 asks of lines and records. What it asks of packets stands with the packets.
 pub record LinesAndRecords : Type 0 where
   -- Given 256 slots, a text is accepted exactly when it belongs to the line grammar or to the record grammar.
-  pub accepted : (text : List ℕ) → Bytes text → ((e : Entry) × (takenOf text 256 ≡ A.Entry e)) ↔ ((v : EntryValue) × Belongs text v)
+  pub accepted : (text slots : List ℕ) (answer : Answer) (left : List ℕ) → ReadCall text slots answer left
+      → ((e : Entry) × (answer ≡ A.Entry e)) ↔ ((v : EntryValue) × Belongs text v)
   -- No text belongs to both.
   pub never-both : (text : List ℕ) (v w : EntryValue) → Line text v → IsRecord text w → ⊥
   -- A text says one thing.

@@ -56,8 +56,9 @@ pub record HasRecord (text : List ℕ) (e : Entry) (dwords : List ℕ) (v : Entr
   pub says : Says text e dwords v
   -- The bytes for v are a record: v keeps the ranges.
   pub is-record : IsRecord (recordBytes v) v
-  -- They are at most 5,227, each below 256, so they can be lent as a text.
+  -- They are at most 5,227.
   pub short : length (recordBytes v) ≤ 5227
+  -- Each is below 256, so they can be lent as a text.
   pub bytes : Bytes (recordBytes v)
   -- Writing the entry writes them.
   pub written : (buffer : List ℕ) (answer : Written) (left : List ℕ) → WriteCall text e dwords buffer answer left
@@ -70,7 +71,7 @@ pub record HasRecord (text : List ℕ) (e : Entry) (dwords : List ℕ) (v : Entr
       → ReadCall (recordBytes v) slots (A.Entry f) left → WriteCall (recordBytes v) f left buffer answer after
       → Wrote (recordBytes v) buffer answer after
 
--- What demand 3 asks of lines and records. What it asks of packets stands with the packets.
+-- What demand 3 asks of lines and records. What it asks of packets is not said here.
 pub record LinesAndRecords : Type 0 where
   -- Given 256 slots, a text is accepted exactly when it belongs to the line grammar or to the record grammar.
   pub accepted : (text slots : List ℕ) (answer : Answer) (left : List ℕ) → ReadCall text slots answer left

@@ -2,11 +2,14 @@
 -- own round trips do the rest. The ground for a text that is a record already is the same. Assumes nothing.
 use Prim.Native.Nat.{ℕ, _+_, _≤_, _<_}
 use mathlib.Core.Path.{_≡_, refl, sym, ap, _∙_}
-use mathlib.Core.Bool.{true, false}
+use mathlib.Core.Bool.{Bool, true, false}
 use mathlib.Core.List.{List}
+use mathlib.Core.Logic.{_↔_}
+use mathlib.Core.Option.{Option, some, none}
 use native.Mathlib.Omega.{arith}
 use native.Mathlib.Decide.{decLt}
-use borrow.Author.Tests.{eq-eqb}
+use borrow.Author.Tests.{eq-eqb, ne-eqb, le-ltb, ltb-false}
+use lib.Dec.{ltb}
 use lib.ListN.{length, take, drop, length-append}
 use lib.Seq.{take-append-seam, drop-append-seam}
 use Rattle.entry.specs.declared.Entry.{Entry}
@@ -14,9 +17,22 @@ use Rattle.entry.specs.Entry.{EntryValue, partOf, valueOf, Lies, SameEntry}
 use Rattle.entry.proofs.Parts.{part-out}
 use Rattle.scan.specs.declared.Answer.{Answer}
 use Rattle.scan.specs.declared.Answer.the-variants as A
-use Rattle.scan.specs.Parse.{slotsBy, Parsed}
+use Rattle.scan.specs.declared.frame.FrameAnswer.{FrameAnswer}
+use Rattle.scan.specs.declared.frame.FrameAnswer.the-variants as F
+use Rattle.scan.specs.declared.head.Head.{Head}
+use Rattle.scan.specs.declared.head.HeadAnswer.{HeadAnswer}
+use Rattle.scan.specs.declared.head.HeadAnswer.the-variants as H
+use Rattle.scan.specs.declared.body.BodyAnswer.{BodyAnswer}
+use Rattle.scan.specs.declared.body.BodyAnswer.the-variants as B
+use Rattle.scan.specs.declared.dwords.DataAnswer.the-variants as D
+use Rattle.scan.specs.Need.{need}
+use Rattle.scan.specs.Frame.{frameOf}
+use Rattle.scan.specs.Head.{headOf}
+use Rattle.scan.specs.Body.{bodyOf}
+use Rattle.scan.specs.Dwords.{payloadData, data16, dataAnswer}
+use Rattle.scan.specs.Parse.{headerOf, payloadOf, startOf, withData, withBody, payloadAnswer, withHead, partedAnswer, withFrame, parseOf, slotsBy, Parsed}
 use Rattle.scan.specs.Line.{Line}
-use Rattle.scan.proofs.Theorems.{Handed, parsed-entry}
+use Rattle.scan.proofs.Theorems.{line-entry-all, Handed, parsed-entry}
 use Rattle.record.specs.declared.Answer.the-variants as R
 use Rattle.record.specs.Grammar.{recordBytes, Ranged, IsRecord}
 use Rattle.record.specs.Reading.{over, dwordsOf, readOf}
@@ -24,18 +40,19 @@ use Rattle.record.proofs.Records.{Accepts, record-accepted-exactly, accepted-is
 use Rattle.writer.specs.declared.Written.{Written}
 use Rattle.writer.specs.Writing.{bytesOf}
 use Rattle.writer.proofs.RoundTrips.{Writable, writable-is-written}
-use Rattle.intake.specs.Intake.{startsA1, fromRecord, takenOf, takenDwords}
+use Rattle.intake.specs.Intake.{Belongs, startsA1, fromRecord, takenOf, takenDwords}
 use Rattle.intake.specs.Demand3.{ReadCall, WriteCall, Wrote, Says, HasRecord, LinesAndRecords}
-use Rattle.intake.proofs.Theorems.{record-starts, taken-from, from-record, accepted-exactly-when-it-belongs, no-text-is-both, one-reading}
+use Rattle.intake.proofs.Theorems.{record-starts, line-starts, taken-from, from-record, no-text-is-both, one-reading}
 use Rattle.intake.proofs.Ranges.{line-ranged}
+use Rattle.intake.proofs.Made.{record-bytes}
 
 -- ---- what an accepted text says
 
 -- a part with a byte in it lies inside
 part-lies : (l : List ℕ) (at n : ℕ) → 0 < length (partOf l at n) → at + n ≤ length l
-part-lies l at n some =
+part-lies l at n byte =
     elim (decLt (length l) (at + n)) [
-      | yes outside ↦ absurd (omega (arith, some, ap length (part-out l at n outside)))
+      | yes outside ↦ absurd (omega (arith, byte, ap length (part-out l at n outside)))
       | no inside ↦ omega (arith, inside)
     ]
 
@@ -110,6 +127,7 @@ has-record text e dwords v s r =
       says = s;
       is-record = made;
       short = record-at-most-5227 (recordBytes v) v made;
+      bytes = record-bytes v r;
       written = writes-record text e dwords v s r;
       reads-back = back;
       writes-again = again;
@@ -132,7 +150,55 @@ has-record text e dwords v s r =
         let same : g .0 ≡ f = cc in
         writes-record (recordBytes v) f left v (rw same at (g .2)) r buffer answer after d
 
+-- ---- with more than 256 slots a line is read as with 256
+
+enough-slots : (payload : List ℕ) (room : ℕ) → 256 ≤ room → dataAnswer payload room ≡ dataAnswer payload 256
+unfolding dataAnswer
+enough-slots payload room h = by-data (payloadData payload)
+  where
+    by-count : (ds : List ℕ) (many : Bool) → ltb 256 (length ds) ≡ many → data16 room ds ≡ data16 256 ds
+    by-count ds true e = rw e
+    by-count ds false e = rw (e, le-ltb room (length ds) (omega (arith, h, ltb-false 256 (length ds) e)))
+
+    by-data : (o : Option (List ℕ)) → need (D.Refused 15) o (data16 room) ≡ need (D.Refused 15) o (data16 256)
+    by-data none = refl
+    by-data (some ds) = by-count ds (ltb 256 (length ds)) refl
+
+line-with-more-slots : (t : List ℕ) (room : ℕ) → 256 ≤ room → parseOf t room ≡ parseOf t 256
+unfolding parseOf withFrame partedAnswer withHead payloadAnswer withBody
+line-with-more-slots t room h = by-frame (frameOf t)
+  where
+    by-body : (header : List ℕ) (start : ℕ) (head : Head) (payload : List ℕ) (b : BodyAnswer)
+        → withBody header start head payload room b ≡ withBody header start head payload 256 b
+    by-body header start head payload (B.Got body) = ap (withData header start head body) (enough-slots payload room h)
+    by-body header start head payload (B.Refused k) = refl
+
+    by-head : (colon : ℕ) (a : HeadAnswer) → withHead t colon room a ≡ withHead t colon 256 a
+    by-head colon (H.Got head) =
+        by-body (headerOf t colon) (startOf t colon) head (payloadOf t colon) (bodyOf (payloadOf t colon) (drop (head .function) (headerOf t colon)))
+    by-head colon (H.Refused k) = refl
+
+    by-frame : (f : FrameAnswer) → withFrame t room f ≡ withFrame t 256 f
+    by-frame (F.Colon colon) = by-head colon (headOf (headerOf t colon))
+    by-frame (F.Refused k) = refl
+
 -- ---- the promises
+
+-- given 256 slots, a text is accepted exactly when it belongs to the line grammar or to the record grammar
+pub accepted-exactly : (text slots : List ℕ) (answer : Answer) (left : List ℕ) → ReadCall text slots answer left
+    → ((e : Entry) × (answer ≡ A.Entry e)) ↔ ((v : EntryValue) × Belongs text v)
+unfolding takenOf startsA1
+accepted-exactly text slots answer left c = (λ x. mp (startsA1 text) refl (x .0) (x .1), λ y. mpr (y .0) (y .1))
+  where
+    mp : (first : Bool) → startsA1 text ≡ first → (e : Entry) → answer ≡ A.Entry e → (v : EntryValue) × Belongs text v
+    mp true f e n = let r = accepted-record text slots e left f (rw n at c) in (r .0, Belongs.a-record (r .1))
+    mp false f e n = (_, Belongs.line (accepted-line text slots e left f (rw n at c) .0))
+
+    mpr : (v : EntryValue) → Belongs text v → (e : Entry) × (answer ≡ A.Entry e)
+    mpr v (Belongs.a-record r) = let f = record-accepted text v r slots answer left c in (f .0, f .1)
+    mpr v (Belongs.line a) =
+        let f = line-entry-all text a in
+        (f .0, c .contract .answer ∙ rw (ne-eqb _ _ (line-starts text v a)) (line-with-more-slots text (length slots) (c .enough) ∙ f .1))
 
 -- every accepted line has a record
 pub line-has-a-record : (text slots : List ℕ) (e : Entry) (left : List ℕ) → startsA1 text ≡ false → ReadCall text slots (A.Entry e) left
@@ -152,7 +218,7 @@ record-is-the-writers text slots e left first c =
 pub lines-and-records : LinesAndRecords
 lines-and-records =
     record {
-      accepted = accepted-exactly-when-it-belongs;
+      accepted = accepted-exactly;
       never-both = no-text-is-both;
       one-reading = one-reading;
       line-has-a-record = line-has-a-record;

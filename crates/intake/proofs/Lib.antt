@@ -2,4 +2,5 @@
 pub mod Taking
 pub mod Theorems
 pub mod Ranges
+pub mod Made
 pub mod Demand3

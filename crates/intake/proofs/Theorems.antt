@@ -31,7 +31,7 @@ unfolding recordBytes fieldBytes
 record-starts t v r = ap (λ (l : List ℕ). getD l 0 0) (sym (r .bytes))
 
 -- A1 is no byte of a line
-line-starts : (t : List ℕ) (v : EntryValue) → Line t v → getD t 0 0 ≡ 0xA1 → ⊥
+pub line-starts : (t : List ℕ) (v : EntryValue) → Line t v → getD t 0 0 ≡ 0xA1 → ⊥
 line-starts [] v a e = absurd (omega arith)
 line-starts (b ∷ t) v a e = a .ascii (record { place = 0; within = omega arith; high = omega arith })
 

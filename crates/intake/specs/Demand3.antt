@@ -16,7 +16,7 @@ use Rattle.record.specs.Grammar.{recordBytes, IsRecord}
 use Rattle.writer.specs.declared.Written.{Written}
 use Rattle.writer.specs.declared.Written.the-variants as W
 use Rattle.writer.specs.Writing.{Writing}
-use Rattle.intake.specs.Intake.{Belongs, startsA1, takenOf, Taken}
+use Rattle.intake.specs.Intake.{Belongs, startsA1, Taken}
 
 -- A call of `read` with enough slots: it was lent a text and slots, and gave this answer and left the slots so.
 pub record ReadCall (text slots : List ℕ) (answer : Answer) (left : List ℕ) : Type 0 where
@@ -58,6 +58,8 @@ pub record HasRecord (text : List ℕ) (e : Entry) (dwords : List ℕ) (v : Entr
   pub is-record : IsRecord (recordBytes v) v
   -- They are at most 5,227.
   pub short : length (recordBytes v) ≤ 5227
+  -- Each is below 256, so they can be lent as a text.
+  pub bytes : Bytes (recordBytes v)
   -- Writing the entry writes them.
   pub written : (buffer : List ℕ) (answer : Written) (left : List ℕ) → WriteCall text e dwords buffer answer left
       → Wrote (recordBytes v) buffer answer left
@@ -69,10 +71,11 @@ pub record HasRecord (text : List ℕ) (e : Entry) (dwords : List ℕ) (v : Entr
       → ReadCall (recordBytes v) slots (A.Entry f) left → WriteCall (recordBytes v) f left buffer answer after
       → Wrote (recordBytes v) buffer answer after
 
--- What demand 3 asks of lines and records. What it asks of packets stands with the packets.
+-- What demand 3 asks of lines and records. What it asks of packets is not said here.
 pub record LinesAndRecords : Type 0 where
   -- Given 256 slots, a text is accepted exactly when it belongs to the line grammar or to the record grammar.
-  pub accepted : (text : List ℕ) → Bytes text → ((e : Entry) × (takenOf text 256 ≡ A.Entry e)) ↔ ((v : EntryValue) × Belongs text v)
+  pub accepted : (text slots : List ℕ) (answer : Answer) (left : List ℕ) → ReadCall text slots answer left
+      → ((e : Entry) × (answer ≡ A.Entry e)) ↔ ((v : EntryValue) × Belongs text v)
   -- No text belongs to both.
   pub never-both : (text : List ℕ) (v w : EntryValue) → Line text v → IsRecord text w → ⊥
   -- A text says one thing.

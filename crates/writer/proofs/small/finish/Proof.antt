@@ -50,7 +50,7 @@ module _ {M : Type 1} (𝓤 : URA M) (H : Heap 𝓤) (A : Atoms 𝓤) (W : Given
   abbrev h : Writer
   h = record { out = record { ptr = (b, o); name = γ; now = ys }; at = n }
 
-  -- the struct's machine value: the slice's pointer and count, and the number
+  -- the writer's machine value
   abbrev mach : Val
   mach = vstruct (vcons (sliceVal (b, o) (length ys)) (vcons (vint w64 n) vnil))
 

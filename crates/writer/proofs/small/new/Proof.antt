@@ -49,7 +49,7 @@ module _ {M : Type 1} (𝓤 : URA M) (H : Heap 𝓤) (A : Atoms 𝓤) (W : Given
   abbrev α : NamedLft
   α = record { mir = named 0; lft = κ }
 
-  -- the slice's machine value, and the struct's
+  -- machine values: the buffer's, and the new writer's
   abbrev v : Val
   v = sliceVal (x .ptr) (length (x .now))
 

@@ -6,3 +6,4 @@ pub mod Gathering
 pub mod Latching
 pub mod Opening
 pub mod Packets
+pub mod Theorems

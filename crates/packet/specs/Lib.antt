@@ -2,4 +2,5 @@
 pub mod Field
 pub mod Steps
 pub mod Packet
+pub mod Conditions
 pub mod Inner

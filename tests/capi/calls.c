@@ -62,7 +62,6 @@ static void lines(void) {
 
 /* Each number of a line that a caller can meet. */
 static void refused_lines(void) {
-    static char line[5000];
     static const struct { const char *text; size_t slots; uint8_t number; } cases[] = {
         {"", SLOTS, CK_IDLE}, {"\n", SLOTS, CK_IDLE}, {"# tracer: nop\n", SLOTS, CK_IDLE}, {"a\x80:", SLOTS, CK_HIGH},
         {"nonsense", SLOTS, CK_NO_COLON}, {"-1 [002] 1.2: f: ", SLOTS, CK_NO_TASK}, {"a-x [002] 1.2: f: ", SLOTS, CK_NO_PID},
@@ -75,23 +74,26 @@ static void refused_lines(void) {
         ck_entry_answer a = ck_parse(bytes(cases[i].text), strlen(cases[i].text), slots, cases[i].slots);
         see(a.number == cases[i].number && is_blank(a.entry) && untouched(0), cases[i].text);
     }
-    memset(line, 'a', sizeof line);
-    uint32_t *slots = fresh_slots();
-    see(ck_parse(bytes(line), 4097, slots, SLOTS).number == CK_LONG && untouched(0), "a line of 4,097 bytes");
-    see(ck_parse(bytes(line), 4096, slots, SLOTS).number == CK_NO_COLON && untouched(0), "one of 4,096 bytes");
 }
+
+#define KEYS "a-1 [002] 1.2: f: type=t size=3 domain=0 route=0 "
 
 /* A line with n dwords `1`. */
 static size_t many(char *line, int n) {
-    size_t at = (size_t)sprintf(line, "a-1 [002] 1.2: f: type=t size=3 domain=0 route=0 data=[1");
+    size_t at = (size_t)sprintf(line, KEYS "data=[1");
     for (int i = 1; i < n; i++) at += (size_t)sprintf(line + at, ", 1");
     line[at] = ']';
     return at + 1;
 }
 
-static void counts(void) {
-    static char line[4096];
+static void limits(void) {
+    static char line[4097];
+    memset(line, 'x', sizeof line);
+    memcpy(line, KEYS "data=[1] k=", sizeof KEYS + 10);
     uint32_t *slots = fresh_slots();
+    see(ck_parse(bytes(line), 4096, slots, SLOTS).number == CK_OK && untouched(1), "a line of 4,096 bytes");
+    slots = fresh_slots();
+    see(ck_parse(bytes(line), 4097, slots, SLOTS).number == CK_LONG && untouched(0), "a line of 4,097 bytes");
     ck_entry_answer a = ck_parse(bytes(line), many(line, 256), slots, SLOTS);
     see(a.number == CK_OK && a.entry.dwords == 256 && untouched(256), "256 dwords");
     slots = fresh_slots();
@@ -200,7 +202,7 @@ static void books(void) {
 int main(void) {
     lines();
     refused_lines();
-    counts();
+    limits();
     records();
     refused_entries();
     questions();

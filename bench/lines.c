@@ -1,5 +1,6 @@
 /* Both readers of lines in one process: bench/lines FRAMES. A frame is a length of four bytes, low byte first, and the line. */
-#include <stdint.h>
+#include "chomkadieu.h"
+
 #include <stdio.h>
 #include <stdlib.h>
 #include <string.h>
@@ -7,7 +8,6 @@
 
 enum { ROUNDS = 7, LONG = 4096, REPEATS = 200, SLOTS = 256 };
 
-uint8_t ck_parse(const uint8_t *line, size_t length, uint32_t *slots, size_t count);
 const void *oracle_make_lines(const uint8_t *frames, size_t length);
 uint64_t oracle_run_lines(const void *lines);
 
@@ -30,7 +30,7 @@ static uint64_t run_ours(const uint8_t *frames, size_t length, uint64_t *lines) 
     *lines = 0;
     for (size_t at = 0; at + 4 <= length; (*lines)++) {
         uint32_t n = frame_length(frames + at);
-        entries += ck_parse(frames + at + 4, n, slots, SLOTS) == 0;
+        entries += ck_parse(frames + at + 4, n, slots, SLOTS).number == 0;
         at += 4 + n;
     }
     return entries;
@@ -42,7 +42,7 @@ static double one_line(const char *line, size_t length, unsigned *answer) {
     for (int round = 0; round < ROUNDS; round++) {
         double start = now();
         for (int i = 0; i < REPEATS; i++)
-            *answer = ck_parse((const uint8_t *)line, length, slots, SLOTS);
+            *answer = ck_parse((const uint8_t *)line, length, slots, SLOTS).number;
         double taken = (now() - start) / REPEATS;
         if (round == 0 || taken < best) best = taken;
     }

@@ -1,18 +1,31 @@
--- A C call hands the reader's answer on, as its number. Assumes nothing.
+-- A C call hands the answer of the call below it on, as a plain struct. Assumes nothing.
 use Prim.Native.Nat.{ℕ}
-use mathlib.Core.Path.{_≡_, sym, _∙_}
+use mathlib.Core.Path.{_≡_, refl, sym, ap, _∙_}
 use mathlib.Core.List.{List}
 use Rattle.entry.specs.declared.Entry.{Entry}
 use Rattle.scan.specs.declared.Answer.{Answer}
-use Rattle.scan.specs.declared.Answer.the-variants as A
-use Rattle.scan.specs.Parse.{Parsed, numberOfAnswer}
-use Rattle.capi.specs.Calls.{Called}
+use Rattle.scan.specs.Parse.{slotsBy}
+use Rattle.writer.specs.declared.Written.{Written}
+use Rattle.writer.specs.declared.Written.the-variants as W
+use Rattle.writer.specs.Writing.{Writing, bufferBy}
+use Rattle.flat.specs.declared.Flat.{Flat}
+use Rattle.flat.specs.declared.Raised.{Raised}
+use Rattle.flat.specs.declared.Raised.the-variants as R
+use Rattle.flat.specs.Flat.{raiseOf}
+use Rattle.capi.specs.declared.EntryAnswer.{EntryAnswer}
+use Rattle.capi.specs.declared.WriteAnswer.{WriteAnswer}
+use Rattle.capi.specs.Calls.{Read, Wrote, answerBy, writtenBy, writeFor, recordFor}
 
-module _ (t out : List ℕ) {exit : List ℕ} {q : Answer} (p : Parsed t out exit q) where
-  pub called-entry : {e : Entry} → q ≡ A.Entry e → Called t out exit 0
-  unfolding numberOfAnswer
-  called-entry e = record { number = rw (← p .answer, e); slots = rw (← p .answer) (p .slots) }
+-- an answer that is the one wanted, and the slots behind it
+pub handed-on : {q want : Answer} {ds out exit : List ℕ} {r : EntryAnswer} → r ≡ answerBy q → q ≡ want → exit ≡ slotsBy q ds out → Read want ds out exit r
+handed-on is e s = record { is = is ∙ ap answerBy e; slots = rw (← e) s }
 
-  pub called-refused : {k : ℕ} → q ≡ A.Refused k → Called t out exit k
-  unfolding numberOfAnswer
-  called-refused e = record { number = rw (← p .answer, e); slots = rw (← p .answer) (p .slots) }
+module _ (text : List ℕ) (f : Flat) (dwords out : List ℕ) {q : Raised} (raised : q ≡ raiseOf f) {r : WriteAnswer} where
+  pub wrote-entry : {e : Entry} {w : Written} {exit : List ℕ} → q ≡ R.Entry e → Writing text e dwords out w exit → r ≡ writtenBy w → Wrote text f dwords out exit r
+  unfolding writeFor recordFor
+  wrote-entry e p is =
+      record { is = rw (← raised, e) (is ∙ ap writtenBy (p .answer)); buffer = rw (← raised, e, ← p .answer) (p .buffer) }
+
+  pub wrote-nothing : q ≡ R.OutOfRange → r ≡ writtenBy (W.Refused 37) → Wrote text f dwords out out r
+  unfolding writeFor recordFor bufferBy
+  wrote-nothing e is = record { is = rw (← raised, e) is; buffer = rw (← raised, e) }

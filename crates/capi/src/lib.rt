@@ -1,15 +1,197 @@
-// The reader as a C call.
+// The calls for C and for languages that link as C does: numbers, slices and plain structs. Each takes any input and answers as the call that it
+// stands for; include/chomkadieu.h says what for.
+//
+//     ck_parse, ck_record_read, ck_read        a line, a record, either of them: its entry
+//     ck_record_write                          an entry: its record
+//     ck_book_check                            a book: accepted, or number 20
+//     ck_event_name, ck_adapter_num, ck_unplug what an entry is asked
+use book::Checked;
+use book::check;
+use entry::adapter_num;
+use entry::events::from_code;
+use entry::events::name_of;
+use entry::unplug;
+use flat::ABSENT;
+use flat::Flat;
+use flat::Raised;
+use flat::entry_of;
+use flat::flat_byte;
+use flat::flat_flag;
+use flat::flatten;
+use flat::raise;
 use scan::Answer;
 use scan::parse;
-ghost use Rattle.capi.specs.Calls.{Called};
+use writer::Written;
+use writer::write;
+ghost use mathlib.Core.Path.{_≡_};
+ghost use lib.ListN.{length};
+ghost use Rattle.scan.specs.Parse.{parseOf, lineDwords};
+ghost use Rattle.record.specs.Reading.{readOf, dwordsOf};
+ghost use Rattle.intake.specs.Intake.{takenOf, takenDwords, fromRecord};
+ghost use Rattle.book.specs.Reading.{checkOf, refusalOf};
+ghost use Rattle.entry.specs.Entry.{adapterOf, unplugOf};
+ghost use Rattle.flat.specs.Flat.{flatByte, flatFlag, byteOf};
+ghost use Rattle.capi.specs.Calls.{Read, Wrote, answerBy, writtenBy, nameBy, blankEntry};
 
-// 0 for an entry, whose dwords stand in the first slots; else the number that refuses the line, with no slot touched.
+// Number 0 and the entry, or the number that refuses the text and a blank entry.
+#[repr(C)]
+pub struct EntryAnswer {
+    pub number: u8,
+    pub entry: Flat,
+}
+
+// Number 0 and how many bytes were written, or the number that refuses the entry and no byte.
+#[repr(C)]
+pub struct WriteAnswer {
+    pub number: u8,
+    pub bytes: usize,
+}
+
+// An event's name and its length; zeros stand behind it.
+#[repr(C)]
+pub struct EventName {
+    pub bytes: [u8; 14],
+    pub len: usize,
+}
+
+// The entry of a line, its dwords in the first slots.
 #[no_mangle]
-pub extern "C" fn ck_parse(line: &[u8], slots: &mut [u32]) -> u8
-    ensures { λ r. ⌜ Called (now (line .entry)) (now (slots .entry)) (now (slots .exit)) r ⌝ }
+pub extern "C" fn ck_parse(line: &[u8], slots: &mut [u32]) -> EntryAnswer
+    ensures { λ r. ⌜ Read (parseOf (now (line .entry)) (length (now (slots .entry)))) (lineDwords (now (line .entry))) (now (slots .entry)) (now (slots .exit)) r ⌝ }
 {
-    match parse(line, slots) {
-        Answer::Entry(_) => 0,
-        Answer::Refused(number) => number,
+    answer_of(parse(line, slots))
+}
+
+// The entry of a record, likewise.
+#[no_mangle]
+pub extern "C" fn ck_record_read(text: &[u8], slots: &mut [u32]) -> EntryAnswer
+    ensures { λ r. ⌜ Read (fromRecord (readOf (now (text .entry)) (length (now (slots .entry))))) (dwordsOf (now (text .entry))) (now (slots .entry)) (now (slots .exit)) r ⌝ }
+{
+    match record::read(text, slots) {
+        record::Answer::Entry(e) => answer_of(Answer::Entry(e)),
+        record::Answer::Refused(number) => answer_of(Answer::Refused(number)),
+    }
+}
+
+// The entry of a text that is a record if it starts with A1, else a line.
+#[no_mangle]
+pub extern "C" fn ck_read(text: &[u8], slots: &mut [u32]) -> EntryAnswer
+    ensures { λ r. ⌜ Read (takenOf (now (text .entry)) (length (now (slots .entry)))) (takenDwords (now (text .entry))) (now (slots .entry)) (now (slots .exit)) r ⌝ }
+{
+    answer_of(intake::read(text, slots))
+}
+
+// The record of an entry into the first bytes of the buffer. Numbers that no entry has are out of the record's ranges: 37.
+#[no_mangle]
+pub extern "C" fn ck_record_write(
+    text: &[u8],
+    entry: Flat,
+    dwords: &[u32],
+    out: &mut [u8],
+) -> WriteAnswer
+    ensures { λ r. ⌜ Wrote (now (text .entry)) entry (now (dwords .entry)) (now (out .entry)) (now (out .exit)) r ⌝ }
+{
+    match raise(entry) {
+        Raised::Entry(e) => written_of(write(text, e, dwords, out)),
+        Raised::OutOfRange => written_of(Written::Refused(37)),
+    }
+}
+
+// 0 for a book that belongs to the grammar, else 20.
+#[no_mangle]
+pub extern "C" fn ck_book_check(book: &[u8]) -> u8
+    ensures { λ r. ⌜ r ≡ refusalOf (checkOf (now (book .entry))) ⌝ }
+{
+    match check(book) {
+        Checked::Accepted => 0,
+        Checked::Refused(number) => number,
+    }
+}
+
+// The name of an event's code.
+#[no_mangle]
+pub extern "C" fn ck_event_name(code: u8) -> EventName
+    ensures { λ r. ⌜ r ≡ nameBy code ⌝ }
+{
+    let name = name_of(from_code(code));
+    let bytes = name.bytes;
+    EventName {
+        bytes: bytes,
+        len: name.len,
+    }
+}
+
+// The adapter of an entry, or ABSENT.
+#[no_mangle]
+pub extern "C" fn ck_adapter_num(entry: Flat) -> u32
+    ensures { λ r. ⌜ r ≡ flatByte (adapterOf (byteOf (entry .code)) (byteOf (entry .port))) ⌝ }
+{
+    flat_byte(adapter_num(entry_of(entry)))
+}
+
+// 1 if the entry reports an unplug, 0 if not, or ABSENT.
+#[no_mangle]
+pub extern "C" fn ck_unplug(entry: Flat) -> u32
+    ensures { λ r. ⌜ r ≡ flatFlag (unplugOf (byteOf (entry .unplug))) ⌝ }
+{
+    flat_flag(unplug(entry_of(entry)))
+}
+
+fn answer_of(answer: Answer) -> EntryAnswer
+    ensures { λ r. ⌜ r ≡ answerBy answer ⌝ }
+{
+    match answer {
+        Answer::Entry(e) => EntryAnswer {
+            number: 0,
+            entry: flatten(e),
+        },
+        Answer::Refused(number) => EntryAnswer {
+            number: number,
+            entry: blank_entry(),
+        },
+    }
+}
+
+fn written_of(written: Written) -> WriteAnswer
+    ensures { λ r. ⌜ r ≡ writtenBy written ⌝ }
+{
+    match written {
+        Written::Bytes(bytes) => WriteAnswer {
+            number: 0,
+            bytes: bytes,
+        },
+        Written::Refused(number) => WriteAnswer {
+            number: number,
+            bytes: 0,
+        },
+    }
+}
+
+// Stands where there is no entry: zeros, and no optional field.
+fn blank_entry() -> Flat
+    ensures { λ r. ⌜ r ≡ blankEntry ⌝ }
+{
+    Flat {
+        task_at: 0,
+        task_len: 0,
+        pid: 0,
+        cpu: 0,
+        seconds: 0,
+        microseconds: 0,
+        function_at: 0,
+        function_len: 0,
+        kind: 0,
+        size: 0,
+        dropped: 0,
+        domain: 0,
+        route: 0,
+        offset: ABSENT,
+        code: ABSENT,
+        len: ABSENT,
+        port: ABSENT,
+        config: ABSENT,
+        seq: ABSENT,
+        unplug: ABSENT,
+        dwords: 0,
     }
 }

@@ -1,0 +1,25 @@
+-- `ck_unplug` meets its contract: the question over the entry of the numbers. Assumes nothing.
+use mathlib.Core.Path.{_≡_, sym, _∙_, ap}
+use Rattle.flat.specs.Flat.{entryOf, flatFlag}
+use Rattle.entry.specs.declared.Entry.{Entry}
+use Rattle.entry.specs.Entry.{unplugOf}
+use native.Mathlib.Omega.{arith}
+use borrow.Author.Needs.{needs}
+use Rattle.capi.proofs.ck_unplug.Statement.{statement}
+use Rattle.capi.proofs.ck_unplug.Tie as tie
+
+entry-of-requires : tie.Need-entry-of-requires
+entry-of-requires c κs = search needs
+
+unplug-requires : tie.Need-unplug-requires
+unplug-requires c κs = search needs
+
+flat-flag-requires : tie.Need-flat-flag-requires
+flat-flag-requires c κs = search needs
+
+returns : tie.Need-returns
+unfolding entryOf
+returns c = c .flat-flag .ensures ∙ ap flatFlag (c .before .unplug .ensures ∙ ap (λ (e : Entry). unplugOf (e .unplug)) (c .before .before .entry-of .ensures))
+
+pub ck-unplug-spec : {M : Type 1} → statement M
+ck-unplug-spec = tie.close (tie.spec entry-of-requires unplug-requires flat-flag-requires returns)

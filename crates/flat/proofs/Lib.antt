@@ -1,0 +1,2 @@
+-- The laws of the flat entry.
+pub mod Flats

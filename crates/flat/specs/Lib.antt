@@ -1,0 +1,2 @@
+-- The entry as plain numbers.
+pub mod Flat

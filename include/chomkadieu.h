@@ -1,0 +1,132 @@
+/* Chomkadieu: USB4 trace lines and records as entries, entries as records, and the check of a book of field descriptions.
+ *
+ * Build the archive with `rt staticlib capi` (target/staticlib/libcapi.a, x86-64 Linux) and link it; it needs nothing else.
+ *
+ * Every call takes any input. It keeps no memory, makes none, and writes only what is lent to it for writing. A slice is a pointer and the
+ * number of its elements; the pointer is valid for that many, also for none (not NULL), and what is lent for writing overlaps nothing else that
+ * is lent. Within that, each call is proved to answer as said here: the contracts stand in crates/capi/src/lib.rt, their definitions in
+ * crates/capi/specs/Calls.antt and crates/flat/specs/Flat.antt.
+ */
+#ifndef CHOMKADIEU_H
+#define CHOMKADIEU_H
+
+#include <stddef.h>
+#include <stdint.h>
+
+#ifdef __cplusplus
+extern "C" {
+#endif
+
+/* A number of 0 is success. All others say why there is no answer, and then all that was lent is as it was found. */
+enum {
+    CK_OK = 0,
+    CK_IDLE = 1,           /* the line is empty, a newline alone, or a comment (`#` first) */
+    CK_LONG = 2,           /* the line has more than 4,096 bytes */
+    CK_HIGH = 3,           /* the line has a byte of 128 or more */
+    CK_NO_COLON = 4,       /* nothing parts header from payload */
+    CK_NO_TASK = 5,        /* the header has no task */
+    CK_NO_PID = 6,         /* the header has no pid, or one past 32 bits */
+    CK_NO_CPU = 7,         /* the header has no `[ddd]` */
+    CK_NO_TIMESTAMP = 8,   /* the header has no timestamp, or one with a part past 63 bits */
+    CK_NO_FUNCTION = 9,    /* the header does not end with a function */
+    CK_NO_EQUALS = 10,     /* a pair has no `=`: no line is refused so, the number is kept */
+    CK_NO_TYPE = 11,       /* the payload has no `type` */
+    CK_NO_SIZE = 12,       /* `size` is missing or no decimal of 16 bits */
+    CK_NO_DOMAIN = 13,     /* `domain` is missing or no decimal of 32 bits */
+    CK_NO_ROUTE = 14,      /* `route` is missing or no hex number of 64 bits */
+    CK_NO_DATA = 15,       /* `data` is missing or not in brackets */
+    CK_MANY_DWORDS = 16,   /* the line has more than 256 dwords */
+    CK_FEW_SLOTS = 17,     /* the line has more dwords than slots are lent */
+    CK_BAD_BOOK = 20,      /* the book breaks its grammar */
+    CK_NO_RECORD = 30,     /* under 3 bytes, not A1 first, or a length that is not that of the rest */
+    CK_OVERRUN = 31,       /* a field of the record runs past its end */
+    CK_BAD_TAG = 32,       /* a tag is unknown, repeated or not ascending */
+    CK_MISSING_TAG = 33,   /* a required tag is missing */
+    CK_BAD_BODY = 34,      /* a field's body breaks its rule */
+    CK_RECORD_SLOTS = 35,  /* the record has more dwords than slots are lent */
+    CK_SHORT_BUFFER = 36,  /* the lent buffer is too short for the record */
+    CK_BAD_ENTRY = 37      /* the entry is out of a record's ranges, or its parts lie outside what is lent */
+};
+
+/* What an optional field says if it is absent, and a question if it has no answer. */
+#define CK_NONE UINT32_C(0xffffffff)
+
+/* No line or record has more dwords, no record more bytes. With that much lent, 17, 35 and 36 do not occur. */
+enum { CK_MOST_DWORDS = 256, CK_MOST_BYTES = 5227 };
+
+/* An entry. Its task and function are parts of the text that it was read from, its dwords the first of the slots that were lent. */
+typedef struct ck_entry {
+    size_t task_at;        /* where the task starts in the text */
+    size_t task_len;       /* how many bytes it has */
+    uint32_t pid;          /* the process */
+    uint16_t cpu;          /* the CPU, 0 to 999 */
+    uint64_t seconds;      /* the timestamp's first number */
+    uint64_t microseconds; /* its second, as it stands */
+    size_t function_at;    /* where the kernel function's name starts in the text */
+    size_t function_len;   /* how many bytes it has */
+    uint8_t kind;          /* 0 unknown; 1, 2 read request, response; 3, 4 write request, response; 5 error; 6 notification acknowledged;
+                              7 hot plug event; 8, 9 inter-domain request, response; 10, 11, 12 ICM event, command, response */
+    uint16_t size;         /* `size` */
+    uint8_t dropped;       /* 1 if the packet was dropped, else 0 */
+    uint32_t domain;       /* `domain` */
+    uint64_t route;        /* `route` */
+    uint32_t offset;       /* `offset` of 16 bits, or CK_NONE */
+    uint32_t code;         /* the notification's code (`error`) of 8 bits, or CK_NONE */
+    uint32_t len;          /* `len` of 16 bits, or CK_NONE */
+    uint32_t port;         /* `port` of 8 bits as read, or CK_NONE; ck_adapter_num is the question */
+    uint32_t config;       /* `config`, the configuration space, of 8 bits, or CK_NONE */
+    uint32_t seq;          /* `seq` of 8 bits, or CK_NONE */
+    uint32_t unplug;       /* `unplug` of 8 bits as read, or CK_NONE; ck_unplug is the question */
+    size_t dwords;         /* how many dwords there are */
+} ck_entry;
+
+/* Number 0 and an entry; or another number and a blank entry, all 0 and each optional field CK_NONE. */
+typedef struct ck_entry_answer {
+    uint8_t number;
+    ck_entry entry;
+} ck_entry_answer;
+
+/* Number 0 and how many bytes were written; or another number and 0. */
+typedef struct ck_write_answer {
+    uint8_t number;
+    size_t bytes;
+} ck_write_answer;
+
+/* The first `len` bytes are the name, zeros stand behind it. */
+typedef struct ck_event_text {
+    uint8_t bytes[14];
+    size_t len;
+} ck_event_text;
+
+/* The entry of a line of trace, its newline lent or not. Numbers 1 to 17. */
+ck_entry_answer ck_parse(const uint8_t *line, size_t length, uint32_t *slots, size_t count);
+
+/* The entry of a record. Numbers 30 to 35. */
+ck_entry_answer ck_record_read(const uint8_t *text, size_t length, uint32_t *slots, size_t count);
+
+/* The entry of a text that is taken as a record if its first byte is A1, else as a line. Numbers 1 to 17, 30 to 35. */
+ck_entry_answer ck_read(const uint8_t *text, size_t length, uint32_t *slots, size_t count);
+
+/* The record of an entry whose task and function lie in the text and whose dwords are the first of those lent, into the first bytes of the
+ * buffer; no others change. Numbers 36, 37. */
+ck_write_answer ck_record_write(const uint8_t *text, size_t length, ck_entry entry, const uint32_t *dwords, size_t count, uint8_t *out,
+                                size_t room);
+
+/* 0 if the book belongs to the grammar, else 20. */
+uint8_t ck_book_check(const uint8_t *book, size_t length);
+
+/* The name that an event's code prints, a code without a name in decimal. */
+ck_event_text ck_event_name(uint8_t code);
+
+/* The entry's adapter: its port, but CK_NONE for the codes 33 and 36 and where there is no port. An optional field past its width counts as
+ * absent here and below. */
+uint32_t ck_adapter_num(ck_entry entry);
+
+/* 1 if the entry's `unplug` is 1, 0 if it is another byte, CK_NONE if there is none. */
+uint32_t ck_unplug(ck_entry entry);
+
+#ifdef __cplusplus
+}
+#endif
+
+#endif

@@ -1,0 +1,133 @@
+"""The proved calls beside the readings: lines to records and back, damaged records, entries to be written."""
+
+from generate import lines as line_generator
+from generate import records as generator
+from generate.seed import Seed
+from judge.native import Calls, flat, value
+from judge.tally import Tally
+from reading import line as line_reading
+from reading import record as reading
+from reading.texts import Refused
+
+HEAD = b"a-1 [002] 1.2: f: type=t size=3 domain=0 route=0 "
+
+
+def outcome(call, *given):
+    """What a reading answers: the entry or the record, or its number."""
+    try:
+        return call(*given)
+    except Refused as refusal:
+        return refusal.number
+
+
+def ours(calls, name, text, slots):
+    number, entry, dwords = calls.read(name, text, slots)
+    return number if number != 0 else value(text, entry, dwords)
+
+
+def many(count):
+    return HEAD + b"data=[" + b", ".join([b"1"] * count) + b"]"
+
+
+def run_cases():
+    """Document 01's cases to be run: length and number of dwords at their limits, and few slots."""
+    fill = HEAD + b"data=[1] k="
+    yield "4,096 bytes", fill + b"x" * (4096 - len(fill)), 256
+    yield "4,097 bytes", fill + b"x" * (4097 - len(fill)), 256
+    yield "256 dwords", many(256), 256
+    yield "256 dwords, 255 slots", many(256), 255
+    yield "257 dwords", many(257), 256
+    yield "257 dwords, 3 slots", many(257), 3
+
+
+def judge_trip(calls, tally, name, line, slots):
+    """A line to its entry, its record, the record's entry and that one's record."""
+    expected = outcome(line_reading.read_line, line, slots)
+    number, entry, dwords = calls.read("ck_parse", line, slots)
+    got = number if number != 0 else value(line, entry, dwords)
+    if got != expected or ours(calls, "ck_read", line, slots) != (
+            expected if line[:1] != b"\xa1" else outcome(reading.read_record, line, slots)):
+        return tally.differ(name, line, expected, got)
+    if number != 0:
+        return tally.same(name, f"refused {number}")
+    made = reading.write_record(expected)
+    written, data = calls.write(line, entry, dwords, 5227)
+    if (written, data) != (0, made):
+        return tally.differ(name, line, made, (written, data))
+    if calls.write(line, entry, dwords, len(made) - 1) != (36, b""):
+        return tally.differ(name, line, 36, "a record in a buffer that is too short")
+    number, again, copied = calls.read("ck_record_read", made, slots)
+    if number != 0 or value(made, again, copied) != expected:
+        return tally.differ(name, line, expected, number)
+    if ours(calls, "ck_read", made, slots) != expected:
+        return tally.differ(name, line, expected, "another answer of the intake")
+    if calls.write(made, again, copied, len(made)) != (0, made):
+        return tally.differ(name, line, made, "another record from the record")
+    return tally.same(name, "line, record, entry, record")
+
+
+def trips(seed, count, short):
+    """Generated lines with 256 slots, some with fewer."""
+    tally, calls, source = Tally(), Calls(), Seed(seed)
+    for name, line, slots in run_cases():
+        judge_trip(calls, tally, name, line, slots)
+    for name, line in line_generator.generate(seed, count, short):
+        judge_trip(calls, tally, name, line, source.below(4) if source.one_in(20) else 256)
+    return tally
+
+
+def judge_record(calls, tally, name, data, slots):
+    """A record, good or damaged: the reading decides, and what is accepted is written back."""
+    expected = outcome(reading.read_record, data, slots)
+    number, entry, dwords = calls.read("ck_record_read", data, slots)
+    got = number if number != 0 else value(data, entry, dwords)
+    if got != expected:
+        return tally.differ(name, data, expected, got)
+    if number != 0:
+        return tally.same(name, f"refused {number}")
+    if calls.write(data, entry, dwords, len(data)) != (0, data):
+        return tally.differ(name, data, data, "another record from the record")
+    return tally.same(name, "entry")
+
+
+def judge_entry(calls, tally, seed):
+    """An entry with one field out of range, now and then with none, into a buffer of any size."""
+    made = generator.entry(seed)
+    tag = seed.pick((None, *generator.TAGS))
+    if tag in (generator.TASK, generator.FUNCTION):
+        name = "task" if tag == generator.TASK else "function"
+        made[name] = seed.pick((b"", b" ", b"a b", b"\x80", b"f" * 4097, made[name] + b"-"))
+    elif tag == generator.DATA:
+        made["data"] = [1] * seed.pick((256, 257, 300))
+    elif tag is not None:
+        name, width, largest = generator.NUMBERS[tag]
+        # Only what the struct can hold: an optional field has four bytes there.
+        most = NUMBER_TOPS.get(name, 2**(8 * width) - 1)
+        made[name] = min(most, seed.pick((largest, largest + 1, most)))
+    room = seed.pick((5227, 5227, seed.below(5228), 100))
+    expected = outcome(reading.write_record, made, room)
+    text, entry, dwords = flat(made)
+    number, data = calls.write(text, entry, dwords, room)
+    got = number if number != 0 else data
+    if got != expected:
+        return tally.differ("entry", text, expected, got)
+    return tally.same("entry", "record" if number == 0 else f"refused {number}")
+
+
+# The largest value of an optional field that is not taken for an absent one.
+NUMBER_TOPS = {generator.NUMBERS[tag][0]: 2**32 - 2 for tag in generator.OPTIONAL}
+
+
+def records(seed, count):
+    """Good and damaged records, every damage as often, then as many entries to be written."""
+    tally, calls, source = Tally(), Calls(), Seed(seed)
+    ways = (None, *generator.DAMAGES)
+    for index in range(count):
+        listed = generator.fields(generator.entry(source))
+        way = ways[index % len(ways)]
+        data = way(source, listed) if way else generator.framed(listed)
+        slots = source.below(4) if source.one_in(10) else 256
+        judge_record(calls, tally, way.__name__ if way else "good", data, slots)
+    for _ in range(count // 4):
+        judge_entry(calls, tally, source)
+    return tally

@@ -7,3 +7,4 @@ pub mod Latching
 pub mod Opening
 pub mod Packets
 pub mod Theorems
+pub mod Examples

@@ -38,6 +38,14 @@ enum {
     CK_MANY_DWORDS = 16,   /* the line has more than 256 dwords */
     CK_FEW_SLOTS = 17,     /* the line has more dwords than slots are lent */
     CK_BAD_BOOK = 20,      /* the book breaks its grammar */
+    CK_NO_KIND = 21,       /* the packet's kind is 0 */
+    CK_NO_TABLE = 22,      /* the book has no control table for the kind */
+    CK_NO_HEADER = 23,     /* kind 8 or 9, and the book has no header table */
+    CK_MANY_PACKET_DWORDS = 24, /* the packet has more than 256 dwords */
+    CK_FEW_DWORDS = 25,    /* kind 2 or 3, and fewer dwords than the kind's table has entries */
+    CK_FEW_PLACES = 26,    /* fewer places are lent than the packet has dwords */
+    CK_NO_PACKET_ROUTE = 27, /* the packet's route was asked for, and it has fewer than two dwords */
+    CK_UNNAMED_TYPE = 28,  /* the value of `Packet Type` has no name */
     CK_NO_RECORD = 30,     /* under 3 bytes, not A1 first, or a length that is not that of the rest */
     CK_OVERRUN = 31,       /* a field of the record runs past its end */
     CK_BAD_TAG = 32,       /* a tag is unknown, repeated or not ascending */
@@ -124,6 +132,24 @@ uint32_t ck_adapter_num(ck_entry entry);
 
 /* 1 if the entry's `unplug` is 1, 0 if it is another byte, CK_NONE if there is none. */
 uint32_t ck_unplug(ck_entry entry);
+
+/* A packet, or why there is none. */
+typedef struct ck_packet_answer {
+    uint8_t number;        /* 0, or 20 to 26 */
+    uint32_t start;        /* the index of the first dword of the data view, or CK_NONE */
+    uint8_t has_uuid;      /* 1 if the packet's `UUID` fields are exactly four, else 0 */
+    uint32_t uuid[4];      /* their values in order, zeros if there is no UUID */
+} ck_packet_answer;
+
+/* The packet of a kind over a book: for each dword the place in the book of the entry that describes it, 0 for none, into the first places. */
+ck_packet_answer ck_packet(uint8_t kind, const uint8_t *book, size_t book_len, const uint32_t *dwords, size_t dwords_len, uint32_t *places,
+                           size_t places_len);
+
+/* Many packets over one book, which is checked once. Packet k has kind kinds[k] and the next counts[k] dwords, as far as they go; its places
+ * stand where its dwords do. codes[k] becomes where its data view starts; 65,536 if it has none; 65,536 and the number if it is refused, and
+ * then its places are as found. The answer is how many packets there were: the least of kinds_len, counts_len and codes_len. */
+size_t ck_packet_all(const uint8_t *book, size_t book_len, const uint8_t *kinds, size_t kinds_len, const uint32_t *counts, size_t counts_len,
+                     const uint32_t *dwords, size_t dwords_len, uint32_t *places, size_t places_len, uint32_t *codes, size_t codes_len);
 
 #ifdef __cplusplus
 }

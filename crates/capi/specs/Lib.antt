@@ -1,2 +1,3 @@
 -- What the C calls answer.
 pub mod Calls
+pub mod Packets

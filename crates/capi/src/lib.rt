@@ -5,6 +5,9 @@
 //     ck_record_write                          an entry: its record
 //     ck_book_check                            a book: accepted, or number 20
 //     ck_event_name, ck_adapter_num, ck_unplug what an entry is asked
+//     packets                                  the calls on packets
+pub mod packets;
+
 use book::Checked;
 use book::check;
 use entry::adapter_num;

@@ -44,12 +44,12 @@ fourUuids = uuidBook (named 0 (bytes "UUID") ++ (named 1 (bytes "UUID") ++ (name
 
 opened : Unit {0}
 unfolding named plain threeEntries uuidBook threeUuids fourUuids fieldBytes stepFrom fieldAt walkFrom walk parts filled number sameText rangeOf
-  Search.bodyAt Search.after Search.nameAt Search.typeAt Search.sameUuid Search.fits Search.wanted Search.firstPart Search.firstWanted Search.hasWanted Search.tableWant
-  Reading.isName Reading.optionalName Reading.valueBody Reading.sameValue Reading.valuesFill Reading.rangeBody Reading.rangesFill Reading.entryBody Reading.sameEntry Reading.entriesFill Reading.controlBody Reading.uuidBody Reading.tableBody Reading.sameTable Reading.tablesFill Reading.checkOf
-  Finders.innerFrom Finders.seekOf Finders.countInside Finders.nthInside Finders.nameOf Finders.typeOf
-  Field.rangeIn Field.valueIn Field.namedIn Field.asks
-  Steps.mapFrom Steps.entryOf Steps.filled Steps.controlPlaces Steps.headerPlaces Steps.valuesNamed Steps.gathered Steps.fitting Steps.typeIn Steps.latchBehind Steps.protocolFrom Steps.protocolPlaces Steps.uuidPlaces
-  Packet.viewed Packet.crosses Packet.controlAt Packet.headerAt Packet.entriesOf Packet.numberChecked Packet.numberOf Packet.stepOne Packet.placesOf Packet.uuidOf Packet.firstFrom Packet.viewFrom Packet.packetOf Packet.parseOf
+    Search.bodyAt Search.after Search.nameAt Search.typeAt Search.sameUuid Search.fits Search.wanted Search.firstPart Search.firstWanted Search.hasWanted Search.tableWant
+    Reading.isName Reading.optionalName Reading.valueBody Reading.sameValue Reading.valuesFill Reading.rangeBody Reading.rangesFill Reading.entryBody Reading.sameEntry Reading.entriesFill Reading.controlBody Reading.uuidBody Reading.tableBody Reading.sameTable Reading.tablesFill Reading.checkOf
+    Finders.innerFrom Finders.seekOf Finders.countInside Finders.nthInside Finders.nameOf Finders.typeOf
+    Field.rangeIn Field.valueIn Field.namedIn Field.asks
+    Steps.mapFrom Steps.entryOf Steps.filled Steps.controlPlaces Steps.headerPlaces Steps.valuesNamed Steps.gathered Steps.fitting Steps.typeIn Steps.latchBehind Steps.protocolFrom Steps.protocolPlaces Steps.uuidPlaces
+    Packet.viewed Packet.crosses Packet.controlAt Packet.headerAt Packet.entriesOf Packet.numberChecked Packet.numberOf Packet.stepOne Packet.placesOf Packet.uuidOf Packet.firstFrom Packet.viewFrom Packet.packetOf Packet.parseOf
 opened = tt
 
 -- n = 3: five dwords start their view at 3, three as well, two give 25

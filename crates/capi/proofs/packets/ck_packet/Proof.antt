@@ -1,0 +1,28 @@
+-- `capi::packets::ck_packet` meets its contract: what the packet call answers. Assumes nothing.
+use Rattle.capi.specs.Packets.{packetBy}
+use Rattle.packet.specs.Packet.{placesOf, listBy}
+use Rattle.packet.specs.declared.Answer.{Answer}
+use mathlib.Core.Path.{_≡_, sym, ap, _∙_}
+use native.Mathlib.Omega.{arith}
+use borrow.Author.Needs.{needs}
+use Rattle.capi.proofs.packets.ck_packet.Statement.{statement}
+use Rattle.capi.proofs.packets.ck_packet.Tie as tie
+use Rattle.capi.proofs.packets.ck_packet.Reads as reads
+use Rattle.capi.proofs.packets.ck_packet.Lts as lts
+use Rattle.capi.proofs.packets.packet_answer.Reads as packet-answer-reads
+use Rattle.packet.proofs.parse.Reads as parse-reads
+
+parse-requires : tie.Need-parse-requires
+parse-requires c κs = search needs
+
+packet-answer-requires : tie.Need-packet-answer-requires
+packet-answer-requires c κs = search needs
+
+same-length : tie.Need-same-length
+same-length c = search needs
+
+returns : tie.Need-returns
+returns c = record { is = c .packet-answer .ensures ∙ ap packetBy (c .before .before .before .parse .ensures .answer); list = c .before .before .before .parse .ensures .places ∙ ap (λ (r : Answer). listBy r (placesOf (c .before .before .before .before .before .before .before .before .args .kind) (c .before .before .before .before .before .before .before .before .args .book .now) (c .before .before .before .before .before .before .before .before .args .dwords .now)) (c .before .before .before .before .before .before .before .before .args .places .now)) (c .before .before .before .parse .ensures .answer) }
+
+pub ck-packet-spec : {M : Type 1} → statement M
+ck-packet-spec = tie.close (tie.spec parse-requires packet-answer-requires same-length returns)

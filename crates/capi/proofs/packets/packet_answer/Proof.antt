@@ -1,0 +1,42 @@
+-- `capi::packets::packet_answer` meets its contract: the packet, or its number alone. Assumes nothing.
+use Rattle.capi.specs.Packets.{packetBy}
+use mathlib.Core.Path.{_≡_, sym, ap, _∙_}
+use native.Mathlib.Omega.{arith}
+use borrow.Author.Needs.{needs}
+use Rattle.capi.proofs.packets.packet_answer.Statement.{statement}
+use Rattle.capi.proofs.packets.packet_answer.Tie as tie
+use Rattle.capi.proofs.packets.packet_answer.Reads as reads
+use Rattle.capi.proofs.packets.packet_answer.Lts as lts
+use Rattle.capi.proofs.packets.made.Reads as made-reads
+use Rattle.capi.proofs.packets.with_uuid.Reads as with-uuid-reads
+
+enum-known-answer : tie.Need-enum-known-answer
+enum-known-answer c = search needs
+
+made-requires : tie.Need-made-requires
+made-requires c κs = search needs
+
+enum-known-answer-2 : tie.Need-enum-known-answer-2
+enum-known-answer-2 c = search needs
+
+with-uuid-requires : tie.Need-with-uuid-requires
+with-uuid-requires c κs = search needs
+
+returns : tie.Need-returns
+unfolding packetBy
+returns c = c .made .ensures ∙ ap packetBy (sym (c .before .before .answer .given .1))
+
+returns-2 : tie.Need-returns-2
+unfolding packetBy
+returns-2 c = c .with-uuid .ensures ∙ ap packetBy (sym (c .before .before .answer2 .given .1))
+
+pub packet-answer-spec : {M : Type 1} → statement M
+packet-answer-spec =
+    tie.close
+    (tie.spec
+    enum-known-answer
+    made-requires
+    enum-known-answer-2
+    with-uuid-requires
+    returns
+    returns-2)

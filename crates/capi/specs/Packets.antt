@@ -1,0 +1,35 @@
+-- What the C calls on packets answer: the answers of the calls below them, as plain structs.
+use Prim.Native.Nat.{ℕ}
+use mathlib.Core.Path.{_≡_}
+use mathlib.Core.List.{List}
+use Rattle.entry.specs.declared.optional.MaybeWord.{MaybeWord}
+use Rattle.entry.specs.declared.optional.MaybeWord.the-variants as W
+use Rattle.flat.specs.Flat.{flatWord}
+use Rattle.packet.specs.declared.Answer.{Answer}
+use Rattle.packet.specs.declared.Answer.the-variants as A
+use Rattle.packet.specs.declared.Packet.{Packet}
+use Rattle.packet.specs.declared.MaybeUuid.{MaybeUuid}
+use Rattle.packet.specs.declared.MaybeUuid.the-variants as U
+use Rattle.packet.specs.Packet.{listBy}
+use Rattle.capi.specs.declared.packets.PacketAnswer.{PacketAnswer}
+
+-- number, start and UUID, whose dwords are 0 where there is none
+abbrev pub uuidBy : ℕ → MaybeWord → MaybeUuid → PacketAnswer
+uuidBy number start (U.Is u) =
+    record { number = number; start = flatWord start; «has_uuid» = 1; first = u .first; second = u .second; third = u .third; fourth = u .fourth }
+uuidBy number start U.Absent =
+    record { number = number; start = flatWord start; «has_uuid» = 0; first = 0; second = 0; third = 0; fourth = 0 }
+
+-- number 0 and the packet
+unfoldable pub madeBy : Packet → PacketAnswer
+madeBy p = uuidBy 0 (p .start) (p .uuid)
+
+-- or the number, no start and no UUID
+unfoldable pub packetBy : Answer → PacketAnswer
+packetBy (A.Packet p) = madeBy p
+packetBy (A.Refused k) = uuidBy k W.Absent U.Absent
+
+-- the answer, and each place: a packet's places over the first, a refusal leaves them as found
+pub record Described (answer : Answer) (places out exit : List ℕ) (r : PacketAnswer) : Type 0 where
+  pub is : r ≡ packetBy answer
+  pub list : exit ≡ listBy answer places out

@@ -1,0 +1,103 @@
+// The calls on packets.
+use book::Uuid;
+use entry::optional::MaybeWord;
+use flat::flat_word;
+use packet::Answer;
+use packet::MaybeUuid;
+use packet::Packet;
+ghost use mathlib.Core.Path.{_≡_};
+ghost use lib.ListN.{length};
+ghost use Rattle.packet.specs.Packet.{parseOf, placesOf};
+ghost use Rattle.batch.specs.Batch.{Batch};
+ghost use Rattle.capi.specs.Packets.{Described, packetBy, madeBy, uuidBy};
+
+// Number 0 and the packet, or the number that refuses it, no start and no UUID. A start is a word or ABSENT; `has_uuid` is 1 where the four
+// dwords are a UUID, else 0, and they are 0.
+#[repr(C)]
+pub struct PacketAnswer {
+    pub number: u8,
+    pub start: u32,
+    pub has_uuid: u8,
+    pub first: u32,
+    pub second: u32,
+    pub third: u32,
+    pub fourth: u32,
+}
+
+// The packet of a kind over a book, the place of each dword's entry in the first places.
+#[no_mangle]
+pub extern "C" fn ck_packet(
+    kind: u8,
+    book: &[u8],
+    dwords: &[u32],
+    places: &mut [u32],
+) -> PacketAnswer
+    ensures { λ r. ⌜ Described (parseOf kind (now (book .entry)) (now (dwords .entry)) (length (now (places .entry)))) (placesOf kind (now (book .entry)) (now (dwords .entry))) (now (places .entry)) (now (places .exit)) r ⌝ }
+{
+    packet_answer(packet::parse(kind, book, dwords, places))
+}
+
+// Many packets over one book, which is checked once.
+#[no_mangle]
+pub extern "C" fn ck_packet_all(
+    book: &[u8],
+    kinds: &[u8],
+    counts: &[u32],
+    dwords: &[u32],
+    places: &mut [u32],
+    codes: &mut [u32],
+) -> usize
+    ensures { λ r. ⌜ Batch (now (book .entry)) (now (kinds .entry)) (now (counts .entry)) (now (dwords .entry)) (now (places .entry)) (now (places .exit)) (now (codes .entry)) (now (codes .exit)) r ⌝ }
+{
+    batch::parse_all(book, kinds, counts, dwords, places, codes)
+}
+
+pub fn packet_answer(answer: Answer) -> PacketAnswer
+    ensures { λ r. ⌜ r ≡ packetBy answer ⌝ }
+{
+    match answer {
+        Answer::Packet(p) => made(p),
+        Answer::Refused(number) => with_uuid(number, MaybeWord::Absent, MaybeUuid::Absent),
+    }
+}
+
+fn made(p: Packet) -> PacketAnswer
+    ensures { λ r. ⌜ r ≡ madeBy p ⌝ }
+{
+    let start = p.start;
+    let uuid = p.uuid;
+    with_uuid(0, start, uuid)
+}
+
+fn with_uuid(number: u8, start: MaybeWord, uuid: MaybeUuid) -> PacketAnswer
+    ensures { λ r. ⌜ r ≡ uuidBy number start uuid ⌝ }
+{
+    match uuid {
+        MaybeUuid::Is(u) => whole(number, flat_word(start), 1, u),
+        MaybeUuid::Absent => whole(
+            number,
+            flat_word(start),
+            0,
+            Uuid {
+                first: 0,
+                second: 0,
+                third: 0,
+                fourth: 0,
+            },
+        ),
+    }
+}
+
+fn whole(number: u8, start: u32, has_uuid: u8, u: Uuid) -> PacketAnswer
+    ensures { λ r. ⌜ r ≡ record { number = number; start = start; «has_uuid» = «has_uuid»; first = u .first; second = u .second; third = u .third; fourth = u .fourth } ⌝ }
+{
+    PacketAnswer {
+        number,
+        start,
+        has_uuid,
+        first: u.first,
+        second: u.second,
+        third: u.third,
+        fourth: u.fourth,
+    }
+}

@@ -1,12 +1,12 @@
 -- A description's source by the tests that find it, and its ranges by their places: each case of place and test leaves one answer.
 -- Assumes nothing.
 use Prim.Native.Nat.{ℕ, zero, suc, _+_, _≤_, _<_}
-use mathlib.Core.Path.{_≡_, refl, sym, ap, _∙_}
-use mathlib.Core.Bool.{Bool, true, false, cond, _&&_}
+use mathlib.Core.Path.{_≡_, refl, sym}
+use mathlib.Core.Bool.{true, false}
 use mathlib.Core.List.{List}
 use native.Mathlib.Omega.{arith}
 use borrow.Author.Tests.{le-leb, lt-leb}
-use lib.Dec.{leb, ltb}
+use lib.Dec.{ltb}
 use lib.ListN.{getD}
 use Rattle.text.specs.declared.place.Found.{Found}
 use Rattle.text.specs.declared.place.Found.the-variants.{At, Nothing}
@@ -16,9 +16,7 @@ use Rattle.book.proofs.Steps as steps
 use Rattle.book.specs.Finders.{controlTable, uuidTable}
 use Rattle.packet.specs.Packet.{noUuid}
 use Rattle.packet.specs.Field as dword
-use Rattle.field.specs.declared.Source.{Source}
 use Rattle.field.specs.declared.Source.the-variants.{Control, Header, Protocol, Bare}
-use Rattle.field.specs.declared.MaybeRange.{MaybeRange}
 use Rattle.field.specs.declared.MaybeRange.the-variants.{Is, Absent}
 use Rattle.field.specs.Source.{standsIn, sourceOf}
 use Rattle.field.specs.Ranges.{rangeAt}

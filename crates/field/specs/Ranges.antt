@@ -1,7 +1,7 @@
 -- What the book says of a field: its name, its bit ranges, and the names of their values. A text is empty for none.
 -- Assumes nothing.
 use Prim.Native.Nat.{ℕ, zero, suc, _+_}
-use mathlib.Core.List.{List, []}
+use mathlib.Core.List.{List}
 use lib.ListN.{getD}
 use Rattle.book.specs.Finders as finders
 use Rattle.packet.specs.Field as dword

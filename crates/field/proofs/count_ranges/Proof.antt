@@ -4,7 +4,6 @@ use Rattle.packet.specs.Field.{inside}
 use Rattle.packet.proofs.Fields.{inside-none, inside-some}
 use Rattle.book.specs.Finders.{countInside}
 use mathlib.Core.Path.{sym, ap, _∙_}
-use native.Mathlib.Omega.{arith}
 use borrow.Author.Needs.{needs}
 use Rattle.field.proofs.count_ranges.Statement.{statement}
 use Rattle.field.proofs.count_ranges.Tie as tie

@@ -2,7 +2,6 @@
 use Rattle.field.specs.Ranges.{fieldName}
 use Rattle.packet.specs.Field.{nameIn}
 use mathlib.Core.Path.{ap, _∙_}
-use native.Mathlib.Omega.{arith}
 use borrow.Author.Needs.{needs}
 use Rattle.field.proofs.field_name.Statement.{statement}
 use Rattle.field.proofs.field_name.Tie as tie

@@ -1,6 +1,5 @@
 -- `field::field_of` meets its contract: the offset and the dword as they are lent, and the source. Assumes nothing.
 use Rattle.field.specs.Source.{fieldOf}
-use native.Mathlib.Omega.{arith}
 use borrow.Author.Needs.{needs}
 use Rattle.field.proofs.field_of.Statement.{statement}
 use Rattle.field.proofs.field_of.Tie as tie

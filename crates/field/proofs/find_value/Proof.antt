@@ -3,7 +3,6 @@ use Rattle.field.specs.Ranges.{valueIn}
 use Rattle.packet.proofs.Fields.{inside-none, inside-some}
 use Rattle.book.specs.Finders.{valueOfNumber}
 use mathlib.Core.Path.{sym, _∙_}
-use native.Mathlib.Omega.{arith}
 use borrow.Author.Needs.{needs}
 use Rattle.field.proofs.find_value.Statement.{statement}
 use Rattle.field.proofs.find_value.Tie as tie

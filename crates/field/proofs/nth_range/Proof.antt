@@ -6,7 +6,6 @@ use Rattle.packet.proofs.Fields.{inside-none, inside-some}
 use Rattle.book.specs.Finders as finders
 use Prim.Native.Nat.{ℕ}
 use mathlib.Core.Path.{sym, ap, _∙_}
-use native.Mathlib.Omega.{arith}
 use borrow.Author.Needs.{needs}
 use Rattle.field.proofs.nth_range.Statement.{statement}
 use Rattle.field.proofs.nth_range.Tie as tie

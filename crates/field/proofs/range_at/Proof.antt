@@ -1,6 +1,5 @@
 -- `field::range_at` meets its contract: low bit, high bit and value, or no range at no place. Assumes nothing.
 use Rattle.field.proofs.Sources.{no-range, range-at}
-use native.Mathlib.Omega.{arith}
 use borrow.Author.Needs.{needs}
 use Rattle.field.proofs.range_at.Statement.{statement}
 use Rattle.field.proofs.range_at.Tie as tie

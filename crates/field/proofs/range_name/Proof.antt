@@ -1,6 +1,5 @@
 -- `field::range_name` meets its contract: the name at the range's place. Assumes nothing.
 use Rattle.field.specs.Ranges.{rangeName}
-use native.Mathlib.Omega.{arith}
 use borrow.Author.Needs.{needs}
 use Rattle.field.proofs.range_name.Statement.{statement}
 use Rattle.field.proofs.range_name.Tie as tie

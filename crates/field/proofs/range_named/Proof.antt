@@ -3,7 +3,6 @@ use Rattle.field.specs.Ranges.{rangeAt, rangeNamed}
 use Rattle.packet.specs.Field.{rangeIn}
 use Prim.Native.Nat.{ℕ}
 use mathlib.Core.Path.{ap, _∙_}
-use native.Mathlib.Omega.{arith}
 use borrow.Author.Needs.{needs}
 use Rattle.field.proofs.range_named.Statement.{statement}
 use Rattle.field.proofs.range_named.Tie as tie

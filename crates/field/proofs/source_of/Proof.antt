@@ -1,7 +1,6 @@
 -- `field::source_of` meets its contract: control before header, and what is in neither is a protocol's. Assumes nothing.
 use Rattle.field.proofs.Sources.{bare-source, control-source, header-source, protocol-source}
 use mathlib.Core.Path.{sym, _∙_}
-use native.Mathlib.Omega.{arith}
 use borrow.Author.Needs.{needs}
 use Rattle.field.proofs.source_of.Statement.{statement}
 use Rattle.field.proofs.source_of.Tie as tie

@@ -1,8 +1,7 @@
 -- `field::value_name` meets its contract: the name at the value's place. Assumes nothing.
-use Rattle.field.specs.Ranges.{valueIn, valueName}
+use Rattle.field.specs.Ranges.{valueName}
 use Rattle.packet.specs.Field.{nameIn}
 use mathlib.Core.Path.{ap, _∙_}
-use native.Mathlib.Omega.{arith}
 use borrow.Author.Needs.{needs}
 use Rattle.field.proofs.value_name.Statement.{statement}
 use Rattle.field.proofs.value_name.Tie as tie

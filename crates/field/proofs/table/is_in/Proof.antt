@@ -1,8 +1,7 @@
 -- `field::table::is_in` meets its contract, case by case of what stands at the table's place. Assumes nothing.
 use Rattle.field.proofs.Sources.{no-table, no-field, before-body, in-body}
 use Rattle.book.proofs.Steps.{Bare, bare}
-use mathlib.Core.Path.{_≡_, sym, subst, _∙_}
-use native.Mathlib.Omega.{arith}
+use mathlib.Core.Path.{sym, subst, _∙_}
 use borrow.Author.Needs.{needs}
 use Rattle.field.proofs.table.is_in.Statement.{statement}
 use Rattle.field.proofs.table.is_in.Tie as tie

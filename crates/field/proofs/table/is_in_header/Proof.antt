@@ -2,7 +2,6 @@
 use mathlib.Core.Path.{ap, _∙_}
 use Rattle.text.specs.declared.place.Found.{Found}
 use Rattle.field.specs.Source.{standsIn}
-use native.Mathlib.Omega.{arith}
 use borrow.Author.Needs.{needs}
 use Rattle.field.proofs.table.is_in_header.Statement.{statement}
 use Rattle.field.proofs.table.is_in_header.Tie as tie

@@ -1,0 +1,2 @@
+-- The laws that the proofs of `field` cite, and its theorems.
+pub mod Sources

@@ -1,0 +1,24 @@
+-- `field::field_name` meets its contract: the name at the entry's place. Assumes nothing.
+use Rattle.field.specs.Ranges.{fieldName}
+use Rattle.packet.specs.Field.{nameIn}
+use mathlib.Core.Path.{ap, _∙_}
+use borrow.Author.Needs.{needs}
+use Rattle.field.proofs.field_name.Statement.{statement}
+use Rattle.field.proofs.field_name.Tie as tie
+use Rattle.field.proofs.field_name.Reads as reads
+use Rattle.field.proofs.field_name.Lts as lts
+use Rattle.field.proofs.entry_of.Reads as entry-of-reads
+use Rattle.packet.proofs.field.name_in.Reads as name-in-reads
+
+entry-of-requires : tie.Need-entry-of-requires
+entry-of-requires c κs = search needs
+
+name-in-requires : tie.Need-name-in-requires
+name-in-requires c κs = search needs
+
+returns : tie.Need-returns
+unfolding fieldName
+returns c = c .name-in .ensures ∙ ap (nameIn (c .before .before .before .args .book .now)) (c .before .entry-of .ensures)
+
+pub field-name-spec : {M : Type 1} → statement M
+field-name-spec = tie.close (tie.spec entry-of-requires name-in-requires returns)

@@ -1,0 +1,51 @@
+-- What the book says of a field: its name, its bit ranges, and the names of their values. A text is empty for none.
+-- Assumes nothing.
+use Prim.Native.Nat.{ℕ, zero, suc, _+_}
+use mathlib.Core.List.{List}
+use lib.ListN.{getD}
+use Rattle.book.specs.Finders as finders
+use Rattle.packet.specs.Field as dword
+use Rattle.field.specs.declared.Field.{Field}
+use Rattle.field.specs.declared.Range.{Range}
+use Rattle.field.specs.declared.MaybeRange.{MaybeRange}
+use Rattle.field.specs.declared.MaybeRange.the-variants.{Is, Absent}
+use Rattle.field.specs.Source.{entryOf}
+
+-- the name of a field
+unfoldable pub fieldName : List ℕ → Field → List ℕ
+fieldName s field = dword.nameIn s (entryOf field)
+
+-- how many bit ranges a field has
+unfoldable pub rangeCount : List ℕ → Field → ℕ
+rangeCount s field = dword.inside (finders.countInside s) (entryOf field)
+
+-- the bit range at a place: low bit, high bit, and the value of the dword between them; none at place 0
+unfoldable pub rangeAt : List ℕ → ℕ → ℕ → MaybeRange
+rangeAt s zero value = Absent
+rangeAt s (suc p) value =
+    Is
+    (record {
+      low = getD s (suc p + 3) 0;
+      high = getD s (suc p + 4) 0;
+      value = dword.valueIn s (suc p) value;
+      place = record { at = suc p };
+    })
+
+-- the bit range with so many before it
+unfoldable pub nthRange : List ℕ → Field → ℕ → MaybeRange
+nthRange s field k = rangeAt s (dword.inside (λ e. finders.nthRange s e k) (entryOf field)) (field .value)
+
+-- of one name the first counts
+unfoldable pub rangeNamed : List ℕ → Field → List ℕ → MaybeRange
+rangeNamed s field name = rangeAt s (dword.rangeIn s name (entryOf field)) (field .value)
+
+-- the name of a bit range
+unfoldable pub rangeName : List ℕ → Range → List ℕ
+rangeName s range = dword.nameIn s (range .place .at)
+
+-- a number among the values of a bit range, and the name of a bit range's value
+unfoldable pub valueIn : List ℕ → ℕ → ℕ → ℕ
+valueIn s range number = dword.inside (λ r. finders.valueOfNumber s r number) range
+
+unfoldable pub valueName : List ℕ → Range → List ℕ
+valueName s range = dword.nameIn s (valueIn s (range .place .at) (range .value))

@@ -1,0 +1,4 @@
+-- The laws that the proofs of `questions` cite, and its theorems.
+pub mod Asking
+pub mod Over
+pub mod Views

@@ -1,0 +1,45 @@
+-- `questions::described::address_in` meets its contract: which name is asked goes by the kind. Assumes nothing.
+use mathlib.Core.Path.{sym, _∙_}
+use Rattle.questions.specs.Described.{addressIn}
+use borrow.Author.Needs.{needs}
+use Rattle.questions.proofs.described.address_in.Statement.{statement}
+use Rattle.questions.proofs.described.address_in.Tie as tie
+use Rattle.questions.proofs.described.address_in.Reads as reads
+use Rattle.questions.proofs.described.address_in.Lts as lts
+use Rattle.packet.proofs.numbers.is_crossing.Reads as is-crossing-reads
+use Rattle.questions.proofs.described.word_asked.Reads as word-asked-reads
+
+is-crossing-requires : tie.Need-is-crossing-requires
+is-crossing-requires c κs = search needs
+
+slice-aggregate-word-asked : tie.Need-slice-aggregate-word-asked
+slice-aggregate-word-asked c = search needs
+
+word-asked-requires : tie.Need-word-asked-requires
+word-asked-requires c κs = search needs
+
+returns : tie.Need-returns
+unfolding addressIn
+returns c = rw (sym (c .before .before .before .is-crossing .ensures) ∙ c .before .before .if1 .taken) (c .word-asked .ensures)
+
+slice-aggregate-word-asked-2 : tie.Need-slice-aggregate-word-asked-2
+slice-aggregate-word-asked-2 c = search needs
+
+word-asked-requires-2 : tie.Need-word-asked-requires-2
+word-asked-requires-2 c κs = search needs
+
+returns-2 : tie.Need-returns-2
+unfolding addressIn
+returns-2 c = rw (sym (c .before .before .before .is-crossing .ensures) ∙ c .before .before .if1 .left) (c .word-asked2 .ensures)
+
+pub address-in-spec : {M : Type 1} → statement M
+address-in-spec =
+    tie.close
+    (tie.spec
+    is-crossing-requires
+    slice-aggregate-word-asked
+    word-asked-requires
+    returns
+    slice-aggregate-word-asked-2
+    word-asked-requires-2
+    returns-2)

@@ -1,0 +1,61 @@
+-- `questions::field_by_offset` meets its contract: a number first, or what is told over the places. Assumes nothing.
+use mathlib.Core.Path.{sym, _∙_}
+use mathlib.Core.Path.{refl}
+use Rattle.questions.proofs.Over.{refused-first, accepted, answers-over}
+use Rattle.questions.specs.Questions.{fieldByOffset}
+use Rattle.questions.specs.Described.{fieldAt}
+use Rattle.packet.specs.Packet.{placesOf}
+use mathlib.Core.List.{List}
+use Prim.Native.Nat.{ℕ}
+use lib.Seq.{length-take-le}
+use lib.ListN.{length}
+use borrow.Author.Needs.{needs}
+use Rattle.questions.proofs.field_by_offset.Statement.{statement}
+use Rattle.questions.proofs.field_by_offset.Tie as tie
+use Rattle.questions.proofs.field_by_offset.Reads as reads
+use Rattle.questions.proofs.field_by_offset.Lts as lts
+use Rattle.packet.proofs.parse.Reads as parse-reads
+use Rattle.questions.proofs.described.field_at.Reads as field-at-reads
+
+slice-aggregate-parse : tie.Need-slice-aggregate-parse
+slice-aggregate-parse c = search needs
+
+parse-requires : tie.Need-parse-requires
+parse-requires c κs = search needs
+
+enum-told : tie.Need-enum-told
+enum-told c = search needs
+
+array-share-prefix-places : tie.Need-array-share-prefix-places
+array-share-prefix-places c = accepted (c .before .before .before .parse .ensures) refl (c .enum-told .given .1) .fit
+
+slice-aggregate-field-at : tie.Need-slice-aggregate-field-at
+slice-aggregate-field-at c = sym (length-take-le (length (c .before .before .before .before .before .before .before .before .args .dwords .now)) _ (accepted (c .before .before .before .before .parse .ensures) refl (c .before .enum-told .given .1) .fit))
+
+field-at-requires : tie.Need-field-at-requires
+field-at-requires c κs = search needs
+
+enum-known-parsed : tie.Need-enum-known-parsed
+enum-known-parsed c = search needs
+
+returns : tie.Need-returns
+unfolding fieldByOffset
+returns c = c .field-at .ensures ∙ answers-over (c .before .before .before .before .before .parse .ensures) refl (c .before .before .enum-told .given .1) (λ (ps : List ℕ). fieldAt (c .before .before .before .before .before .before .before .before .before .args .book .now) (c .before .before .before .before .before .before .before .before .before .args .dwords .now) ps (c .before .before .before .before .before .before .before .before .before .args .kind) (c .before .before .before .before .before .before .before .before .before .args .offset))
+
+returns-2 : tie.Need-returns-2
+unfolding fieldByOffset
+returns-2 c = refused-first (c .before .before .before .before .parse .ensures) refl (c .before .parsed .given .1) (fieldAt (c .before .before .before .before .before .before .before .before .args .book .now) (c .before .before .before .before .before .before .before .before .args .dwords .now) (placesOf (c .before .before .before .before .before .before .before .before .args .kind) (c .before .before .before .before .before .before .before .before .args .book .now) (c .before .before .before .before .before .before .before .before .args .dwords .now)) (c .before .before .before .before .before .before .before .before .args .kind) (c .before .before .before .before .before .before .before .before .args .offset))
+
+pub field-by-offset-spec : {M : Type 1} → statement M
+field-by-offset-spec =
+    tie.close
+    (tie.spec
+    slice-aggregate-parse
+    parse-requires
+    enum-told
+    array-share-prefix-places
+    slice-aggregate-field-at
+    field-at-requires
+    enum-known-parsed
+    returns
+    returns-2)

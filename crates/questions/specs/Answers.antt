@@ -1,0 +1,86 @@
+-- What a question is told, and what each case of an answer tells.
+-- Assumes nothing.
+use Prim.Native.Nat.{ℕ, zero, suc}
+use mathlib.Core.Bool.{Bool}
+use Rattle.entry.specs.declared.optional.MaybeWord.{MaybeWord}
+use Rattle.entry.specs.declared.optional.MaybeWord.the-variants as W
+use Rattle.book.specs.declared.Uuid.{Uuid}
+use Rattle.packet.specs.declared.MaybeUuid.{MaybeUuid}
+use Rattle.packet.specs.declared.MaybeUuid.the-variants as U
+use Rattle.field.specs.declared.Field.{Field}
+use Rattle.questions.specs.declared.PacketType.{PacketType}
+use Rattle.questions.specs.declared.ByteAnswer.{ByteAnswer}
+use Rattle.questions.specs.declared.ByteAnswer.the-variants as Byte
+use Rattle.questions.specs.declared.WordAnswer.{WordAnswer}
+use Rattle.questions.specs.declared.WordAnswer.the-variants as Word
+use Rattle.questions.specs.declared.WideAnswer.{WideAnswer}
+use Rattle.questions.specs.declared.WideAnswer.the-variants as Wide
+use Rattle.questions.specs.declared.FlagAnswer.{FlagAnswer}
+use Rattle.questions.specs.declared.FlagAnswer.the-variants as Flag
+use Rattle.questions.specs.declared.UuidAnswer.{UuidAnswer}
+use Rattle.questions.specs.declared.UuidAnswer.the-variants as UuidA
+use Rattle.questions.specs.declared.TypeAnswer.{TypeAnswer}
+use Rattle.questions.specs.declared.TypeAnswer.the-variants as TypeA
+use Rattle.questions.specs.declared.FieldAnswer.{FieldAnswer}
+use Rattle.questions.specs.declared.FieldAnswer.the-variants as FieldA
+use Rattle.questions.specs.declared.described.MaybeDword.{MaybeDword}
+use Rattle.questions.specs.declared.described.MaybeDword.the-variants as Dword
+
+-- a value; "none", which is no number; or the one number that refuses
+pub data Told (A : Type 0) : Type 0 where
+  is : A → Told A
+  absent : Told A
+  refused : ℕ → Told A
+
+-- what is told, unless a number comes first
+abbrev pub unless : {A : Type 0} → ℕ → Told A → Told A
+unless zero told = told
+unless (suc k) told = refused (suc k)
+
+-- ---- each answer, case by case
+
+abbrev pub byteTold : ByteAnswer → Told ℕ
+byteTold (Byte.Is v) = is v
+byteTold Byte.Absent = absent
+byteTold (Byte.Refused k) = refused k
+
+abbrev pub wordTold : WordAnswer → Told ℕ
+wordTold (Word.Is v) = is v
+wordTold Word.Absent = absent
+wordTold (Word.Refused k) = refused k
+
+abbrev pub wideTold : WideAnswer → Told ℕ
+wideTold (Wide.Is v) = is v
+wideTold (Wide.Refused k) = refused k
+
+abbrev pub flagTold : FlagAnswer → Told Bool
+flagTold (Flag.Is b) = is b
+flagTold (Flag.Refused k) = refused k
+
+abbrev pub uuidTold : UuidAnswer → Told Uuid
+uuidTold (UuidA.Is u) = is u
+uuidTold UuidA.Absent = absent
+uuidTold (UuidA.Refused k) = refused k
+
+abbrev pub typeTold : TypeAnswer → Told PacketType
+typeTold (TypeA.Is t) = is t
+typeTold TypeA.Absent = absent
+typeTold (TypeA.Refused k) = refused k
+
+abbrev pub fieldTold : FieldAnswer → Told Field
+fieldTold (FieldA.Is f) = is f
+fieldTold FieldA.Absent = absent
+fieldTold (FieldA.Refused k) = refused k
+
+abbrev pub dwordTold : MaybeDword → Told ℕ
+dwordTold (Dword.Is v) = is v
+dwordTold Dword.Absent = absent
+
+-- what a packet keeps
+abbrev pub maybeUuid : MaybeUuid → Told Uuid
+maybeUuid (U.Is u) = is u
+maybeUuid U.Absent = absent
+
+abbrev pub maybeWord : MaybeWord → Told ℕ
+maybeWord (W.Is v) = is v
+maybeWord W.Absent = absent

@@ -1,0 +1,86 @@
+-- The questions of a packet, each a function of kind, book and dwords: 20 to 25 first, then the answer over the places of its entries.
+-- Assumes nothing.
+use Prim.Native.Nat.{ℕ}
+use mathlib.Core.Bool.{Bool}
+use mathlib.Core.List.{List, []}
+use lib.ListN.{length, drop}
+use Rattle.book.specs.declared.Uuid.{Uuid}
+use Rattle.packet.specs.declared.field.Ask.{Ask}
+use Rattle.packet.specs.Field.{nameIn}
+use Rattle.packet.specs.Packet.{crosses, numberOf, placesOf, uuidOf, viewFrom, word}
+use Rattle.field.specs.declared.Field.{Field}
+use Rattle.questions.specs.declared.PacketType.{PacketType}
+use Rattle.questions.specs.Answers.{Told, is, absent, refused, unless, maybeUuid, maybeWord}
+use Rattle.questions.specs.Described as described
+
+module _ (kind : ℕ) (s ds : List ℕ) where
+  -- numbers 20 to 25, 0 for none: with a place for each dword, 26 does not come
+  unfoldable pub refusal : ℕ
+  refusal = numberOf kind s (length ds) (length ds)
+
+  -- 20 to 25 come before what is told
+  unfoldable pub answer : {A : Type 0} → Told A → Told A
+  answer told = unless refusal told
+
+  unfoldable pub routeOf : Told ℕ
+  routeOf = answer (described.routeIn ds)
+
+  unfoldable pub cmOf : Told Bool
+  cmOf = answer (described.topBit (described.routeIn ds))
+
+  unfoldable pub adapterOf : Told ℕ
+  adapterOf = answer (described.adapterIn s ds (placesOf kind s ds))
+
+  unfoldable pub addressOf : Told ℕ
+  addressOf = answer (described.addressIn s ds (placesOf kind s ds) kind)
+
+  unfoldable pub sizeOf : Told ℕ
+  sizeOf = answer (described.sizeIn s ds (placesOf kind s ds) kind)
+
+  -- where the data view starts
+  unfoldable pub startOf : Told ℕ
+  startOf = answer (maybeWord (word (viewFrom kind s (placesOf kind s ds))))
+
+  -- the caller's own dwords from the start onward
+  abbrev pub viewAt : Told ℕ → List ℕ
+  viewAt (is n) = drop n ds
+  viewAt absent = []
+  viewAt (refused k) = []
+
+  unfoldable pub viewOf : List ℕ
+  viewOf = viewAt startOf
+
+  unfoldable pub readOf : Told Bool
+  readOf = answer (is (described.isRead kind))
+
+  unfoldable pub writeOf : Told Bool
+  writeOf = answer (is (described.isWrite kind))
+
+  unfoldable pub xdomainOf : Told Bool
+  xdomainOf = answer (is (crosses kind))
+
+  -- the UUID that step 2 gathered
+  unfoldable pub uuidAnswer : Told Uuid
+  uuidAnswer = answer (maybeUuid (uuidOf kind s ds))
+
+  unfoldable pub uuidByName : List ℕ → Told Uuid
+  uuidByName name = answer (described.uuidIn s ds (placesOf kind s ds) name)
+
+  unfoldable pub typeOf : Told PacketType
+  typeOf = answer (described.typeIn s ds (placesOf kind s ds))
+
+  -- its name, empty where there is none
+  abbrev pub nameBy : Told PacketType → List ℕ
+  nameBy (is t) = nameIn s (t .name .at)
+  nameBy absent = []
+  nameBy (refused k) = []
+
+  unfoldable pub typeName : List ℕ
+  typeName = nameBy typeOf
+
+  unfoldable pub fieldByOffset : ℕ → Told Field
+  fieldByOffset i = answer (described.fieldAt s ds (placesOf kind s ds) kind i)
+
+  -- by its name, or by a bit range's
+  unfoldable pub fieldBy : Ask → List ℕ → Told Field
+  fieldBy ask name = answer (described.fieldWith s ds (placesOf kind s ds) ask kind name)

@@ -1,6 +1,5 @@
--- Document 01's cases as one list with a single statement; each was computed or proved where its definitions are. P12 to P14 are about
--- packets and join with them. Assumes nothing.
-use Prim.Native.Nat.{ℕ, _<_, _^_}
+-- Document 01's cases as one list with a single statement; each was computed or proved where its definitions are. Assumes nothing.
+use Prim.Native.Nat.{ℕ, _+_, _<_, _^_}
 use mathlib.Core.Path.{_≡_}
 use mathlib.Core.List.{[], _∷_}
 use mathlib.Core.Option.{some}
@@ -30,6 +29,12 @@ use Rattle.entry.specs.declared.optional.MaybeWord.the-variants as W
 use Rattle.scan.specs.declared.Answer.the-variants as A
 use Rattle.scan.specs.Parse.{parseOf}
 use Rattle.scan.proofs.Cases.{accepted-P7, refused-P8}
+use Rattle.tlv.specs.Grammar.{fieldBytes}
+use Rattle.packet.specs.Packet.{entriesOf}
+use Rattle.packet.proofs.Examples.{threeEntries, threeUuids, fourUuids}
+use Rattle.questions.specs.Answers.{is, absent, refused}
+use Rattle.questions.specs.Questions.{routeOf, startOf, viewOf, uuidAnswer}
+use Rattle.questions.proofs.Cases.{case-P12, case-P13, case-P14}
 
 pub record Cases : Type 0 where
   -- P1: code 38 is link recovery, 3 unknown
@@ -58,6 +63,17 @@ pub record Cases : Type 0 where
   pub P10 : rangeOf 0x12345678 8 15 ≡ 0x56
   -- P11: bits 0 to 31: the dword
   pub P11 : (dword : ℕ) → dword < 2 ^ 32 → rangeOf dword 0 31 ≡ dword
+  -- P12: n = 3: five dwords view the last two, three an empty view, two give 25. The three entries have offsets 0, 1 and 7
+  pub P12-n : entriesOf threeEntries 2 ≡ 3
+  pub P12-five : viewOf 2 threeEntries (10 ∷ 11 ∷ 12 ∷ 13 ∷ 14 ∷ []) ≡ 13 ∷ 14 ∷ []
+  pub P12-three : viewOf 2 threeEntries (10 ∷ 11 ∷ 12 ∷ []) ≡ []
+  pub P12-starts : startOf 2 threeEntries (10 ∷ 11 ∷ 12 ∷ []) ≡ is 3
+  pub P12-two : startOf 2 threeEntries (10 ∷ 11 ∷ []) ≡ refused 25
+  -- P13: dwords 0x80000000, 1: route 2^63+1
+  pub P13 : routeOf 1 (fieldBytes 1 (1 ∷ [])) (0x80000000 ∷ 1 ∷ []) ≡ is (2 ^ 63 + 1)
+  -- P14: three `UUID` fields: no UUID; a fourth makes one
+  pub P14-three : uuidAnswer 8 threeUuids (1 ∷ 2 ∷ 3 ∷ 4 ∷ []) ≡ absent
+  pub P14-four : uuidAnswer 8 fourUuids (1 ∷ 2 ∷ 3 ∷ 4 ∷ []) ≡ is (record { first = 1; second = 2; third = 3; fourth = 4 })
 
 pub cases : Cases
 cases =
@@ -77,4 +93,12 @@ cases =
       P9-not = case-P9 .too-wide;
       P10 = case-P10;
       P11 = case-P11;
+      P12-n = case-P12 .n;
+      P12-five = case-P12 .five;
+      P12-three = case-P12 .three;
+      P12-starts = case-P12 .starts;
+      P12-two = case-P12 .two;
+      P13 = case-P13;
+      P14-three = case-P14 .three;
+      P14-four = case-P14 .four;
     }

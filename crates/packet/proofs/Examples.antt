@@ -21,28 +21,28 @@ use Rattle.packet.specs.Packet as Packet
 use Rattle.packet.specs.Packet.{parseOf, uuidOf, placesOf}
 
 -- an entry with an offset below 256 and a name
-named : ℕ → List ℕ → List ℕ
+unfoldable pub named : ℕ → List ℕ → List ℕ
 named offset name = fieldBytes 3 (offset ∷ 0 ∷ fieldBytes 4 name)
 
 -- an entry with an offset below 256 and nothing more
-plain : ℕ → List ℕ
+unfoldable pub plain : ℕ → List ℕ
 plain offset = fieldBytes 3 (offset ∷ 0 ∷ [])
 
 -- three entries for kind 2, the last far behind: n is 3, and the highest offset plus one is 8
-pub threeEntries : List ℕ
+unfoldable pub threeEntries : List ℕ
 threeEntries = fieldBytes 1 (2 ∷ (plain 0 ++ (plain 1 ++ plain 7)))
 
 -- so many fields named UUID for kind 8, and an empty header table
-pub uuidBook : List ℕ → List ℕ
+unfoldable pub uuidBook : List ℕ → List ℕ
 uuidBook fields = fieldBytes 1 (8 ∷ fields) ++ fieldBytes 2 (replicate 16 0)
 
-pub threeUuids : List ℕ
+unfoldable pub threeUuids : List ℕ
 threeUuids = uuidBook (named 0 (bytes "UUID") ++ (named 1 (bytes "UUID") ++ named 2 (bytes "UUID")))
 
-pub fourUuids : List ℕ
+unfoldable pub fourUuids : List ℕ
 fourUuids = uuidBook (named 0 (bytes "UUID") ++ (named 1 (bytes "UUID") ++ (named 2 (bytes "UUID") ++ named 3 (bytes "UUID"))))
 
-opened : Unit {0}
+unfoldable pub packets-open : Unit {0}
 unfolding named plain threeEntries uuidBook threeUuids fourUuids fieldBytes stepFrom fieldAt walkFrom walk parts filled number sameText rangeOf
     Search.bodyAt Search.after Search.nameAt Search.typeAt Search.sameUuid Search.fits Search.wanted Search.firstPart Search.firstWanted Search.hasWanted Search.tableWant
     Reading.isName Reading.optionalName Reading.valueBody Reading.sameValue Reading.valuesFill Reading.rangeBody Reading.rangesFill Reading.entryBody Reading.sameEntry Reading.entriesFill Reading.controlBody Reading.uuidBody Reading.tableBody Reading.sameTable Reading.tablesFill Reading.checkOf
@@ -50,7 +50,7 @@ unfolding named plain threeEntries uuidBook threeUuids fourUuids fieldBytes step
     Field.rangeIn Field.valueIn Field.namedIn Field.asks
     Steps.mapFrom Steps.entryOf Steps.filled Steps.controlPlaces Steps.headerPlaces Steps.valuesNamed Steps.gathered Steps.fitting Steps.typeIn Steps.latchBehind Steps.protocolFrom Steps.protocolPlaces Steps.uuidPlaces
     Packet.viewed Packet.crosses Packet.controlAt Packet.headerAt Packet.entriesOf Packet.numberChecked Packet.numberOf Packet.stepOne Packet.placesOf Packet.uuidOf Packet.firstFrom Packet.viewFrom Packet.packetOf Packet.parseOf
-opened = tt
+packets-open = tt
 
 -- n = 3: five dwords start their view at 3, three as well, two give 25
 pub record CutAtThree : Type 0 where
@@ -59,7 +59,7 @@ pub record CutAtThree : Type 0 where
   pub two : parseOf 2 threeEntries (10 ∷ 11 ∷ []) 256 ≡ A.Refused 25
 
 pub cut-at-three : CutAtThree
-unfolding opened
+unfolding packets-open
 cut-at-three = record { five = refl; three = refl; two = refl }
 
 -- three fields named UUID make none, four make one
@@ -68,5 +68,5 @@ pub record OfFourFields : Type 0 where
   pub four : uuidOf 8 fourUuids (1 ∷ 2 ∷ 3 ∷ 4 ∷ []) ≡ Is (record { first = 1; second = 2; third = 3; fourth = 4 })
 
 pub of-four-fields : OfFourFields
-unfolding opened
+unfolding packets-open
 of-four-fields = record { three = refl; four = refl }

@@ -39,6 +39,10 @@ class WriteAnswer(ctypes.Structure):
     _fields_ = [("number", ctypes.c_uint8), ("bytes", ctypes.c_size_t)]
 
 
+class EventText(ctypes.Structure):
+    _fields_ = [("bytes", ctypes.c_uint8 * 14), ("len", ctypes.c_size_t)]
+
+
 class Lent:
     """Memory for writing between two guards, all of it marked."""
 
@@ -81,6 +85,12 @@ class Calls:
         self.library.ck_record_write.argtypes = [
             ctypes.c_char_p, ctypes.c_size_t, Entry, ctypes.c_char_p, ctypes.c_size_t,
             ctypes.c_void_p, ctypes.c_size_t]
+        for name in ("ck_adapter_num", "ck_unplug"):
+            call = getattr(self.library, name)
+            call.restype = ctypes.c_uint32
+            call.argtypes = [Entry]
+        self.library.ck_event_name.restype = EventText
+        self.library.ck_event_name.argtypes = [ctypes.c_uint8]
         self.library.ck_book_check.restype = ctypes.c_uint8
         self.library.ck_book_check.argtypes = [ctypes.c_char_p, ctypes.c_size_t]
         self.slots = Lent(4 * 256)
@@ -99,6 +109,16 @@ class Calls:
         written = self.buffer.written(answer.bytes)
         fits = answer.bytes == 0 or answer.number == 0
         return (answer.number if fits and written is not None else "torn"), written
+
+    def questions(self, entry):
+        """Adapter, unplug and the event's name; the name's zeros must be there."""
+        answers = [call(entry) for call in (self.library.ck_adapter_num, self.library.ck_unplug)]
+        answers = [None if answer == NONE else answer for answer in answers]
+        if entry.code == NONE:
+            return (*answers, None)
+        text = self.library.ck_event_name(entry.code)
+        name = bytes(text.bytes)
+        return (*answers, name[:text.len].decode() if not any(name[text.len:]) else "torn")
 
     def check(self, book):
         return self.library.ck_book_check(book, len(book))

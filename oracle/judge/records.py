@@ -50,6 +50,10 @@ def judge_trip(calls, tally, name, line, slots):
         return tally.differ(name, line, expected, got)
     if number != 0:
         return tally.same(name, f"refused {number}")
+    asked = (line_reading.adapter(expected), line_reading.unplugged(expected),
+             line_reading.event_name(expected["event"]))
+    if calls.questions(entry) != asked:
+        return tally.differ(name, line, asked, calls.questions(entry))
     made = reading.write_record(expected)
     written, data = calls.write(line, entry, dwords, 5227)
     if (written, data) != (0, made):

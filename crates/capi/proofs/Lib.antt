@@ -1,2 +1,3 @@
 -- The laws of the C calls.
 pub mod Calling
+pub mod RoundTrip

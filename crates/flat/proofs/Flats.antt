@@ -1,11 +1,11 @@
 -- Flat and entry are one to one: each field goes there and back by itself. Assumes nothing.
-use Prim.Native.Nat.{ℕ, _≤_, _<_}
-use mathlib.Core.Path.{_≡_, refl, sym, _∙_, ap}
-use mathlib.Core.Bool.{Bool, true, false, cond, _&&_, _||_}
+use Prim.Native.Nat.{ℕ, _≤_}
+use mathlib.Core.Path.{_≡_, refl, sym, ap}
+use mathlib.Core.Bool.{Bool, true, false, _&&_}
 use native.Mathlib.Omega.{arith}
 use native.Mathlib.Decide.{decLt}
-use lib.Dec.{eqb, ltb, leb}
-use borrow.Author.Tests.{lt-ltb, le-ltb, le-leb, leb-true, eqb-true}
+use lib.Dec.{eqb, leb}
+use borrow.Author.Tests.{lt-ltb, le-ltb, leb-true, eqb-true}
 use Rattle.tlv.proofs.Pieces.{both-true}
 use Rattle.entry.specs.declared.Entry.{Entry}
 use Rattle.entry.specs.declared.optional.MaybeByte.{MaybeByte}
@@ -13,9 +13,8 @@ use Rattle.entry.specs.declared.optional.MaybeByte.the-variants as B
 use Rattle.entry.specs.declared.optional.MaybeWord.{MaybeWord}
 use Rattle.entry.specs.declared.optional.MaybeWord.the-variants as W
 use Rattle.flat.specs.declared.Flat.{Flat}
-use Rattle.flat.specs.declared.Raised.{Raised}
 use Rattle.flat.specs.declared.Raised.the-variants as R
-use Rattle.flat.specs.Flat.{absent, flagNumber, flatByte, flatWord, flatOf, flatWith, byteOf, wordOf, entryOf, entryWith, isByte, isWord, bytesInRange, inRange, raiseOf, ByteFits, WordFits, OptionalsFit}
+use Rattle.flat.specs.Flat.{absent, flagNumber, flatByte, flatWord, flatOf, byteOf, wordOf, entryOf, isByte, isWord, bytesInRange, inRange, raiseOf, ByteFits, WordFits, OptionalsFit}
 
 -- an optional's number is in range and gives the optional back
 byte-back : (b : MaybeByte) → ByteFits b → byteOf (flatByte b) ≡ b

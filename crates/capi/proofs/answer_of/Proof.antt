@@ -1,6 +1,5 @@
 -- `answer_of` meets its contract, by cases. Assumes nothing.
 use Rattle.capi.specs.Calls.{answerBy}
-use native.Mathlib.Omega.{arith}
 use borrow.Author.Needs.{needs}
 use Rattle.capi.proofs.answer_of.Statement.{statement}
 use Rattle.capi.proofs.answer_of.Tie as tie

@@ -1,9 +1,8 @@
 -- `ck_adapter_num` meets its contract: the question over the entry of the numbers. Assumes nothing.
-use mathlib.Core.Path.{_≡_, sym, _∙_, ap}
+use mathlib.Core.Path.{_∙_, ap}
 use Rattle.flat.specs.Flat.{entryOf, flatByte}
 use Rattle.entry.specs.declared.Entry.{Entry}
 use Rattle.entry.specs.Entry.{adapterOf}
-use native.Mathlib.Omega.{arith}
 use borrow.Author.Needs.{needs}
 use Rattle.capi.proofs.ck_adapter_num.Statement.{statement}
 use Rattle.capi.proofs.ck_adapter_num.Tie as tie

@@ -1,6 +1,5 @@
 -- `ck_book_check` meets its contract, by cases. Assumes nothing.
-use mathlib.Core.Path.{_≡_, sym, _∙_}
-use native.Mathlib.Omega.{arith}
+use mathlib.Core.Path.{sym, _∙_}
 use borrow.Author.Needs.{needs}
 use Rattle.capi.proofs.ck_book_check.Statement.{statement}
 use Rattle.capi.proofs.ck_book_check.Tie as tie

@@ -1,10 +1,8 @@
 -- `ck_event_name` meets its contract: the name's bytes and length. Assumes nothing.
-use mathlib.Core.Path.{_≡_, sym, _∙_, ap}
+use mathlib.Core.Path.{_∙_, ap}
 use Rattle.entry.specs.declared.events.Event.{Event}
-use Rattle.entry.specs.declared.events.Name.{Name}
 use Rattle.entry.specs.Event.{nameOf, padded}
 use Rattle.capi.specs.Calls.{nameBy}
-use native.Mathlib.Omega.{arith}
 use borrow.Author.Needs.{needs}
 use Rattle.capi.proofs.ck_event_name.Statement.{statement}
 use Rattle.capi.proofs.ck_event_name.Tie as tie

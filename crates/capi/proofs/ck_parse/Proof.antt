@@ -1,6 +1,5 @@
 -- `ck_parse` meets its contract: the line reader's answer handed on. Assumes nothing.
 use Rattle.capi.proofs.Calling.{handed-on}
-use native.Mathlib.Omega.{arith}
 use borrow.Author.Needs.{needs}
 use Rattle.capi.proofs.ck_parse.Statement.{statement}
 use Rattle.capi.proofs.ck_parse.Tie as tie

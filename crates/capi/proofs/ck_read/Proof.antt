@@ -1,6 +1,5 @@
 -- `ck_read` meets its contract: the intake's answer handed on. Assumes nothing.
 use Rattle.capi.proofs.Calling.{handed-on}
-use native.Mathlib.Omega.{arith}
 use borrow.Author.Needs.{needs}
 use Rattle.capi.proofs.ck_read.Statement.{statement}
 use Rattle.capi.proofs.ck_read.Tie as tie

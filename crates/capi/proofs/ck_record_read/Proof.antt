@@ -1,7 +1,6 @@
 -- `ck_record_read` meets its contract: the record reader's answer handed on. Assumes nothing.
 use Rattle.capi.proofs.Calling.{handed-on}
 use Rattle.intake.proofs.Taking.{record-entry, record-refused}
-use native.Mathlib.Omega.{arith}
 use borrow.Author.Needs.{needs}
 use Rattle.capi.proofs.ck_record_read.Statement.{statement}
 use Rattle.capi.proofs.ck_record_read.Tie as tie

@@ -1,6 +1,5 @@
 -- `ck_record_write` meets its contract: the writer's answer handed on, or 37. Assumes nothing.
 use Rattle.capi.proofs.Calling.{wrote-entry, wrote-nothing}
-use native.Mathlib.Omega.{arith}
 use borrow.Author.Needs.{needs}
 use Rattle.capi.proofs.ck_record_write.Statement.{statement}
 use Rattle.capi.proofs.ck_record_write.Tie as tie

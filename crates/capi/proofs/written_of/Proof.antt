@@ -1,6 +1,5 @@
 -- `written_of` meets its contract, by cases. Assumes nothing.
 use Rattle.capi.specs.Calls.{writtenBy}
-use native.Mathlib.Omega.{arith}
 use borrow.Author.Needs.{needs}
 use Rattle.capi.proofs.written_of.Statement.{statement}
 use Rattle.capi.proofs.written_of.Tie as tie

@@ -1,8 +1,7 @@
 -- `are_bytes` meets its contract, field by field. Assumes nothing.
-use mathlib.Core.Path.{_≡_, sym, _∙_}
+use mathlib.Core.Path.{sym, _∙_}
 use borrow.Author.Tests.{not-true, not-false}
 use Rattle.flat.specs.Flat.{bytesInRange}
-use native.Mathlib.Omega.{arith}
 use borrow.Author.Needs.{needs}
 use Rattle.flat.proofs.are_bytes.Statement.{statement}
 use Rattle.flat.proofs.are_bytes.Tie as tie

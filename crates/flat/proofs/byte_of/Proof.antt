@@ -1,7 +1,6 @@
 -- `byte_of` meets its contract, by the one test. Assumes nothing.
 use borrow.Author.Tests.{lt-ltb, le-ltb}
 use Rattle.flat.specs.Flat.{byteOf}
-use native.Mathlib.Omega.{arith}
 use borrow.Author.Needs.{needs}
 use Rattle.flat.proofs.byte_of.Statement.{statement}
 use Rattle.flat.proofs.byte_of.Tie as tie

@@ -1,6 +1,5 @@
 -- `entry_of` meets its contract, optional by optional. Assumes nothing.
 use Rattle.flat.specs.Flat.{entryOf, entryWith}
-use native.Mathlib.Omega.{arith}
 use borrow.Author.Needs.{needs}
 use Rattle.flat.proofs.entry_of.Statement.{statement}
 use Rattle.flat.proofs.entry_of.Tie as tie

@@ -1,6 +1,5 @@
 -- `flat_byte` meets its contract, by cases. Assumes nothing.
 use Rattle.flat.specs.Flat.{flatByte}
-use native.Mathlib.Omega.{arith}
 use borrow.Author.Needs.{needs}
 use Rattle.flat.proofs.flat_byte.Statement.{statement}
 use Rattle.flat.proofs.flat_byte.Tie as tie

@@ -1,6 +1,5 @@
 -- `flat_flag` meets its contract, by cases. Assumes nothing.
 use Rattle.flat.specs.Flat.{flatFlag}
-use native.Mathlib.Omega.{arith}
 use borrow.Author.Needs.{needs}
 use Rattle.flat.proofs.flat_flag.Statement.{statement}
 use Rattle.flat.proofs.flat_flag.Tie as tie

@@ -1,6 +1,5 @@
 -- `flat_word` meets its contract, by cases. Assumes nothing.
 use Rattle.flat.specs.Flat.{flatWord}
-use native.Mathlib.Omega.{arith}
 use borrow.Author.Needs.{needs}
 use Rattle.flat.proofs.flat_word.Statement.{statement}
 use Rattle.flat.proofs.flat_word.Tie as tie

@@ -1,6 +1,5 @@
 -- `flatten` meets its contract, optional by optional. Assumes nothing.
 use Rattle.flat.specs.Flat.{flatOf, flatWith}
-use native.Mathlib.Omega.{arith}
 use borrow.Author.Needs.{needs}
 use Rattle.flat.proofs.flatten.Statement.{statement}
 use Rattle.flat.proofs.flatten.Tie as tie

@@ -1,8 +1,6 @@
 -- `is_byte` meets its contract, by the two tests. Assumes nothing.
 use borrow.Author.Tests.{lt-ltb, le-ltb}
 use Rattle.flat.specs.Flat.{isByte}
-use borrow.Author.Needs.{needs}
-use native.Mathlib.Omega.{arith}
 use Rattle.flat.proofs.is_byte.Statement.{statement}
 use Rattle.flat.proofs.is_byte.Tie as tie
 

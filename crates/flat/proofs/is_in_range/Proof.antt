@@ -1,8 +1,7 @@
 -- `is_in_range` meets its contract, field by field. Assumes nothing.
-use mathlib.Core.Path.{_≡_, sym, _∙_}
+use mathlib.Core.Path.{sym, _∙_}
 use borrow.Author.Tests.{le-leb, lt-leb, not-true, not-false}
 use Rattle.flat.specs.Flat.{inRange}
-use native.Mathlib.Omega.{arith}
 use borrow.Author.Needs.{needs}
 use Rattle.flat.proofs.is_in_range.Statement.{statement}
 use Rattle.flat.proofs.is_in_range.Tie as tie

@@ -1,8 +1,6 @@
 -- `is_word` meets its contract, by the two tests. Assumes nothing.
 use borrow.Author.Tests.{lt-ltb, le-ltb}
 use Rattle.flat.specs.Flat.{isWord}
-use borrow.Author.Needs.{needs}
-use native.Mathlib.Omega.{arith}
 use Rattle.flat.proofs.is_word.Statement.{statement}
 use Rattle.flat.proofs.is_word.Tie as tie
 

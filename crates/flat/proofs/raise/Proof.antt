@@ -1,9 +1,8 @@
 -- `raise` meets its contract, by the test. Assumes nothing.
-use mathlib.Core.Path.{_≡_, sym, _∙_, ap}
+use mathlib.Core.Path.{sym, _∙_, ap}
 use borrow.Author.Tests.{not-true, not-false}
 use Rattle.flat.specs.Flat.{raiseOf}
 use Rattle.flat.specs.declared.Raised.the-variants as R
-use native.Mathlib.Omega.{arith}
 use borrow.Author.Needs.{needs}
 use Rattle.flat.proofs.raise.Statement.{statement}
 use Rattle.flat.proofs.raise.Tie as tie

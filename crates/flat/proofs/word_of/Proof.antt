@@ -1,7 +1,6 @@
 -- `word_of` meets its contract, by the one test. Assumes nothing.
 use borrow.Author.Tests.{lt-ltb, le-ltb}
 use Rattle.flat.specs.Flat.{wordOf}
-use native.Mathlib.Omega.{arith}
 use borrow.Author.Needs.{needs}
 use Rattle.flat.proofs.word_of.Statement.{statement}
 use Rattle.flat.proofs.word_of.Tie as tie

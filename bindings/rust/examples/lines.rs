@@ -1,0 +1,44 @@
+//! Lines of trace on standard input to their entries: `cargo run --example lines < samples/fwd.txt`.
+use chomkadieu::{Entry, MOST_DWORDS};
+use std::io::{self, BufRead, Write};
+
+fn main() -> io::Result<()> {
+    let mut input = io::stdin().lock();
+    let mut out = io::stdout().lock();
+    let mut slots = [0; MOST_DWORDS];
+    let mut line = Vec::new();
+    while input.read_until(b'\n', &mut line)? > 0 {
+        match Entry::parse(&line, &mut slots) {
+            Ok(entry) => show(&mut out, &entry)?,
+            Err(refusal) => writeln!(out, "refused {}: {refusal}", refusal.number())?,
+        }
+        line.clear();
+    }
+    Ok(())
+}
+
+fn show(out: &mut impl Write, entry: &Entry) -> io::Result<()> {
+    let time = entry.timestamp();
+    write!(
+        out,
+        "{} {}-{} cpu {} ",
+        time.seconds,
+        entry.task(),
+        entry.pid(),
+        entry.cpu()
+    )?;
+    write!(
+        out,
+        "{}: {}, route {:x}",
+        entry.function(),
+        entry.pdf(),
+        entry.route()
+    )?;
+    if let Some(event) = entry.event() {
+        write!(out, ", event {event}")?;
+    }
+    if let Some(adapter) = entry.adapter_num() {
+        write!(out, ", adapter {adapter}")?;
+    }
+    writeln!(out, ", data {:08x?}", entry.data())
+}

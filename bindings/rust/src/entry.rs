@@ -1,0 +1,198 @@
+//! The entry: what a line or a record says.
+use crate::raw::{self, RawEntry};
+use crate::{Event, Pdf, Refusal};
+
+/// Seconds, and microseconds as they stand in the line.
+#[derive(Clone, Copy, Debug, PartialEq, Eq)]
+pub struct Timestamp {
+    /// The first number.
+    pub seconds: u64,
+    /// The second number, which is no fraction: `1.5` has 5 microseconds.
+    pub microseconds: u64,
+}
+
+/// What a trace line or a record says of one packet. It borrows the text that it was read from and the slots that hold its dwords.
+#[derive(Clone, Copy, Debug)]
+pub struct Entry<'t, 's> {
+    raw: RawEntry,
+    text: &'t [u8],
+    data: &'s [u32],
+}
+
+type Reader = fn(&[u8], &mut [u32]) -> Result<RawEntry, u8>;
+
+impl<'t, 's> Entry<'t, 's> {
+    /// The entry of a line of trace; its dwords go to the first slots. A refusal leaves the slots as they were.
+    pub fn parse(line: &'t [u8], slots: &'s mut [u32]) -> Result<Self, Refusal> {
+        Self::by(raw::parse, line, slots)
+    }
+
+    /// The entry of a record, likewise.
+    pub fn from_record(record: &'t [u8], slots: &'s mut [u32]) -> Result<Self, Refusal> {
+        Self::by(raw::record_read, record, slots)
+    }
+
+    /// The entry of a text that is a record if it starts with A1, else a line.
+    pub fn read(text: &'t [u8], slots: &'s mut [u32]) -> Result<Self, Refusal> {
+        Self::by(raw::read, text, slots)
+    }
+
+    fn by(reader: Reader, text: &'t [u8], slots: &'s mut [u32]) -> Result<Self, Refusal> {
+        let raw = reader(text, slots).map_err(Refusal::from_number)?;
+        let slots: &'s [u32] = slots;
+        Ok(Self {
+            raw,
+            text,
+            data: slots.get(..raw.dwords).unwrap_or_default(),
+        })
+    }
+
+    /// The entry's record into the first bytes of the buffer, and how many bytes it has. A refusal leaves the buffer as it was.
+    pub fn write(&self, out: &mut [u8]) -> Result<usize, Refusal> {
+        raw::record_write(self.text, self.raw, self.data, out).map_err(Refusal::from_number)
+    }
+
+    fn part(&self, at: usize, len: usize) -> &'t str {
+        // Texts of an entry lie in the text and are ASCII; were they not, this would be empty and no harm done.
+        let bytes = self
+            .text
+            .get(at..)
+            .and_then(|rest| rest.get(..len))
+            .unwrap_or_default();
+        core::str::from_utf8(bytes).unwrap_or_default()
+    }
+
+    /// The task that handled the packet.
+    pub fn task(&self) -> &'t str {
+        self.part(self.raw.task_at, self.raw.task_len)
+    }
+
+    /// The process.
+    pub fn pid(&self) -> u32 {
+        self.raw.pid
+    }
+
+    /// The CPU that handled the packet.
+    pub fn cpu(&self) -> u16 {
+        self.raw.cpu
+    }
+
+    /// When.
+    pub fn timestamp(&self) -> Timestamp {
+        Timestamp {
+            seconds: self.raw.seconds,
+            microseconds: self.raw.microseconds,
+        }
+    }
+
+    /// The kernel function that traced the packet.
+    pub fn function(&self) -> &'t str {
+        self.part(self.raw.function_at, self.raw.function_len)
+    }
+
+    /// The kind of the packet.
+    pub fn pdf(&self) -> Pdf {
+        Pdf::from_kind(self.raw.kind)
+    }
+
+    /// The packet's size in dwords, as the line says it.
+    pub fn size(&self) -> u16 {
+        self.raw.size
+    }
+
+    /// Did the kernel drop the packet?
+    pub fn dropped(&self) -> bool {
+        self.raw.dropped == 1
+    }
+
+    /// The domain.
+    pub fn domain_index(&self) -> u32 {
+        self.raw.domain
+    }
+
+    /// The route.
+    pub fn route(&self) -> u64 {
+        self.raw.route
+    }
+
+    /// The dword offset, where the line says one.
+    pub fn offset(&self) -> Option<u16> {
+        raw::word(self.raw.offset)
+    }
+
+    /// The event of a notification.
+    pub fn event(&self) -> Option<Event> {
+        raw::byte(self.raw.code).map(Event::from_code)
+    }
+
+    /// How many dwords are to be read or written, where the line says so (`len`). The packet's own dwords are [`Entry::data`].
+    pub fn dwords(&self) -> Option<u16> {
+        raw::word(self.raw.len)
+    }
+
+    /// The adapter: the port, but none for the two events that put something else there.
+    pub fn adapter_num(&self) -> Option<u8> {
+        raw::adapter_num(self.raw)
+    }
+
+    /// The port as it was read.
+    pub fn port(&self) -> Option<u8> {
+        raw::byte(self.raw.port)
+    }
+
+    /// The configuration space, as the byte that was read.
+    pub fn cs(&self) -> Option<u8> {
+        raw::byte(self.raw.config)
+    }
+
+    /// The sequence number.
+    pub fn sn(&self) -> Option<u8> {
+        raw::byte(self.raw.seq)
+    }
+
+    /// Is it an unplug?
+    pub fn unplug(&self) -> Option<bool> {
+        raw::unplug(self.raw)
+    }
+
+    /// The byte behind [`Entry::unplug`], as it was read.
+    pub fn unplug_byte(&self) -> Option<u8> {
+        raw::byte(self.raw.unplug)
+    }
+
+    /// The packet's dwords.
+    pub fn data(&self) -> &'s [u32] {
+        self.data
+    }
+
+    /// What the two entries must share besides their texts and dwords.
+    fn numbers(&self) -> ([u64; 8], [u32; 7]) {
+        let e = &self.raw;
+        let always = [
+            e.pid.into(),
+            e.cpu.into(),
+            e.seconds,
+            e.microseconds,
+            u64::from(e.kind) << 8 | u64::from(e.dropped),
+            e.size.into(),
+            e.domain.into(),
+            e.route,
+        ];
+        (
+            always,
+            [e.offset, e.code, e.len, e.port, e.config, e.seq, e.unplug],
+        )
+    }
+}
+
+/// Two entries are the same when each field is, texts and dwords by what they hold, wherever they lie.
+impl PartialEq<Entry<'_, '_>> for Entry<'_, '_> {
+    fn eq(&self, other: &Entry<'_, '_>) -> bool {
+        self.task() == other.task()
+            && self.function() == other.function()
+            && self.numbers() == other.numbers()
+            && self.data == other.data
+    }
+}
+
+impl Eq for Entry<'_, '_> {}

@@ -1,0 +1,37 @@
+//! Trace lines of USB4 control packets, and the records made of them, as entries.
+//!
+//! The work is done by proved code behind C calls (`include/chomkadieu.h`); this crate is the thin, safe side of it. Nothing is copied and
+//! nothing allocated: an [`Entry`] borrows the text that it was read from and the slots that its dwords went to. Names follow the `trace`
+//! module of tbtools.
+//!
+//! ```
+//! use chomkadieu::{Entry, Pdf, MOST_DWORDS};
+//!
+//! let line = b" fwd-7 [002] d..1. 12.000345: tb_tx: type=TB_CFG_PKG_READ, size=3, domain=0, route=0, data=[0x0, 0x0, 0x04002001]\n";
+//! let mut slots = [0; MOST_DWORDS];
+//! let entry = Entry::parse(line, &mut slots)?;
+//! assert_eq!((entry.task(), entry.pid(), entry.pdf()), ("fwd", 7, Pdf::ReadRequest));
+//! assert_eq!(entry.data(), [0, 0, 0x04002001]);
+//! # Ok::<(), chomkadieu::Refusal>(())
+//! ```
+#![no_std]
+#![deny(missing_docs)]
+
+mod book;
+mod entry;
+mod event;
+mod pdf;
+mod raw;
+mod refusal;
+
+pub use book::Book;
+pub use entry::{Entry, Timestamp};
+pub use event::Event;
+pub use pdf::Pdf;
+pub use refusal::Refusal;
+
+/// No line or record has more dwords: with as many slots, none is refused for want of slots.
+pub const MOST_DWORDS: usize = 256;
+
+/// No record has more bytes: with as long a buffer, none is refused for want of room.
+pub const MOST_BYTES: usize = 5227;

@@ -1,0 +1,2 @@
+-- The laws of packing.
+pub mod Rooms

@@ -2,3 +2,4 @@
 pub mod Asking
 pub mod Over
 pub mod Views
+pub mod Unique

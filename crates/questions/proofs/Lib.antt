@@ -2,4 +2,5 @@
 pub mod Asking
 pub mod Over
 pub mod Views
+pub mod Unique
 pub mod Cases

@@ -39,48 +39,57 @@ unless (suc k) told = refused (suc k)
 
 -- ---- each answer, case by case
 
+-- 8 bits
 abbrev pub byteTold : ByteAnswer → Told ℕ
 byteTold (Byte.Is v) = is v
 byteTold Byte.Absent = absent
 byteTold (Byte.Refused k) = refused k
 
+-- 16 bits
 abbrev pub wordTold : WordAnswer → Told ℕ
 wordTold (Word.Is v) = is v
 wordTold Word.Absent = absent
 wordTold (Word.Refused k) = refused k
 
+-- 64 bits, never none
 abbrev pub wideTold : WideAnswer → Told ℕ
 wideTold (Wide.Is v) = is v
 wideTold (Wide.Refused k) = refused k
 
+-- yes or no, never none
 abbrev pub flagTold : FlagAnswer → Told Bool
 flagTold (Flag.Is b) = is b
 flagTold (Flag.Refused k) = refused k
 
+-- a UUID
 abbrev pub uuidTold : UuidAnswer → Told Uuid
 uuidTold (UuidA.Is u) = is u
 uuidTold UuidA.Absent = absent
 uuidTold (UuidA.Refused k) = refused k
 
+-- a packet type
 abbrev pub typeTold : TypeAnswer → Told PacketType
 typeTold (TypeA.Is t) = is t
 typeTold TypeA.Absent = absent
 typeTold (TypeA.Refused k) = refused k
 
+-- a field
 abbrev pub fieldTold : FieldAnswer → Told Field
 fieldTold (FieldA.Is f) = is f
 fieldTold FieldA.Absent = absent
 fieldTold (FieldA.Refused k) = refused k
 
+-- the value of a bit range, not yet cut
 abbrev pub dwordTold : MaybeDword → Told ℕ
 dwordTold (Dword.Is v) = is v
 dwordTold Dword.Absent = absent
 
--- what a packet keeps
+-- the UUID, as a packet keeps it
 abbrev pub maybeUuid : MaybeUuid → Told Uuid
 maybeUuid (U.Is u) = is u
 maybeUuid U.Absent = absent
 
+-- where the view starts, as a packet keeps it
 abbrev pub maybeWord : MaybeWord → Told ℕ
 maybeWord (W.Is v) = is v
 maybeWord W.Absent = absent

@@ -84,6 +84,7 @@ module _ (s ds ps : List ℕ) where
   unfoldable pub uuidIn : List ℕ → Told Uuid
   uuidIn name = maybeUuid (gathered s name ds ps)
 
+  -- in the dword that was found
   abbrev pub typeAt : Found → Told PacketType
   typeAt (At i) = typeBy s (rangeIn s (bytes "Packet Type") (getD ps i 0)) (getD ds i 0)
   typeAt Nothing = absent
@@ -100,6 +101,7 @@ module _ (s ds ps : List ℕ) where
   unfoldable pub fieldAt : ℕ → ℕ → Told Field
   fieldAt kind i = cond (ltb i (length ds)) (is (fieldIn kind i)) absent
 
+  -- of the dword that was found
   abbrev pub fieldFound : ℕ → Found → Told Field
   fieldFound kind (At i) = is (fieldIn kind i)
   fieldFound kind Nothing = absent

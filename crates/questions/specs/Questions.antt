@@ -22,18 +22,23 @@ module _ (kind : ℕ) (s ds : List ℕ) where
   unfoldable pub answer : {A : Type 0} → Told A → Told A
   answer told = unless refusal told
 
+  -- the first dword above the second; 27 under two dwords
   unfoldable pub routeOf : Told ℕ
   routeOf = answer (described.routeIn ds)
 
+  -- the top bit of the route
   unfoldable pub cmOf : Told Bool
   cmOf = answer (described.topBit (described.routeIn ds))
 
+  -- adapter to 8 bits
   unfoldable pub adapterOf : Told ℕ
   adapterOf = answer (described.adapterIn s ds (placesOf kind s ds))
 
+  -- address and offset to 16
   unfoldable pub addressOf : Told ℕ
   addressOf = answer (described.addressIn s ds (placesOf kind s ds) kind)
 
+  -- sizes to 16
   unfoldable pub sizeOf : Told ℕ
   sizeOf = answer (described.sizeIn s ds (placesOf kind s ds) kind)
 
@@ -47,9 +52,11 @@ module _ (kind : ℕ) (s ds : List ℕ) where
   viewAt absent = []
   viewAt (refused k) = []
 
+  -- empty also where there is no view; what the start tells says which
   unfoldable pub viewOf : List ℕ
   viewOf = viewAt startOf
 
+  -- reads, writes, and packets that cross domains, by the kind
   unfoldable pub readOf : Told Bool
   readOf = answer (is (described.isRead kind))
 
@@ -63,9 +70,11 @@ module _ (kind : ℕ) (s ds : List ℕ) where
   unfoldable pub uuidAnswer : Told Uuid
   uuidAnswer = answer (maybeUuid (uuidOf kind s ds))
 
+  -- a UUID by name gathers over the final descriptions
   unfoldable pub uuidByName : List ℕ → Told Uuid
   uuidByName name = answer (described.uuidIn s ds (placesOf kind s ds) name)
 
+  -- the first `Packet Type`; 28 where its value has no name
   unfoldable pub typeOf : Told PacketType
   typeOf = answer (described.typeIn s ds (placesOf kind s ds))
 
@@ -75,12 +84,14 @@ module _ (kind : ℕ) (s ds : List ℕ) where
   nameBy absent = []
   nameBy (refused k) = []
 
+  -- the name of the packet type
   unfoldable pub typeName : List ℕ
   typeName = nameBy typeOf
 
+  -- the field at an offset
   unfoldable pub fieldByOffset : ℕ → Told Field
   fieldByOffset i = answer (described.fieldAt s ds (placesOf kind s ds) kind i)
 
-  -- by its name, or by a bit range's
+  -- the first field of a name, or with a bit range of a name
   unfoldable pub fieldBy : Ask → List ℕ → Told Field
   fieldBy ask name = answer (described.fieldWith s ds (placesOf kind s ds) ask kind name)

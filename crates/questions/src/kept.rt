@@ -33,6 +33,7 @@ fn number_checked(kind: u8, book: &[u8], count: usize) -> u8
     }
 }
 
+// The start that a packet keeps.
 pub fn start_in(start: MaybeWord) -> WordAnswer
     ensures { λ r. ⌜ wordTold r ≡ maybeWord start ⌝ }
 {
@@ -42,6 +43,7 @@ pub fn start_in(start: MaybeWord) -> WordAnswer
     }
 }
 
+// The UUID that a packet keeps.
 pub fn uuid_kept(uuid: MaybeUuid) -> UuidAnswer
     ensures { λ r. ⌜ uuidTold r ≡ maybeUuid uuid ⌝ }
 {

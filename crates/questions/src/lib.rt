@@ -1,6 +1,6 @@
 // The questions of a packet, each of a kind, a book and dwords. Numbers 20 to 25 come before any answer; the book is checked once.
 //
-//     route, cm                              number 27 under two dwords
+//     route, cm                              from the first two dwords; number 27 under two
 //     adapter_num, data_address, data_size   a bit range's value, cut to its width
 //     data_start, data                       where the data view starts, and the view: a part of the lent dwords
 //     is_read, is_write, is_xdomain          by the kind
@@ -294,6 +294,7 @@ pub fn field_by_bitfield_name(kind: u8, book: &[u8], dwords: &[u32], name: &[u8]
     field_asked(Ask::Holds, kind, book, dwords, name)
 }
 
+// The first field as asked.
 fn field_asked(ask: Ask, kind: u8, book: &[u8], dwords: &[u32], name: &[u8]) -> FieldAnswer
     ensures { λ r. ⌜ fieldTold r ≡ fieldBy kind (now (book .entry)) (now (dwords .entry)) ask (now (name .entry)) ⌝ }
 {

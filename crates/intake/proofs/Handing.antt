@@ -45,23 +45,45 @@ packet-is kind s ds room {p} q = go (numberOf kind s (length ds) room) q
     go zero h = let same : packetOf kind s ds ≡ p = cc in sym same
     go (suc n) h = absurd (let z : _≡_ {A = ℕ} 0 1 = cc in omega arith)
 
+-- a packet has its own kind, so the places of that kind are its places
+pub places-by-kind : (kind : ℕ) (s ds out : List ℕ) (room : ℕ) (r : Packet.Answer) → r ≡ parseOf kind s ds room
+    → listBy r (placesOf kind s ds) out ≡ listBy r (placesOf (kindIn r) s ds) out
+unfolding packetOf listBy
+places-by-kind kind s ds out room (P.Packet p) e =
+    let same : p .kind ≡ kind = ap (λ (w : Described.Packet). w .kind) (packet-is kind s ds room (sym e)) in
+    rw same
+places-by-kind kind s ds out room (P.Refused k) e = refl
+
 module _ (t s slots places : List ℕ) where
   -- the text is an entry: its kind and dwords give the packet
   pub taken-packet : {e : Entry} → takenOf t (length slots) ≡ A.Entry e → {ds : List ℕ} → ds ≡ takenDwords t → {slots′ places′ : List ℕ} {r : Packet.Answer}
       → Handed (e .kind) s ds slots slots′ places places′ r → PacketTaken t s slots slots′ places places′ r
-  unfolding packetTaken packetBy listBy packetOf
+  unfolding packetTaken packetBy
   taken-packet {e} a {ds} same {slots′} {places′} {r} handed =
       let h : Handed (e .kind) s (takenDwords t) slots slots′ places places′ r = rw same at handed in
-      record { answer = h .answer ∙ rw a; slots-left = h .slots-left; places-left = h .places-left ∙ by r (h .answer) }
-    where
-      by : (q : Packet.Answer) → q ≡ parseOf (e .kind) s (takenDwords t) (length places)
-          → listBy q (placesOf (e .kind) s (takenDwords t)) places ≡ listBy q (placesOf (kindIn q) s (takenDwords t)) places
-      by (P.Packet p) x =
-          let kind : p .kind ≡ e .kind = ap (λ (w : Described.Packet). w .kind) (packet-is (e .kind) s (takenDwords t) (length places) (sym x)) in
-          rw kind
-      by (P.Refused k) x = refl
+      record {
+        answer = h .answer ∙ rw a;
+        slots-left = h .slots-left;
+        places-left = h .places-left ∙ places-by-kind (e .kind) s (takenDwords t) places (length places) r (h .answer);
+      }
 
   -- the text is refused, and nothing is touched
   pub taken-refused : {k : ℕ} → takenOf t (length slots) ≡ A.Refused k → PacketTaken t s slots slots places places (P.Refused k)
   unfolding packetTaken packetBy listBy
   taken-refused a = record { answer = rw a; slots-left = refl; places-left = refl }
+
+-- ---- the promises
+
+-- a refusal leaves slots and places as found
+pub refused-packet-changes-nothing : (t s slots places : List ℕ) {slots′ places′ : List ℕ} {k : ℕ} → PacketTaken t s slots slots′ places places′ (P.Refused k)
+    → (slots′ ≡ slots) × (places′ ≡ places)
+unfolding listBy
+refused-packet-changes-nothing t s slots places p = (p .slots-left, p .places-left)
+
+-- no second answer satisfies the contract, slots and places included
+pub no-second-packet : (t s slots places : List ℕ) {slots′ places′ slots″ places″ : List ℕ} {q r : Packet.Answer}
+    → PacketTaken t s slots slots′ places places′ q → PacketTaken t s slots slots″ places places″ r
+    → (q ≡ r) × (slots′ ≡ slots″) × (places′ ≡ places″)
+no-second-packet t s slots places {q = q} {r = r} a b =
+    let same : q ≡ r = a .answer ∙ sym (b .answer) in
+    (same, a .slots-left ∙ rw same (sym (b .slots-left)), a .places-left ∙ rw same (sym (b .places-left)))

@@ -1,4 +1,4 @@
--- The laws of the intake, and demand 3 for lines and records.
+-- The laws of the intake, and demand 3.
 pub mod Taking
 pub mod Theorems
 pub mod Slots
@@ -6,3 +6,4 @@ pub mod Handing
 pub mod Ranges
 pub mod Made
 pub mod Demand3
+pub mod Demand3Packets

@@ -5,11 +5,9 @@ use mathlib.Core.Path.{_≡_, refl, sym, ap, _∙_}
 use mathlib.Core.Bool.{Bool, true, false}
 use mathlib.Core.List.{List}
 use mathlib.Core.Logic.{_↔_}
-use mathlib.Core.Option.{Option, some, none}
 use native.Mathlib.Omega.{arith}
 use native.Mathlib.Decide.{decLt}
-use borrow.Author.Tests.{eq-eqb, ne-eqb, le-ltb, ltb-false}
-use lib.Dec.{ltb}
+use borrow.Author.Tests.{eq-eqb, ne-eqb}
 use lib.ListN.{length, take, drop, length-append}
 use lib.Seq.{take-append-seam, drop-append-seam}
 use Rattle.entry.specs.declared.Entry.{Entry}
@@ -17,20 +15,7 @@ use Rattle.entry.specs.Entry.{EntryValue, partOf, valueOf, Lies, SameEntry}
 use Rattle.entry.proofs.Parts.{part-out}
 use Rattle.scan.specs.declared.Answer.{Answer}
 use Rattle.scan.specs.declared.Answer.the-variants as A
-use Rattle.scan.specs.declared.frame.FrameAnswer.{FrameAnswer}
-use Rattle.scan.specs.declared.frame.FrameAnswer.the-variants as F
-use Rattle.scan.specs.declared.head.Head.{Head}
-use Rattle.scan.specs.declared.head.HeadAnswer.{HeadAnswer}
-use Rattle.scan.specs.declared.head.HeadAnswer.the-variants as H
-use Rattle.scan.specs.declared.body.BodyAnswer.{BodyAnswer}
-use Rattle.scan.specs.declared.body.BodyAnswer.the-variants as B
-use Rattle.scan.specs.declared.dwords.DataAnswer.the-variants as D
-use Rattle.scan.specs.Need.{need}
-use Rattle.scan.specs.Frame.{frameOf}
-use Rattle.scan.specs.Head.{headOf}
-use Rattle.scan.specs.Body.{bodyOf}
-use Rattle.scan.specs.Dwords.{payloadData, data16, dataAnswer}
-use Rattle.scan.specs.Parse.{headerOf, payloadOf, startOf, withData, withBody, payloadAnswer, withHead, partedAnswer, withFrame, parseOf, slotsBy, Parsed}
+use Rattle.scan.specs.Parse.{slotsBy, Parsed}
 use Rattle.scan.specs.Line.{Line}
 use Rattle.scan.proofs.Theorems.{line-entry-all, Handed, parsed-entry}
 use Rattle.record.specs.declared.Answer.the-variants as R
@@ -45,6 +30,7 @@ use Rattle.intake.specs.Demand3.{ReadCall, WriteCall, Wrote, Says, HasRe
 use Rattle.intake.proofs.Theorems.{record-starts, line-starts, taken-from, from-record, no-text-is-both, one-reading}
 use Rattle.intake.proofs.Ranges.{line-ranged}
 use Rattle.intake.proofs.Made.{record-bytes}
+use Rattle.intake.proofs.Slots.{line-with-more-slots}
 
 -- ---- what an accepted text says
 
@@ -149,38 +135,6 @@ has-record text e dwords v s r =
         let g = record-accepted (recordBytes v) v made slots (A.Entry f) left c in
         let same : g .0 ≡ f = cc in
         writes-record (recordBytes v) f left v (rw same at (g .2)) r buffer answer after d
-
--- ---- with more than 256 slots a line is read as with 256
-
-enough-slots : (payload : List ℕ) (room : ℕ) → 256 ≤ room → dataAnswer payload room ≡ dataAnswer payload 256
-unfolding dataAnswer
-enough-slots payload room h = by-data (payloadData payload)
-  where
-    by-count : (ds : List ℕ) (many : Bool) → ltb 256 (length ds) ≡ many → data16 room ds ≡ data16 256 ds
-    by-count ds true e = rw e
-    by-count ds false e = rw (e, le-ltb room (length ds) (omega (arith, h, ltb-false 256 (length ds) e)))
-
-    by-data : (o : Option (List ℕ)) → need (D.Refused 15) o (data16 room) ≡ need (D.Refused 15) o (data16 256)
-    by-data none = refl
-    by-data (some ds) = by-count ds (ltb 256 (length ds)) refl
-
-line-with-more-slots : (t : List ℕ) (room : ℕ) → 256 ≤ room → parseOf t room ≡ parseOf t 256
-unfolding parseOf withFrame partedAnswer withHead payloadAnswer withBody
-line-with-more-slots t room h = by-frame (frameOf t)
-  where
-    by-body : (header : List ℕ) (start : ℕ) (head : Head) (payload : List ℕ) (b : BodyAnswer)
-        → withBody header start head payload room b ≡ withBody header start head payload 256 b
-    by-body header start head payload (B.Got body) = ap (withData header start head body) (enough-slots payload room h)
-    by-body header start head payload (B.Refused k) = refl
-
-    by-head : (colon : ℕ) (a : HeadAnswer) → withHead t colon room a ≡ withHead t colon 256 a
-    by-head colon (H.Got head) =
-        by-body (headerOf t colon) (startOf t colon) head (payloadOf t colon) (bodyOf (payloadOf t colon) (drop (head .function) (headerOf t colon)))
-    by-head colon (H.Refused k) = refl
-
-    by-frame : (f : FrameAnswer) → withFrame t room f ≡ withFrame t 256 f
-    by-frame (F.Colon colon) = by-head colon (headOf (headerOf t colon))
-    by-frame (F.Refused k) = refl
 
 -- ---- the promises
 

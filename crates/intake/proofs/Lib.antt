@@ -1,6 +1,9 @@
--- The laws of the intake, and demand 3 for lines and records.
+-- The laws of the intake, and demand 3.
 pub mod Taking
 pub mod Theorems
+pub mod Slots
+pub mod Handing
 pub mod Ranges
 pub mod Made
 pub mod Demand3
+pub mod Demand3Packets

@@ -71,7 +71,7 @@ pub record HasRecord (text : List ℕ) (e : Entry) (dwords : List ℕ) (v : Entr
       → ReadCall (recordBytes v) slots (A.Entry f) left → WriteCall (recordBytes v) f left buffer answer after
       → Wrote (recordBytes v) buffer answer after
 
--- What demand 3 asks of lines and records. What it asks of packets is not said here.
+-- What demand 3 asks of lines and records. What it asks of packets stands in Demand3Packets.
 pub record LinesAndRecords : Type 0 where
   -- Given 256 slots, a text is accepted exactly when it belongs to the line grammar or to the record grammar.
   pub accepted : (text slots : List ℕ) (answer : Answer) (left : List ℕ) → ReadCall text slots answer left

@@ -1,0 +1,249 @@
+-- Demand 3 for packets: a packet is asked for kind and dwords alone, and these are what the text says; a line and its record say one thing. However often a
+-- text is written and read again it says the same, so nothing is ever cut but what it says. Assumes nothing.
+use Prim.Native.Nat.{ℕ, zero, suc, _≤_, _%_}
+use mathlib.Core.Path.{_≡_, refl, sym, ap, ap₂, _∙_}
+use mathlib.Core.Bool.{Bool, true, false, cond, _&&_}
+use mathlib.Core.List.{List}
+use native.Mathlib.Omega.{arith}
+use borrow.Author.Tests.{le-ltb, ltb-false}
+use lib.Dec.{eqb, ltb}
+use lib.ListN.{length, take, drop}
+use lib.Seq.{take-append-seam}
+use Rattle.entry.specs.declared.Entry.{Entry}
+use Rattle.entry.specs.declared.optional.MaybeWord.the-variants as Word
+use Rattle.entry.specs.Entry.{EntryValue, partOf, valueOf}
+use Rattle.scan.specs.declared.Answer.the-variants as A
+use Rattle.scan.specs.Parse.{slotsBy}
+use Rattle.scan.proofs.Values.{dwords-part}
+use Rattle.packet.specs.declared.Answer.{Answer}
+use Rattle.packet.specs.declared.Answer.the-variants as P
+use Rattle.packet.specs.declared.Packet.{Packet}
+use Rattle.book.specs.Reading.{checkOf, refusalOf}
+use Rattle.book.specs.Finders.{controlTable, uuidTable}
+use Rattle.packet.specs.Packet.{
+  viewed,
+  crosses,
+  noUuid,
+  isNothing,
+  entriesOf,
+  numberChecked,
+  after,
+  numberOf,
+  placesOf,
+  viewFrom,
+  word,
+  packetOf,
+  unless,
+  parseOf,
+  listBy,
+}
+use Rattle.packet.proofs.Packets.{length-places}
+use Rattle.record.specs.Grammar.{recordBytes, IsRecord}
+use Rattle.writer.specs.declared.Written.the-variants as W
+use Rattle.intake.specs.Intake.{Belongs, startsA1, takenOf, takenDwords}
+use Rattle.intake.specs.Packets.{packetBy, packetTaken, kindIn}
+use Rattle.intake.specs.Demand3.{ReadCall, HasRecord}
+use Rattle.intake.specs.Demand3Packets.{PacketCall, packetFor, Gives, SamePacket, Round, Comes, OnePacket, Demand3}
+use Rattle.intake.proofs.Theorems.{one-reading}
+use Rattle.intake.proofs.Slots.{taken-count}
+use Rattle.intake.proofs.Handing.{packet-is, places-by-kind}
+use Rattle.intake.proofs.Demand3.{accepted-exactly, line-has-a-record, record-is-the-writers, lines-and-records}
+
+-- ---- what an accepted text says
+
+-- an accepted text belongs, and what it says has a record
+accepted-says : (text slots : List ℕ) (e : Entry) (left : List ℕ) → ReadCall text slots (A.Entry e) left
+    → (v : EntryValue) × Belongs text v × HasRecord text e left v
+accepted-says text slots e left c = by (startsA1 text) refl
+  where
+    by : (b : Bool) → startsA1 text ≡ b → (v : EntryValue) × Belongs text v × HasRecord text e left v
+    by true first =
+        let h = record-is-the-writers text slots e left first c in
+        let r : IsRecord text (h .0) = rw (h .1) at (h .2 .is-record) in
+        (h .0, Belongs.a-record r, h .2)
+    by false first =
+        let h = line-has-a-record text slots e left first c in
+        (h .0, Belongs.line (h .1), h .2)
+
+-- the entry of a text that belongs has the kind and the dwords that the text says
+record Read (text slots : List ℕ) (v : EntryValue) : Type 0 where
+  entry : Entry
+  answer : takenOf text (length slots) ≡ A.Entry entry
+  kind : entry .kind ≡ v .kind
+  dwords : takenDwords text ≡ v .dwords
+  few : length (v .dwords) ≤ 256
+
+module _ (text book slots places : List ℕ) (answer : Answer) (slots-left places-left : List ℕ) (c : PacketCall text book slots places answer slots-left places-left) where
+  says : (v : EntryValue) → Belongs text v → Read text slots v
+  unfolding slotsBy valueOf
+  says v b =
+      let call : ReadCall text slots (takenOf text (length slots)) (slotsBy (takenOf text (length slots)) (takenDwords text) slots) =
+      record { bytes = c .bytes; enough = c .enough-slots; contract = record { answer = refl; slots = refl } } in
+      let accepted = accepted-exactly text slots _ _ call .1 (v, b) in
+      let read : ReadCall text slots (A.Entry (accepted .0)) (slotsBy (A.Entry (accepted .0)) (takenDwords text) slots) =
+      record { bytes = c .bytes; enough = c .enough-slots; contract = record { answer = sym (accepted .1); slots = refl } } in
+      let h = accepted-says text slots (accepted .0) _ read in
+      let one : h .0 ≡ v = one-reading text (h .0) v (h .1) b in
+      let is : valueOf (accepted .0) text (slotsBy (A.Entry (accepted .0)) (takenDwords text) slots) ≡ v = h .2 .says .is ∙ one in
+      let part : partOf (slotsBy (A.Entry (accepted .0)) (takenDwords text) slots) 0 (accepted .0 .dwords) ≡ takenDwords text =
+      rw (taken-count text (length slots) (accepted .1)) (dwords-part (takenDwords text) slots) in
+      record {
+        entry = accepted .0;
+        answer = accepted .1;
+        kind = ap (λ (w : EntryValue). w .kind) is;
+        dwords = sym part ∙ ap (λ (w : EntryValue). w .dwords) is;
+        few = rw one at (h .2 .is-record .ranged .few);
+      }
+
+  -- places past one for each dword change no answer
+  enough-places : (kind : ℕ) (ds : List ℕ) (room : ℕ) → length ds ≤ room → parseOf kind book ds room ≡ parseOf kind book ds (length ds)
+  unfolding parseOf numberOf numberChecked
+  enough-places kind ds room h = rw (le-ltb room (length ds) h, le-ltb (length ds) (length ds) (omega arith))
+
+  -- a text that belongs gives the packet of what it says
+  gives : (v : EntryValue) → Belongs text v → Gives v book slots places answer slots-left places-left
+  unfolding packetTaken packetBy packetFor
+  gives v b =
+      let r = says v b in
+      let first : answer ≡ parseOf (r .entry .kind) book (takenDwords text) (length places) = c .contract .answer ∙ rw (r .answer) in
+      let by-value : answer ≡ parseOf (v .kind) book (v .dwords) (length places) =
+      first ∙ ap₂ (λ (k : ℕ) (ds : List ℕ). parseOf k book ds (length places)) (r .kind) (r .dwords) in
+      record {
+        is = by-value ∙ enough-places (v .kind) (v .dwords) (length places) (omega (arith, r .few, c .enough-places));
+        slots-hold = c .contract .slots-left ∙ ap (λ (ds : List ℕ). listBy answer ds slots) (r .dwords);
+        places-hold =
+            c .contract .places-left
+            ∙ ap (λ (ds : List ℕ). listBy answer (placesOf (kindIn answer) book ds) places) (r .dwords)
+            ∙ sym (places-by-kind (v .kind) book (v .dwords) places (length places) answer by-value);
+      }
+
+-- ---- one packet
+
+-- the packet of v, its dwords and their places
+module _ (v : EntryValue) (book slots places : List ℕ) {answer : Answer} {slots-left places-left : List ℕ} (g : Gives v book slots places answer slots-left places-left) {p : Packet} (e : answer ≡ P.Packet p) where
+  is-packet : p ≡ packetOf (v .kind) book (v .dwords)
+  unfolding packetFor
+  is-packet = packet-is (v .kind) book (v .dwords) (length (v .dwords)) (sym (g .is) ∙ e)
+
+  count-is : p .dwords ≡ length (v .dwords)
+  unfolding packetOf
+  count-is = ap (λ (q : Packet). q .dwords) is-packet
+
+  dwords-are : take (p .dwords) slots-left ≡ v .dwords
+  unfolding listBy
+  dwords-are = rw (count-is, g .slots-hold, e) (take-append-seam (v .dwords) (drop (length (v .dwords)) slots))
+
+  places-are : take (p .dwords) places-left ≡ placesOf (v .kind) book (v .dwords)
+  unfolding listBy
+  places-are =
+      rw (count-is ∙ sym (length-places (v .kind) book (v .dwords)), g .places-hold, e)
+      (take-append-seam (placesOf (v .kind) book (v .dwords)) (drop (length (placesOf (v .kind) book (v .dwords))) places))
+
+-- two calls that gave the packet of v gave the same
+same-packet : (v : EntryValue) (book : List ℕ) {slots places slots′ places′ : List ℕ} {a b : Answer} {slots-a places-a slots-b places-b : List ℕ}
+    → Gives v book slots places a slots-a places-a → Gives v book slots′ places′ b slots-b places-b
+    → SamePacket a slots-a places-a b slots-b places-b
+same-packet v book {slots} {places} {slots′} {places′} {a} {b} g h =
+    record {
+      answer = same;
+      dwords = λ p e. dwords-are v book slots places g e ∙ sym (dwords-are v book slots′ places′ h (sym same ∙ e));
+      places = λ p e. places-are v book slots places g e ∙ sym (places-are v book slots′ places′ h (sym same ∙ e));
+    }
+  where
+    same : a ≡ b
+    same = g .is ∙ sym (h .is)
+
+-- ---- the cut
+
+-- no packet of kind 2 or 3 has fewer dwords than there are control entries
+enough-dwords : (kind : ℕ) (s : List ℕ) (count room : ℕ) → viewed kind ≡ true → numberOf kind s count room ≡ 0 → entriesOf s kind ≤ count
+unfolding numberOf numberChecked
+enough-dwords kind s count room view none =
+    by (refusalOf (checkOf s)) (eqb kind 0) (isNothing (controlTable s kind)) (crosses kind && isNothing (uuidTable s noUuid)) (ltb 256 count)
+    (viewed kind) view (ltb count (entriesOf s kind)) refl none
+  where
+    hit : {n : ℕ} → suc n ≡ 0 → entriesOf s kind ≤ count
+    hit h = absurd (omega arith)
+
+    by : (n : ℕ) (a b c d x : Bool) → x ≡ true → (f : Bool) → ltb count (entriesOf s kind) ≡ f
+        → after n (cond a 21 (cond b 22 (cond c 23 (cond d 24 (cond (x && f) 25 (cond (ltb room count) 26 0)))))) ≡ 0
+        → entriesOf s kind ≤ count
+    by (suc n) a b c d x v f g h = hit h
+    by zero true b c d x v f g h = hit h
+    by zero false true c d x v f g h = hit h
+    by zero false false true d x v f g h = hit h
+    by zero false false false true x v f g h = hit h
+    by zero false false false false true v true g h = hit h
+    by zero false false false false true v false g h = ltb-false count (entriesOf s kind) g
+    by zero false false false false false v f g h = absurd (let z : _≡_ {A = ℕ} 0 1 = cc in omega arith)
+
+accepted-number : (kind : ℕ) (s ds : List ℕ) (room : ℕ) {p : Packet} → parseOf kind s ds room ≡ P.Packet p → numberOf kind s (length ds) room ≡ 0
+unfolding parseOf
+accepted-number kind s ds room {p} q = by (numberOf kind s (length ds) room) q
+  where
+    by : (n : ℕ) → unless n (packetOf kind s ds) ≡ P.Packet p → n ≡ 0
+    by zero h = refl
+    by (suc n) h = absurd (let z : _≡_ {A = ℕ} 0 1 = cc in omega arith)
+
+-- the view of kinds 2 and 3 starts at n, which is within the dwords
+cut-at : (v : EntryValue) (book : List ℕ) → viewed (v .kind) ≡ true → length (v .dwords) ≤ 256 → {p : Packet} → packetFor v book ≡ P.Packet p
+    → (p .start ≡ Word.Is (entriesOf book (v .kind))) × (entriesOf book (v .kind) ≤ length (v .dwords))
+unfolding packetFor packetOf viewFrom
+cut-at v book view few {p} q =
+    let within = enough-dwords (v .kind) book (length (v .dwords)) (length (v .dwords)) view (accepted-number (v .kind) book (v .dwords) (length (v .dwords)) q) in
+    let whole : entriesOf book (v .kind) % 65536 ≡ entriesOf book (v .kind) = omega (arith, within, few) in
+    let start = ap (λ (w : Packet). w .start) (packet-is (v .kind) book (v .dwords) (length (v .dwords)) q) in
+    (start ∙ rw view (ap Word.Is whole), within)
+
+cut-once : (text : List ℕ) (v : EntryValue) → Belongs text v → viewed (v .kind) ≡ true
+    → (book slots places : List ℕ) (p : Packet) (slots-left places-left : List ℕ) → PacketCall text book slots places (P.Packet p) slots-left places-left
+    → (p .start ≡ Word.Is (entriesOf book (v .kind)))
+    × (entriesOf book (v .kind) ≤ length (v .dwords))
+    × (drop (entriesOf book (v .kind)) (take (p .dwords) slots-left) ≡ drop (entriesOf book (v .kind)) (v .dwords))
+cut-once text v b view book slots places p slots-left places-left c =
+    let g = gives text book slots places (P.Packet p) slots-left places-left c v b in
+    let r = says text book slots places (P.Packet p) slots-left places-left c v b in
+    let at = cut-at v book view (r .few) (sym (g .is)) in
+    (at .0, at .1, ap (drop (entriesOf book (v .kind))) (dwords-are v book slots places g refl))
+
+-- ---- round after round
+
+-- what a text says is what is written, and that is a record of it
+round-says : (text next : List ℕ) → Round text next → (v : EntryValue) × Belongs text v × IsRecord next v
+round-says text next r =
+    let h = accepted-says text (r .slots) (r .entry) (r .left) (r .read) in
+    let w = h .2 .written (r .buffer) (W.Bytes (r .count)) (r .written) (r .write) in
+    let number : r .count ≡ length (recordBytes (h .0)) = cc in
+    let next-is : next ≡ recordBytes (h .0) = r .handed-on ∙ ap (λ (n : ℕ). take n (r .written)) number ∙ w .first in
+    (h .0, h .1, rw next-is (h .2 .is-record))
+
+comes-says : (text last : List ℕ) → Comes text last → (v : EntryValue) × Belongs text v × IsRecord last v
+comes-says text last (Comes.once r) = round-says text last r
+comes-says text last (Comes.again {next} a r) =
+    let h = comes-says text next a in
+    let k = round-says next last r in
+    let one : h .0 ≡ k .0 = one-reading next (h .0) (k .0) (Belongs.a-record (h .2)) (k .1) in
+    (k .0, rw one at (h .1), k .2)
+
+-- ---- the promises
+
+-- demand 3 for packets
+pub one-packet : OnePacket
+one-packet =
+    record {
+      of-what-it-says = λ text v b book slots places answer slots-left places-left c. gives text book slots places answer slots-left places-left c v b;
+      line-and-record =
+          λ line record-text v l r book slots places a slots-a places-a c slots′ places′ b slots-b places-b d.
+          same-packet v book (gives line book slots places a slots-a places-a c v (Belongs.line l))
+          (gives record-text book slots′ places′ b slots-b places-b d v (Belongs.a-record r));
+      cut-once = cut-once;
+      never-a-second-cut =
+          λ text last comes book slots places a slots-a places-a c slots′ places′ b slots-b places-b d.
+          let h = comes-says text last comes in
+          same-packet (h .0) book (gives text book slots places a slots-a places-a c (h .0) (h .1))
+          (gives last book slots′ places′ b slots-b places-b d (h .0) (Belongs.a-record (h .2)));
+    }
+
+-- demand 3
+pub demand-3 : Demand3
+demand-3 = record { lines-and-records = lines-and-records; one-packet = one-packet }

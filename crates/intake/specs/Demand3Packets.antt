@@ -1,0 +1,108 @@
+-- Demand 3 for packets: a line and its record give one packet, and its data view is cut once. It is stated over the contracts of three calls, `read` and
+-- `packet` of crate `intake` and `write` of crate `writer`.
+use Prim.Native.Nat.{ℕ, _≤_}
+use mathlib.Core.Path.{_≡_}
+use mathlib.Core.Bool.{true}
+use mathlib.Core.List.{List}
+use lib.ListN.{length, take, drop}
+use Rattle.tlv.specs.Number.{Bytes}
+use Rattle.entry.specs.declared.Entry.{Entry}
+use Rattle.entry.specs.declared.optional.MaybeWord.the-variants as Word
+use Rattle.entry.specs.Entry.{EntryValue}
+use Rattle.scan.specs.declared.Answer.the-variants as A
+use Rattle.scan.specs.Line.{Line}
+use Rattle.packet.specs.declared.Answer.{Answer}
+use Rattle.packet.specs.declared.Answer.the-variants as P
+use Rattle.packet.specs.declared.Packet.{Packet}
+use Rattle.packet.specs.Packet.{viewed, entriesOf, placesOf, parseOf, listBy}
+use Rattle.record.specs.Grammar.{IsRecord}
+use Rattle.writer.specs.declared.Written.the-variants as W
+use Rattle.intake.specs.Intake.{Belongs}
+use Rattle.intake.specs.Packets.{PacketTaken}
+use Rattle.intake.specs.Demand3.{ReadCall, WriteCall, LinesAndRecords}
+
+-- A call of `packet` with enough slots and places: it was lent a text, a book, slots and places, and gave this answer and left slots and places so.
+pub record PacketCall (text book slots places : List ℕ) (answer : Answer) (slots-left places-left : List ℕ) : Type 0 where
+  -- The text is bytes, as every lent text is.
+  pub bytes : Bytes text
+  -- 256 slots are lent, or more.
+  pub enough-slots : 256 ≤ length slots
+  -- So are 256 places, or more.
+  pub enough-places : 256 ≤ length places
+  -- The call keeps its contract.
+  pub contract : PacketTaken text book slots slots-left places places-left answer
+
+-- The packet of v over a book, or the number that refuses it, with a place lent for each dword: v's kind and dwords are all that is asked of v.
+unfoldable pub packetFor : EntryValue → List ℕ → Answer
+packetFor v book = parseOf (v .kind) book (v .dwords) (length (v .dwords))
+
+-- A call gave the packet of v, or the number that refuses it.
+pub record Gives (v : EntryValue) (book slots places : List ℕ) (answer : Answer) (slots-left places-left : List ℕ) : Type 0 where
+  -- The answer is that packet or that number.
+  pub is : answer ≡ packetFor v book
+  -- With a packet the slots start with v's dwords, and the rest is as found; with a number all are as found.
+  pub slots-hold : slots-left ≡ listBy answer (v .dwords) slots
+  -- The places likewise start with the places of the entries that describe these dwords.
+  pub places-hold : places-left ≡ listBy answer (placesOf (v .kind) book (v .dwords)) places
+
+-- Two calls gave the same.
+pub record SamePacket (a : Answer) (slots-a places-a : List ℕ) (b : Answer) (slots-b places-b : List ℕ) : Type 0 where
+  -- The same packet, or the same number.
+  pub answer : a ≡ b
+  -- With a packet, the same dwords in the first slots.
+  pub dwords : (p : Packet) → a ≡ P.Packet p → take (p .dwords) slots-a ≡ take (p .dwords) slots-b
+  -- With a packet, the same entry for each dword.
+  pub places : (p : Packet) → a ≡ P.Packet p → take (p .dwords) places-a ≡ take (p .dwords) places-b
+
+-- A text was read, its entry was written, and what was written is handed on as a text.
+pub record Round (text next : List ℕ) : Type 0 where
+  pub slots : List ℕ
+  pub entry : Entry
+  pub left : List ℕ
+  -- The text was accepted as the entry, its dwords in the slots.
+  pub read : ReadCall text slots (A.Entry entry) left
+  pub buffer : List ℕ
+  pub count : ℕ
+  pub written : List ℕ
+  -- The entry was written as so many bytes.
+  pub write : WriteCall text entry left buffer (W.Bytes count) written
+  -- They are the next text.
+  pub handed-on : next ≡ take count written
+
+-- One text comes from another by one round, or by more.
+pub data Comes (text : List ℕ) : List ℕ → Type 0 where
+  once : {next : List ℕ} → Round text next → Comes text next
+  again : {next last : List ℕ} → Comes text next → Round next last → Comes text last
+
+-- What demand 3 asks of packets.
+pub record OnePacket : Type 0 where
+  -- A text that belongs, line or record, gives the packet of what it says.
+  pub of-what-it-says : (text : List ℕ) (v : EntryValue) → Belongs text v
+      → (book slots places : List ℕ) (answer : Answer) (slots-left places-left : List ℕ) → PacketCall text book slots places answer slots-left places-left
+      → Gives v book slots places answer slots-left places-left
+  -- With one book a line and its record give the same packet, or the same number.
+  pub line-and-record : (line record-text : List ℕ) (v : EntryValue) → Line line v → IsRecord record-text v
+      → (book : List ℕ)
+      → (slots places : List ℕ) (a : Answer) (slots-a places-a : List ℕ) → PacketCall line book slots places a slots-a places-a
+      → (slots′ places′ : List ℕ) (b : Answer) (slots-b places-b : List ℕ) → PacketCall record-text book slots′ places′ b slots-b places-b
+      → SamePacket a slots-a places-a b slots-b places-b
+  -- The data view of kinds 2 and 3 is cut once: it starts at n, the number of control entries, there are n dwords or more, and the packet's dwords from n
+  -- onward are those that the text says from n onward.
+  pub cut-once : (text : List ℕ) (v : EntryValue) → Belongs text v → viewed (v .kind) ≡ true
+      → (book slots places : List ℕ) (p : Packet) (slots-left places-left : List ℕ) → PacketCall text book slots places (P.Packet p) slots-left places-left
+      → (p .start ≡ Word.Is (entriesOf book (v .kind)))
+      × (entriesOf book (v .kind) ≤ length (v .dwords))
+      × (drop (entriesOf book (v .kind)) (take (p .dwords) slots-left) ≡ drop (entriesOf book (v .kind)) (v .dwords))
+  -- Never a second cut: however often a text is read, written as a record and fed again, its packet stays the same.
+  pub never-a-second-cut : (text last : List ℕ) → Comes text last
+      → (book : List ℕ)
+      → (slots places : List ℕ) (a : Answer) (slots-a places-a : List ℕ) → PacketCall text book slots places a slots-a places-a
+      → (slots′ places′ : List ℕ) (b : Answer) (slots-b places-b : List ℕ) → PacketCall last book slots′ places′ b slots-b places-b
+      → SamePacket a slots-a places-a b slots-b places-b
+
+-- Demand 3.
+pub record Demand3 : Type 0 where
+  -- Every accepted line has a record, which reads back as the same entry and writes back as the same bytes; no text is both; each says one thing.
+  pub lines-and-records : LinesAndRecords
+  -- A line and its record give one packet, and its data view is cut once.
+  pub one-packet : OnePacket

@@ -3,7 +3,7 @@
 //     check        accepted, or number 20
 //     find::..     tables, entries, ranges and values by their places in the book
 //
-// Every public call takes any bytes, checked or not.
+// Every public call takes any bytes, checked or not; `find::inner`, a helper for the walk over a table, asks for a place inside them.
 mod field;
 pub mod find;
 mod grammar;

@@ -14,7 +14,7 @@ use Rattle.tlv.specs.declared.Step.the-variants as T
 use Rattle.tlv.specs.Reading.{fieldAt}
 use Rattle.book.proofs.Steps as steps
 use Rattle.book.specs.Finders.{controlTable, uuidTable}
-use Rattle.packet.specs.Packet.{noUuid}
+use Rattle.packet.specs.Packet.{zeroUuid}
 use Rattle.packet.specs.Field as dword
 use Rattle.field.specs.declared.Source.the-variants.{Control, Header, Protocol, Bare}
 use Rattle.field.specs.declared.MaybeRange.the-variants.{Is, Absent}
@@ -57,13 +57,13 @@ module _ (kind : ℕ) (s : List ℕ) where
   control-source (suc p) n c = rw c
 
   pub header-source : (entry : ℕ) → (entry ≡ 0 → ⊥) → standsIn s (controlTable s kind) entry ≡ false
-      → standsIn s (uuidTable s noUuid) entry ≡ true → Header (record { at = entry }) ≡ sourceOf kind s entry
+      → standsIn s (uuidTable s zeroUuid) entry ≡ true → Header (record { at = entry }) ≡ sourceOf kind s entry
   unfolding sourceOf
   header-source zero n c h = absurd (n refl)
   header-source (suc p) n c h = rw (c, h)
 
   pub protocol-source : (entry : ℕ) → (entry ≡ 0 → ⊥) → standsIn s (controlTable s kind) entry ≡ false
-      → standsIn s (uuidTable s noUuid) entry ≡ false → Protocol (record { at = entry }) ≡ sourceOf kind s entry
+      → standsIn s (uuidTable s zeroUuid) entry ≡ false → Protocol (record { at = entry }) ≡ sourceOf kind s entry
   unfolding sourceOf
   protocol-source zero n c h = absurd (n refl)
   protocol-source (suc p) n c h = rw (c, h)

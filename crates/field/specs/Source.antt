@@ -9,7 +9,7 @@ use Rattle.text.specs.declared.place.Found.the-variants.{At, Nothing}
 use Rattle.tlv.specs.Reading.{fieldAt}
 use Rattle.book.specs.Search.{atField}
 use Rattle.book.specs.Finders.{controlTable, uuidTable}
-use Rattle.packet.specs.Packet.{noUuid}
+use Rattle.packet.specs.Packet.{zeroUuid}
 use Rattle.field.specs.declared.Source.{Source}
 use Rattle.field.specs.declared.Source.the-variants.{Control, Header, Protocol, Bare}
 use Rattle.field.specs.declared.Field.{Field}
@@ -24,7 +24,7 @@ unfoldable pub sourceOf : ℕ → List ℕ → ℕ → Source
 sourceOf kind s zero = Bare
 sourceOf kind s (suc p) =
     cond (standsIn s (controlTable s kind) (suc p)) (Control (record { at = suc p }))
-    (cond (standsIn s (uuidTable s noUuid) (suc p)) (Header (record { at = suc p }))
+    (cond (standsIn s (uuidTable s zeroUuid) (suc p)) (Header (record { at = suc p }))
     (Protocol (record { at = suc p })))
 
 -- the place of the entry, 0 for none

@@ -5,7 +5,7 @@ use text::place::Found;
 use tlv::Step;
 ghost use mathlib.Core.Path.{_≡_};
 ghost use Rattle.book.specs.Finders.{controlTable, uuidTable};
-ghost use Rattle.packet.specs.Packet.{noUuid};
+ghost use Rattle.packet.specs.Packet.{zeroUuid};
 ghost use Rattle.field.specs.Source.{standsIn};
 
 // Does the entry stand in the control table of the kind?
@@ -17,7 +17,7 @@ pub fn is_in_control(kind: u8, book: &[u8], entry: usize) -> bool
 
 // Does the entry stand in the header table?
 pub fn is_in_header(book: &[u8], entry: usize) -> bool
-    ensures { λ r. ⌜ r ≡ standsIn (now (book .entry)) (uuidTable (now (book .entry)) noUuid) entry ⌝ }
+    ensures { λ r. ⌜ r ≡ standsIn (now (book .entry)) (uuidTable (now (book .entry)) zeroUuid) entry ⌝ }
 {
     let header = find::uuid_table(
         book,

@@ -23,7 +23,7 @@ use Rattle.book.specs.Finders.{controlTable, uuidTable}
 use Rattle.packet.specs.Packet.{
   viewed,
   crosses,
-  noUuid,
+  zeroUuid,
   isNothing,
   entriesOf,
   numberChecked,
@@ -159,7 +159,7 @@ same-packet v book {slots} {places} {slots′} {places′} {a} {b} g h =
 enough-dwords : (kind : ℕ) (s : List ℕ) (count room : ℕ) → viewed kind ≡ true → numberOf kind s count room ≡ 0 → entriesOf s kind ≤ count
 unfolding numberOf numberChecked
 enough-dwords kind s count room view none =
-    by (refusalOf (checkOf s)) (eqb kind 0) (isNothing (controlTable s kind)) (crosses kind && isNothing (uuidTable s noUuid)) (ltb 256 count)
+    by (refusalOf (checkOf s)) (eqb kind 0) (isNothing (controlTable s kind)) (crosses kind && isNothing (uuidTable s zeroUuid)) (ltb 256 count)
     (viewed kind) view (ltb count (entriesOf s kind)) refl none
   where
     hit : {n : ℕ} → suc n ≡ 0 → entriesOf s kind ≤ count

@@ -42,8 +42,25 @@ threeUuids = uuidBook (named 0 (bytes "UUID") ++ (named 1 (bytes "UUID") ++ name
 unfoldable pub fourUuids : List ℕ
 fourUuids = uuidBook (named 0 (bytes "UUID") ++ (named 1 (bytes "UUID") ++ (named 2 (bytes "UUID") ++ named 3 (bytes "UUID"))))
 
+-- an entry with an offset below 256 and the type A
+unfoldable pub typed : ℕ → List ℕ
+typed offset = fieldBytes 3 (offset ∷ 0 ∷ fieldBytes 5 (bytes "A"))
+
+-- bits 0 to 7 are the packet type, of which 1 is named A
+unfoldable pub packetType : List ℕ
+packetType = fieldBytes 6 (0 ∷ 7 ∷ (fieldBytes 4 (bytes "Packet Type") ++ fieldBytes 7 (1 ∷ 0 ∷ 0 ∷ 0 ∷ bytes "A")))
+
+-- a header table with a typed entry at 4 and an untyped one at 6; and for UUID 1, 2, 3, 4 entries of type A and untyped ones
+unfoldable pub latchBook : List ℕ
+latchBook =
+    fieldBytes 1 (8 ∷ (named 0 (bytes "UUID") ++ (named 1 (bytes "UUID") ++ (named 2 (bytes "UUID") ++ named 3 (bytes "UUID")))))
+    ++ (fieldBytes 2 (replicate 16 0 ++ (typed 4 ++ plain 6))
+    ++ fieldBytes 2
+    ((1 ∷ 0 ∷ 0 ∷ 0 ∷ 2 ∷ 0 ∷ 0 ∷ 0 ∷ 3 ∷ 0 ∷ 0 ∷ 0 ∷ 4 ∷ 0 ∷ 0 ∷ 0 ∷ [])
+    ++ (typed 4 ++ (fieldBytes 3 (4 ∷ 0 ∷ packetType) ++ (typed 5 ++ (plain 5 ++ plain 6))))))
+
 unfoldable pub packets-open : Unit {0}
-unfolding named plain threeEntries uuidBook threeUuids fourUuids fieldBytes stepFrom fieldAt walkFrom walk parts filled number sameText rangeOf
+unfolding named plain typed packetType latchBook threeEntries uuidBook threeUuids fourUuids fieldBytes stepFrom fieldAt walkFrom walk parts filled number sameText rangeOf
     Search.bodyAt Search.after Search.nameAt Search.typeAt Search.sameUuid Search.fits Search.wanted Search.firstPart Search.firstWanted Search.hasWanted Search.tableWant
     Reading.isName Reading.optionalName Reading.valueBody Reading.sameValue Reading.valuesFill Reading.rangeBody Reading.rangesFill Reading.entryBody Reading.sameEntry Reading.entriesFill Reading.controlBody Reading.uuidBody Reading.tableBody Reading.sameTable Reading.tablesFill Reading.checkOf
     Finders.innerFrom Finders.seekOf Finders.countInside Finders.nthInside Finders.nameOf Finders.typeOf
@@ -70,3 +87,13 @@ pub record OfFourFields : Type 0 where
 pub of-four-fields : OfFourFields
 unfolding packets-open
 of-four-fields = record { three = refl; four = refl }
+
+-- all three steps: step 1 takes no typed header entry; the name that dword 4 latches governs dword 5 and not dword 4; a value without a name
+-- latches nothing
+pub record Latches : Type 0 where
+  pub governs-behind : placesOf 8 latchBook (1 ∷ 2 ∷ 3 ∷ 4 ∷ 1 ∷ 7 ∷ 8 ∷ []) ≡ 4 ∷ 16 ∷ 28 ∷ 40 ∷ 113 ∷ 145 ∷ 80 ∷ []
+  pub unnamed-does-not : placesOf 8 latchBook (1 ∷ 2 ∷ 3 ∷ 4 ∷ 2 ∷ 7 ∷ 8 ∷ []) ≡ 4 ∷ 16 ∷ 28 ∷ 40 ∷ 113 ∷ 154 ∷ 80 ∷ []
+
+pub latches : Latches
+unfolding packets-open
+latches = record { governs-behind = refl; unnamed-does-not = refl }

@@ -21,7 +21,7 @@ use Rattle.packet.specs.Field.{asks}
 use Rattle.packet.specs.Packet.{
   viewed,
   crosses,
-  noUuid,
+  zeroUuid,
   isNothing,
   controlAt,
   headerAt,
@@ -35,9 +35,9 @@ use Rattle.packet.specs.Packet.{
 use Rattle.packet.specs.Inner.{headerOf, headerFor, isMissing, openBy, openOf}
 
 -- the header table is missing just where it is asked for and the book has none
-pub missing-is : (kind : ℕ) (s : List ℕ) → isMissing (headerFor kind s) ≡ (crosses kind && isNothing (uuidTable s noUuid))
+pub missing-is : (kind : ℕ) (s : List ℕ) → isMissing (headerFor kind s) ≡ (crosses kind && isNothing (uuidTable s zeroUuid))
 unfolding headerFor
-missing-is kind s = by (crosses kind) (uuidTable s noUuid)
+missing-is kind s = by (crosses kind) (uuidTable s zeroUuid)
   where
     by : (b : Bool) (f : Found) → isMissing (cond b (headerOf f) H.Unasked) ≡ (b && isNothing f)
     by true (At p) = refl

@@ -31,7 +31,7 @@ use Rattle.packet.specs.declared.fill.Pick.the-variants.{Any, Typed}
 use Rattle.packet.specs.Steps.{entryOf, filled, controlPlaces, headerPlaces, gathered, placesIn, placesBy, uuidPlaces, protocolPlaces, protocolFrom, mapFrom}
 use Rattle.packet.specs.Packet.{
   crosses,
-  noUuid,
+  zeroUuid,
   isNothing,
   controlAt,
   headerAt,
@@ -122,18 +122,18 @@ module _ (kind : ℕ) (s : List ℕ) (count room : ℕ) where
     pub none : numberChecked kind s count room ≡ 0
     pub few : count ≤ 256
     pub fit : count ≤ room
-    pub there : (crosses kind && isNothing (uuidTable s noUuid)) ≡ false
+    pub there : (crosses kind && isNothing (uuidTable s zeroUuid)) ≡ false
 
   passed : numberChecked kind s count room ≡ 0 → Passed
   unfolding numberChecked
   passed e =
-      by (eqb kind 0) (isNothing (controlTable s kind)) (crosses kind && isNothing (uuidTable s noUuid)) refl (ltb 256 count) refl
+      by (eqb kind 0) (isNothing (controlTable s kind)) (crosses kind && isNothing (uuidTable s zeroUuid)) refl (ltb 256 count) refl
       (viewed kind && ltb count (entriesOf s kind)) (ltb room count) refl e
     where
       hit : {n : ℕ} → suc n ≡ 0 → Passed
       hit h = absurd (omega arith)
 
-      by : (a b c : Bool) → (crosses kind && isNothing (uuidTable s noUuid)) ≡ c → (d : Bool) → ltb 256 count ≡ d → (x f : Bool) → ltb room count ≡ f
+      by : (a b c : Bool) → (crosses kind && isNothing (uuidTable s zeroUuid)) ≡ c → (d : Bool) → ltb 256 count ≡ d → (x f : Bool) → ltb room count ≡ f
           → _≡_ {A = ℕ} (cond a 21 (cond b 22 (cond c 23 (cond d 24 (cond x 25 (cond f 26 0)))))) 0 → Passed
       by true b c p d q x f r h = hit h
       by false true c p d q x f r h = hit h
@@ -150,7 +150,7 @@ module _ (kind : ℕ) (s : List ℕ) (count room : ℕ) where
     pub fit : count ≤ room
     pub control : t .control ≡ controlAt s kind
     pub header : t .header ≡ headerFor kind s
-    pub there : (crosses kind && isNothing (uuidTable s noUuid)) ≡ false
+    pub there : (crosses kind && isNothing (uuidTable s zeroUuid)) ≡ false
 
   pub opened-tables : {t : Tables} → openOf kind s count room ≡ O.Tables t → Open t
   unfolding openOf
@@ -184,7 +184,7 @@ module _ (kind : ℕ) (s ds : List ℕ) {t : Tables} {room : ℕ} (o : Open kind
   -- kinds 8 and 9 have the header table, all others none
   header-at : (b : Bool) → crosses kind ≡ b → t .header ≡ cond b (H.At (headerAt s)) H.Unasked
   unfolding headerFor headerAt
-  header-at true x = o .header ∙ rw x (by (uuidTable s noUuid) (subst (λ b. (b && isNothing (uuidTable s noUuid)) ≡ false) x (o .there)))
+  header-at true x = o .header ∙ rw x (by (uuidTable s zeroUuid) (subst (λ b. (b && isNothing (uuidTable s zeroUuid)) ≡ false) x (o .there)))
     where
       by : (f : Found) → isNothing f ≡ false → headerOf f ≡ H.At (placeOf f)
       by (At p) e = refl

@@ -19,12 +19,12 @@ use Rattle.tlv.proofs.Pieces.{both-true}
 use Rattle.book.specs.declared.Checked.{Checked}
 use Rattle.book.specs.declared.Checked.the-variants as C
 use Rattle.book.specs.declared.Uuid.{Uuid}
-use Rattle.book.specs.Grammar.{Owner, kind, uuid, Table, GoodTable, tablePiece, IsBook}
+use Rattle.book.specs.Grammar.{Owner, kind, uuid, Entry, entryPiece, Table, GoodTable, tablePiece, IsBook}
 use Rattle.book.specs.Reading.{checkOf, refusalOf}
-use Rattle.book.specs.Finders.{FirstSo, StandsAt, placeOf, controlTable, uuidTable, entryCount}
+use Rattle.book.specs.Finders.{FirstSo, StandsAt, Finds, placeOf, controlTable, uuidTable, entryCount, entryOfOffset}
 use Rattle.book.proofs.Book.{book-is, book-all}
 use Rattle.book.proofs.Unique.{one-book}
-use Rattle.book.proofs.Answers.{control-table-is, control-table-none, uuid-table-is, uuid-table-none, count-entries-is, first-good}
+use Rattle.book.proofs.Answers.{control-table-is, control-table-none, uuid-table-is, uuid-table-none, count-entries-is, first-good, entry-of-offset-is}
 use Rattle.book.proofs.Finding.{first-stands}
 use Rattle.packet.specs.declared.Packet.{Packet}
 use Rattle.packet.specs.declared.Answer.{Answer}
@@ -32,7 +32,7 @@ use Rattle.packet.specs.declared.Answer.the-variants as A
 use Rattle.packet.specs.Packet.{
   viewed,
   crosses,
-  noUuid,
+  zeroUuid,
   isNothing,
   controlAt,
   entriesOf,
@@ -42,10 +42,13 @@ use Rattle.packet.specs.Packet.{
   parseOf,
   placesOf,
   unless,
+  packetOf,
   numberOfAnswer,
   listBy,
   Parsed,
 }
+use Rattle.packet.specs.declared.fill.Pick.the-variants.{Any}
+use Rattle.packet.specs.Steps.{entryOf}
 use Rattle.packet.specs.Conditions.{Has, HasNot, NoHeader, TooFew, Condition, Applies}
 use Rattle.packet.proofs.Packets.{number-20, length-places}
 
@@ -126,13 +129,13 @@ module _ (k : ℕ) (s : List ℕ) (count room : ℕ) where
     some-control (At p) e h n = let f = control-table-is s b k p e in n (f .value) (found-has s b (kind k) f)
     some-control Nothing e h n = absurd (false-true (sym h))
 
-    no-header : (f : Found) → uuidTable s noUuid ≡ f → (c : Bool) → crosses k ≡ c → (c && isNothing f) ≡ true → NoHeader k s
+    no-header : (f : Found) → uuidTable s zeroUuid ≡ f → (c : Bool) → crosses k ≡ c → (c && isNothing f) ≡ true → NoHeader k s
     no-header (At p) e true x h = absurd (false-true h)
-    no-header Nothing e true x h = record { crossing = x; none = none-has s b (uuid noUuid) (uuid-table-none s b noUuid e) }
+    no-header Nothing e true x h = record { crossing = x; none = none-has s b (uuid zeroUuid) (uuid-table-none s b zeroUuid e) }
     no-header f e false x h = absurd (false-true h)
 
-    some-header : (f : Found) → uuidTable s noUuid ≡ f → (c : Bool) → crosses k ≡ c → (c && isNothing f) ≡ false → NoHeader k s → ⊥
-    some-header (At p) e true x h n = let f = uuid-table-is s b noUuid p e in n .none (f .value) (found-has s b (uuid noUuid) f)
+    some-header : (f : Found) → uuidTable s zeroUuid ≡ f → (c : Bool) → crosses k ≡ c → (c && isNothing f) ≡ false → NoHeader k s → ⊥
+    some-header (At p) e true x h n = let f = uuid-table-is s b zeroUuid p e in n .none (f .value) (found-has s b (uuid zeroUuid) f)
     some-header Nothing e true x h n = false-true (sym h)
     some-header f e false x h n = false-true (sym x ∙ n .crossing)
 
@@ -166,7 +169,7 @@ module _ (k : ℕ) (s : List ℕ) (count room : ℕ) where
   checked-chain b c21 =
       test 21 (omega arith) (eqb k 0) _ (eqb-true k 0) (eqb-false k 0) c21
       (λ c22. test 22 (omega arith) (isNothing (controlTable s k)) _ (no-control b (controlTable s k) refl) (some-control b (controlTable s k) refl) c22
-      (λ c23. test 23 (omega arith) (crosses k && isNothing (uuidTable s noUuid)) _ (no-header b (uuidTable s noUuid) refl (crosses k) refl) (some-header b (uuidTable s noUuid) refl (crosses k) refl) c23
+      (λ c23. test 23 (omega arith) (crosses k && isNothing (uuidTable s zeroUuid)) _ (no-header b (uuidTable s zeroUuid) refl (crosses k) refl) (some-header b (uuidTable s zeroUuid) refl (crosses k) refl) c23
       (λ c24. test 24 (omega arith) (ltb 256 count) _ (ltb-true 256 count) (λ h l. absurd (let le = ltb-false 256 count h in omega (arith, le, l))) c24
       (λ c25. test 25 (omega arith) (viewed k && ltb count (entriesOf s k)) _ (too-few b (c25 22 (omega arith)) (controlTable s k) refl (viewed k) refl) (enough b (viewed k) refl) c25
       (λ c26. test 26 (omega arith) (ltb room count) 0 (ltb-true room count) (λ h l. absurd (let le = ltb-false room count h in omega (arith, le, l))) c26 packet)))))
@@ -216,12 +219,46 @@ packet-answered-exactly k s bytes count room = (λ q. mp (numberOf k s count roo
     mpr r (Answered.refused j p a) f = absurd (f j (a .holds))
     mpr r (Answered.packet c) f = refl
 
+-- the same through the number of an answer, which is 0 for a packet alone
+pub packet-answer-number : (k : ℕ) (s : List ℕ) → Bytes s → (ds : List ℕ) (room n : ℕ) → 0 < n
+    → (numberOfAnswer (parseOf k s ds room) ≡ n) ↔ Applies k s (length ds) room n
+unfolding parseOf
+packet-answer-number k s bytes ds room n some = (
+  λ q. packet-number-exactly k s bytes (length ds) room n some .0 (sym (told (numberOf k s (length ds) room)) ∙ q),
+  λ a. told (numberOf k s (length ds) room) ∙ packet-number-exactly k s bytes (length ds) room n some .1 a,
+)
+  where
+    told : (m : ℕ) → numberOfAnswer (unless m (packetOf k s ds)) ≡ m
+    told zero = refl
+    told (suc m) = refl
+
+-- ---- what the places are
+
+-- the entry of an offset in a table that the book has, by its place: the first of that offset, of any type
+module _ (s : List ℕ) (b : IsBook s) (k : ℕ) (t : Table) (h : Has s (kind k) t) where
+  pub control-entry-is : (i : ℕ) → (u : List ℕ) × Finds u entryPiece (λ e. e .offset ≡ i) (t .entries) (entryOf Any [] s (controlAt s k) i)
+  unfolding entryOf controlAt
+  control-entry-is i = by (controlTable s k) refl
+    where
+      by : (f : Found) → controlTable s k ≡ f → (u : List ℕ) × Finds u entryPiece (λ e. e .offset ≡ i) (t .entries) (entryOfOffset s (placeOf f) i)
+      by (At p) e =
+          let f = control-table-is s b k p e in
+          let same : f .value ≡ t = has-one s (kind k) (f .value) t (found-has s b (kind k) f) h in
+          let body : List ℕ = take (first-stands f .part .to) s in (
+            body,
+            subst (λ v. Finds body entryPiece (λ e. e .offset ≡ i) (v .entries) (entryOfOffset s p i)) same
+                (entry-of-offset-is s (f .value) p (first-good GoodTable f (b .tables-good)) (first-stands f) i),
+          )
+      by Nothing e = absurd (none-has s b (kind k) (control-table-none s b k e) t h)
+
 -- ---- the call
 
 -- a refusal is the first number that applies, and no place is touched
-pub refused-packet-touches-nothing : {k : ℕ} {s ds out exit : List ℕ} {n : ℕ} → Parsed k s ds out exit (A.Refused n) → exit ≡ out
+pub refused-packet : {k : ℕ} {s ds out exit : List ℕ} {n : ℕ} → Bytes s → 0 < n → Parsed k s ds out exit (A.Refused n)
+    → Applies k s (length ds) (length out) n × (exit ≡ out)
 unfolding listBy
-refused-packet-touches-nothing p = p .places
+refused-packet {k} {s} {ds} {out} {exit} {n} bytes some p =
+    (packet-answer-number k s bytes ds (length out) n some .0 (sym (ap numberOfAnswer (p .answer))), p .places)
 
 -- a packet writes as many places as it has dwords, and leaves the others
 pub packet-writes-its-places : {k : ℕ} {s ds out exit : List ℕ} {p : Packet} → Parsed k s ds out exit (A.Packet p)
@@ -239,7 +276,7 @@ no-second-packet a b =
     let same = a .answer ∙ sym (b .answer) in
     (same, a .places ∙ rw same (sym (b .places)))
 
--- the same answer wherever the dwords and the book lie, and whatever the place list held
+-- the same answer whatever the place list held
 pub answer-needs-no-old-place : {k : ℕ} {s ds out other exit exit′ : List ℕ} {r r′ : Answer} → length out ≡ length other
     → Parsed k s ds out exit r → Parsed k s ds other exit′ r′ → r ≡ r′
 answer-needs-no-old-place {k} {s} {ds} e a b = a .answer ∙ ap (parseOf k s ds) e ∙ sym (b .answer)

@@ -11,7 +11,7 @@ use Rattle.book.specs.Finders.{nameOf, rangeOfName, valueOfNumber}
 use Rattle.packet.specs.declared.field.Ask.{Ask}
 use Rattle.packet.specs.declared.field.Ask.the-variants.{Named, Holds}
 
--- the first of two places that is one
+-- the first of two places, unless it is none; then the second
 abbrev pub orElse : ℕ → ℕ → ℕ
 orElse zero q = q
 orElse (suc p) q = suc p

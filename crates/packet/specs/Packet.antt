@@ -33,19 +33,19 @@ unfoldable pub crosses : ℕ → Bool
 crosses kind = eqb kind 8 || eqb kind 9
 
 -- the all-zero UUID is the header table's
-abbrev pub noUuid : Uuid
-noUuid = record { first = 0; second = 0; third = 0; fourth = 0 }
+abbrev pub zeroUuid : Uuid
+zeroUuid = record { first = 0; second = 0; third = 0; fourth = 0 }
 
 abbrev pub isNothing : Found → Bool
 isNothing (At p) = false
 isNothing Nothing = true
 
--- where the control table of a kind stands, and where the header table stands
+-- where the control table of a kind stands, and where the header table stands; said of books that have them, as 22 and 23 see to
 unfoldable pub controlAt : List ℕ → ℕ → ℕ
 controlAt s kind = placeOf (controlTable s kind)
 
 unfoldable pub headerAt : List ℕ → ℕ
-headerAt s = placeOf (uuidTable s noUuid)
+headerAt s = placeOf (uuidTable s zeroUuid)
 
 -- n: the number of control entries
 unfoldable pub entriesOf : List ℕ → ℕ → ℕ
@@ -58,25 +58,28 @@ unfoldable pub numberChecked : ℕ → List ℕ → ℕ → ℕ → ℕ
 numberChecked kind s count room =
     cond (eqb kind 0) 21
     (cond (isNothing (controlTable s kind)) 22
-    (cond (crosses kind && isNothing (uuidTable s noUuid)) 23
+    (cond (crosses kind && isNothing (uuidTable s zeroUuid)) 23
     (cond (ltb 256 count) 24
     (cond (viewed kind && ltb count (entriesOf s kind)) 25
     (cond (ltb room count) 26
     0)))))
 
+-- a number that comes first, else the next
 abbrev pub after : ℕ → ℕ → ℕ
 after zero k = k
 after (suc n) k = suc n
 
+-- 20 comes first
 unfoldable pub numberOf : ℕ → List ℕ → ℕ → ℕ → ℕ
 numberOf kind s count room = after (refusalOf (checkOf s)) (numberChecked kind s count room)
 
 -- ---- the packet
 
--- the place of each dword's entry
+-- the place of each dword's entry behind step 1
 unfoldable pub stepOne : ℕ → List ℕ → List ℕ → List ℕ
 stepOne kind s ds = headerPlaces s (headerAt s) (controlPlaces s (controlAt s kind) ds)
 
+-- the place of each dword's entry, 0 for none: kinds 8 and 9 go on, all others have the control entries
 unfoldable pub placesOf : ℕ → List ℕ → List ℕ → List ℕ
 placesOf kind s ds = cond (crosses kind) (uuidPlaces s ds (stepOne kind s ds)) (controlPlaces s (controlAt s kind) ds)
 

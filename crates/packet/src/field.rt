@@ -13,7 +13,7 @@ pub enum Ask {
     Holds,
 }
 
-// The first of two places that is one.
+// The first of two places, unless it is none; then the second.
 pub fn or_else(p: u32, q: u32) -> u32
     ensures { λ r. ⌜ r ≡ orElse p q ⌝ }
 {

@@ -5,10 +5,10 @@
 //     fill, steps      the entries of a table by their offsets; the three steps
 //     seek, field      the first dword as asked, and the dwords of one name; what the book says of one dword
 pub mod field;
-pub mod fill;
+mod fill;
 pub mod numbers;
 pub mod seek;
-pub mod steps;
+mod steps;
 
 use crate::numbers::open;
 use crate::numbers::start_of;

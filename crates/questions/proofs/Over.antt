@@ -16,7 +16,7 @@ use Rattle.packet.specs.declared.Answer.{Answer}
 use Rattle.packet.specs.declared.Answer.the-variants as A
 use Rattle.packet.specs.declared.Packet.{Packet}
 use Rattle.packet.specs.Packet as packet
-use Rattle.packet.specs.Packet.{Parsed, after, crosses, isNothing, noUuid, viewed, entriesOf, numberChecked, numberOf, placesOf, packetOf, parseOf, listBy}
+use Rattle.packet.specs.Packet.{Parsed, after, crosses, isNothing, zeroUuid, viewed, entriesOf, numberChecked, numberOf, placesOf, packetOf, parseOf, listBy}
 use Rattle.packet.proofs.Packets.{length-places, parsed-20}
 use Rattle.questions.specs.Answers.{Told, is, refused, unless}
 use Rattle.questions.specs.Questions.{refusal, answer}
@@ -46,7 +46,7 @@ pub record Passed (kind : ℕ) (s : List ℕ) (count : ℕ) : Type 0 where
 pub passed : (kind : ℕ) (s ds : List ℕ) → refusal kind s ds ≡ 0 → Passed kind s (length ds)
 unfolding refusal numberOf numberChecked
 passed kind s ds e =
-    by (eqb kind 0) (isNothing (controlTable s kind)) (crosses kind && isNothing (uuidTable s noUuid)) (ltb 256 count) refl
+    by (eqb kind 0) (isNothing (controlTable s kind)) (crosses kind && isNothing (uuidTable s zeroUuid)) (ltb 256 count) refl
     (viewed kind && ltb count (entriesOf s kind)) refl (ltb count count)
     (after-none (refusalOf (checkOf s)) (numberChecked kind s count count) e)
   where

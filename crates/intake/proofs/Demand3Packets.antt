@@ -43,7 +43,7 @@ use Rattle.writer.specs.declared.Written.the-variants as W
 use Rattle.intake.specs.Intake.{Belongs, startsA1, takenOf, takenDwords}
 use Rattle.intake.specs.Packets.{packetBy, packetTaken, kindIn}
 use Rattle.intake.specs.Demand3.{ReadCall, HasRecord}
-use Rattle.intake.specs.Demand3Packets.{PacketCall, packetFor, Gives, SamePacket, Round, Comes, OnePacket, Demand3}
+use Rattle.intake.specs.Demand3Packets.{PacketCall, packetFor, Gives, SamePacket, CutOnce, Round, Comes, OnePacket, Demand3}
 use Rattle.intake.proofs.Theorems.{one-reading}
 use Rattle.intake.proofs.Slots.{taken-count}
 use Rattle.intake.proofs.Handing.{packet-is, places-by-kind}
@@ -195,16 +195,15 @@ cut-at v book view few {p} q =
     let start = ap (λ (w : Packet). w .start) (packet-is (v .kind) book (v .dwords) (length (v .dwords)) q) in
     (start ∙ rw view (ap Word.Is whole), within)
 
+-- a packet of kind 2 or 3 has its view from n onward, as the text says
 cut-once : (text : List ℕ) (v : EntryValue) → Belongs text v → viewed (v .kind) ≡ true
     → (book slots places : List ℕ) (p : Packet) (slots-left places-left : List ℕ) → PacketCall text book slots places (P.Packet p) slots-left places-left
-    → (p .start ≡ Word.Is (entriesOf book (v .kind)))
-    × (entriesOf book (v .kind) ≤ length (v .dwords))
-    × (drop (entriesOf book (v .kind)) (take (p .dwords) slots-left) ≡ drop (entriesOf book (v .kind)) (v .dwords))
+    → CutOnce v book p slots-left
 cut-once text v b view book slots places p slots-left places-left c =
     let g = gives text book slots places (P.Packet p) slots-left places-left c v b in
     let r = says text book slots places (P.Packet p) slots-left places-left c v b in
     let at = cut-at v book view (r .few) (sym (g .is)) in
-    (at .0, at .1, ap (drop (entriesOf book (v .kind))) (dwords-are v book slots places g refl))
+    record { start = at .0; enough = at .1; view = ap (drop (entriesOf book (v .kind))) (dwords-are v book slots places g refl) }
 
 -- ---- round after round
 

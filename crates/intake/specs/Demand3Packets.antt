@@ -54,24 +54,41 @@ pub record SamePacket (a : Answer) (slots-a places-a : List ℕ) (b : Answer) (s
   -- With a packet, the same entry for each dword.
   pub places : (p : Packet) → a ≡ P.Packet p → take (p .dwords) places-a ≡ take (p .dwords) places-b
 
+-- The data view of a packet of v, which is of kind 2 or 3, is cut once, at n, the number of control entries of the kind.
+pub record CutOnce (v : EntryValue) (book : List ℕ) (p : Packet) (slots-left : List ℕ) : Type 0 where
+  -- The view starts at n.
+  pub start : p .start ≡ Word.Is (entriesOf book (v .kind))
+  -- There are n dwords or more: with fewer there is no packet, so nothing is cut short.
+  pub enough : entriesOf book (v .kind) ≤ length (v .dwords)
+  -- The packet's dwords from n onward are v's own from n onward.
+  pub view : drop (entriesOf book (v .kind)) (take (p .dwords) slots-left) ≡ drop (entriesOf book (v .kind)) (v .dwords)
+
 -- A text was read, its entry was written, and what was written is handed on as a text.
 pub record Round (text next : List ℕ) : Type 0 where
+  -- `read` was lent these slots.
   pub slots : List ℕ
+  -- It answered this entry.
   pub entry : Entry
+  -- It left the slots so, the entry's dwords in front.
   pub left : List ℕ
-  -- The text was accepted as the entry, its dwords in the slots.
+  -- That was a call of `read` on the text.
   pub read : ReadCall text slots (A.Entry entry) left
+  -- `write` was lent this buffer.
   pub buffer : List ℕ
+  -- It answered that it wrote so many bytes.
   pub count : ℕ
+  -- It left the buffer so.
   pub written : List ℕ
-  -- The entry was written as so many bytes.
+  -- That was a call of `write` on the entry, with the text and the slots that it was read from and into.
   pub write : WriteCall text entry left buffer (W.Bytes count) written
-  -- They are the next text.
+  -- The bytes that were written are the next text.
   pub handed-on : next ≡ take count written
 
 -- One text comes from another by one round, or by more.
 pub data Comes (text : List ℕ) : List ℕ → Type 0 where
+  -- The next text comes from the text.
   once : {next : List ℕ} → Round text next → Comes text next
+  -- So does whatever comes from that by one more round.
   again : {next last : List ℕ} → Comes text next → Round next last → Comes text last
 
 -- What demand 3 asks of packets.
@@ -86,13 +103,10 @@ pub record OnePacket : Type 0 where
       → (slots places : List ℕ) (a : Answer) (slots-a places-a : List ℕ) → PacketCall line book slots places a slots-a places-a
       → (slots′ places′ : List ℕ) (b : Answer) (slots-b places-b : List ℕ) → PacketCall record-text book slots′ places′ b slots-b places-b
       → SamePacket a slots-a places-a b slots-b places-b
-  -- The data view of kinds 2 and 3 is cut once: it starts at n, the number of control entries, there are n dwords or more, and the packet's dwords from n
-  -- onward are those that the text says from n onward.
+  -- The data view of kinds 2 and 3 is cut once, from what the text says.
   pub cut-once : (text : List ℕ) (v : EntryValue) → Belongs text v → viewed (v .kind) ≡ true
       → (book slots places : List ℕ) (p : Packet) (slots-left places-left : List ℕ) → PacketCall text book slots places (P.Packet p) slots-left places-left
-      → (p .start ≡ Word.Is (entriesOf book (v .kind)))
-      × (entriesOf book (v .kind) ≤ length (v .dwords))
-      × (drop (entriesOf book (v .kind)) (take (p .dwords) slots-left) ≡ drop (entriesOf book (v .kind)) (v .dwords))
+      → CutOnce v book p slots-left
   -- Never a second cut: however often a text is read, written as a record and fed again, its packet stays the same.
   pub never-a-second-cut : (text last : List ℕ) → Comes text last
       → (book : List ℕ)

@@ -2,7 +2,7 @@
 //
 //     read      the entry of a text
 //     packet    the packet of a text, over a book
-pub mod room;
+mod room;
 
 use crate::room::at_most_256;
 use crate::room::copy;

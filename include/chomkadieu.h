@@ -1,11 +1,11 @@
-/* Chomkadieu: USB4 trace lines and records as entries, entries as records, and the check of a book of field descriptions.
+/* Chomkadieu: USB4 trace lines and records as entries, entries as records, and packets described by a book of fields.
  *
  * Build the archive with `rt staticlib capi` (target/staticlib/libcapi.a, x86-64 Linux) and link it; it needs nothing else.
  *
  * Every call takes any input. It keeps no memory, makes none, and writes only what is lent to it for writing. A slice is a pointer and the
  * number of its elements; the pointer is valid for that many, also for none (not NULL), and what is lent for writing overlaps nothing else that
- * is lent. Within that, each call is proved to answer as said here: the contracts stand in crates/capi/src/lib.rt, their definitions in
- * crates/capi/specs/Calls.antt and crates/flat/specs/Flat.antt.
+ * is lent. Within that, each call is proved to answer as said here: the contracts stand in crates/capi/src, their definitions in
+ * crates/capi/specs and crates/flat/specs/Flat.antt.
  */
 #ifndef CHOMKADIEU_H
 #define CHOMKADIEU_H
@@ -150,6 +150,168 @@ ck_packet_answer ck_packet(uint8_t kind, const uint8_t *book, size_t book_len, c
  * then its places are as found. The answer is how many packets there were: the least of kinds_len, counts_len and codes_len. */
 size_t ck_packet_all(const uint8_t *book, size_t book_len, const uint8_t *kinds, size_t kinds_len, const uint32_t *counts, size_t counts_len,
                      const uint32_t *dwords, size_t dwords_len, uint32_t *places, size_t places_len, uint32_t *codes, size_t codes_len);
+
+/* ---- what a packet is asked
+ *
+ * Number 0 and `present` 1 with the answer; 0 and 0 where there is none, which is no refusal; or the number that refuses, with `present` 0. What
+ * is not there is 0. Calls with `packet` in their name take a kind, a book and dwords, and check the book each time: numbers 20 to 25 come
+ * before any answer. Calls with `described` in their name take the dwords and the places that ck_packet filled, check nothing, and answer the
+ * same; whoever has many questions asks those. A name that is asked for is a slice as any other, with no zero behind it. */
+
+/* A number; yes is 1 and no is 0. */
+typedef struct ck_value {
+    uint8_t number;
+    uint8_t present;
+    uint64_t value;
+} ck_value;
+
+/* Four dwords. */
+typedef struct ck_uuid {
+    uint8_t number;
+    uint8_t present;
+    uint32_t dwords[4];
+} ck_uuid;
+
+/* A packet type. */
+typedef struct ck_type {
+    uint8_t number;        /* 28 where the value has no name */
+    uint8_t present;
+    uint32_t value;
+    size_t name;           /* the place in the book of the value that names it, for ck_name */
+} ck_type;
+
+/* A dword of the packet. */
+typedef struct ck_field_answer {
+    uint8_t number;
+    uint8_t present;
+    uint16_t offset;       /* which dword it is, from 0 */
+    uint32_t value;        /* the dword */
+    uint8_t source;        /* the table that describes it: 0 none, 1 control, 2 header, 3 protocol */
+    size_t entry;          /* the place of its entry in the book, 0 for none: for ck_name and the ranges */
+} ck_field_answer;
+
+/* A bit range of an entry; there is one or there is none. */
+typedef struct ck_range_answer {
+    uint8_t present;
+    uint8_t low;           /* its lowest bit */
+    uint8_t high;          /* its highest bit */
+    uint32_t value;        /* the value of these bits in the dword */
+    size_t place;          /* its place in the book: for ck_name and ck_value_name */
+} ck_range_answer;
+
+/* The first dword above the second; 27 if there are fewer than two. */
+ck_value ck_packet_route(uint8_t kind, const uint8_t *book, size_t book_len, const uint32_t *dwords, size_t dwords_len);
+
+/* The top bit of the route; 27 likewise. */
+ck_value ck_packet_cm(uint8_t kind, const uint8_t *book, size_t book_len, const uint32_t *dwords, size_t dwords_len);
+
+/* The value of `Adapter Num`, cut to 8 bits. */
+ck_value ck_packet_adapter_num(uint8_t kind, const uint8_t *book, size_t book_len, const uint32_t *dwords, size_t dwords_len);
+
+/* The value of `Address`, for kinds 8 and 9 of `Offset`, cut to 16 bits. */
+ck_value ck_packet_data_address(uint8_t kind, const uint8_t *book, size_t book_len, const uint32_t *dwords, size_t dwords_len);
+
+/* The value of `Read Size` (kinds 1, 2), `Write Size` (3, 4) or `Properties Block Size` (8, 9), cut to 16 bits. */
+ck_value ck_packet_data_size(uint8_t kind, const uint8_t *book, size_t book_len, const uint32_t *dwords, size_t dwords_len);
+
+/* The index of the first dword of the data view. */
+ck_value ck_packet_data_start(uint8_t kind, const uint8_t *book, size_t book_len, const uint32_t *dwords, size_t dwords_len);
+
+/* How many dwords the data view has: they are the last of those lent. 0 also where there is no view or no packet. */
+size_t ck_packet_data(uint8_t kind, const uint8_t *book, size_t book_len, const uint32_t *dwords, size_t dwords_len);
+
+/* Whether the kind is 1 or 2. */
+ck_value ck_packet_is_read(uint8_t kind, const uint8_t *book, size_t book_len, const uint32_t *dwords, size_t dwords_len);
+
+/* Whether the kind is 3 or 4. */
+ck_value ck_packet_is_write(uint8_t kind, const uint8_t *book, size_t book_len, const uint32_t *dwords, size_t dwords_len);
+
+/* Whether the kind is 8 or 9. */
+ck_value ck_packet_is_xdomain(uint8_t kind, const uint8_t *book, size_t book_len, const uint32_t *dwords, size_t dwords_len);
+
+/* The UUID that chose the packet's protocol table, as ck_packet answers it. */
+ck_uuid ck_packet_uuid(uint8_t kind, const uint8_t *book, size_t book_len, const uint32_t *dwords, size_t dwords_len);
+
+/* The values of the fields of that name, if there are exactly four. */
+ck_uuid ck_packet_uuid_by_name(uint8_t kind, const uint8_t *book, size_t book_len, const uint32_t *dwords, size_t dwords_len, const uint8_t *name,
+                               size_t name_len);
+
+/* The value of the first `Packet Type`, and where its name stands; 28 if it has none. */
+ck_type ck_packet_type(uint8_t kind, const uint8_t *book, size_t book_len, const uint32_t *dwords, size_t dwords_len);
+
+/* The name of the packet type into the first bytes lent, if all of it fits, else none changes. The answer is its length, 0 for none. */
+size_t ck_packet_type_name(uint8_t kind, const uint8_t *book, size_t book_len, const uint32_t *dwords, size_t dwords_len, uint8_t *out, size_t room);
+
+/* The dword at an offset. */
+ck_field_answer ck_packet_field(uint8_t kind, const uint8_t *book, size_t book_len, const uint32_t *dwords, size_t dwords_len, uint16_t offset);
+
+/* The first dword whose entry has that name. */
+ck_field_answer ck_packet_field_by_name(uint8_t kind, const uint8_t *book, size_t book_len, const uint32_t *dwords, size_t dwords_len,
+                                        const uint8_t *name, size_t name_len);
+
+/* The first dword whose entry has a bit range of that name. */
+ck_field_answer ck_packet_field_by_range(uint8_t kind, const uint8_t *book, size_t book_len, const uint32_t *dwords, size_t dwords_len,
+                                         const uint8_t *name, size_t name_len);
+
+/* As ck_packet_route. */
+ck_value ck_described_route(const uint32_t *dwords, size_t dwords_len);
+
+/* As ck_packet_cm. */
+ck_value ck_described_cm(const uint32_t *dwords, size_t dwords_len);
+
+/* The value of the first bit range of that name, in the first dword whose entry has one. */
+ck_value ck_described_value(const uint8_t *book, size_t book_len, const uint32_t *dwords, size_t dwords_len, const uint32_t *places,
+                            size_t places_len, const uint8_t *name, size_t name_len);
+
+/* As ck_packet_adapter_num. */
+ck_value ck_described_adapter_num(const uint8_t *book, size_t book_len, const uint32_t *dwords, size_t dwords_len, const uint32_t *places,
+                                  size_t places_len);
+
+/* As ck_packet_data_address. */
+ck_value ck_described_data_address(uint8_t kind, const uint8_t *book, size_t book_len, const uint32_t *dwords, size_t dwords_len,
+                                   const uint32_t *places, size_t places_len);
+
+/* As ck_packet_data_size. */
+ck_value ck_described_data_size(uint8_t kind, const uint8_t *book, size_t book_len, const uint32_t *dwords, size_t dwords_len, const uint32_t *places,
+                                size_t places_len);
+
+/* As ck_packet_uuid_by_name. */
+ck_uuid ck_described_uuid_by_name(const uint8_t *book, size_t book_len, const uint32_t *dwords, size_t dwords_len, const uint32_t *places,
+                                  size_t places_len, const uint8_t *name, size_t name_len);
+
+/* As ck_packet_type. */
+ck_type ck_described_type(const uint8_t *book, size_t book_len, const uint32_t *dwords, size_t dwords_len, const uint32_t *places, size_t places_len);
+
+/* As ck_packet_field. */
+ck_field_answer ck_described_field(uint8_t kind, const uint8_t *book, size_t book_len, const uint32_t *dwords, size_t dwords_len,
+                                   const uint32_t *places, size_t places_len, uint16_t offset);
+
+/* As ck_packet_field_by_name. */
+ck_field_answer ck_described_field_by_name(uint8_t kind, const uint8_t *book, size_t book_len, const uint32_t *dwords, size_t dwords_len,
+                                           const uint32_t *places, size_t places_len, const uint8_t *name, size_t name_len);
+
+/* As ck_packet_field_by_range. */
+ck_field_answer ck_described_field_by_range(uint8_t kind, const uint8_t *book, size_t book_len, const uint32_t *dwords, size_t dwords_len,
+                                            const uint32_t *places, size_t places_len, const uint8_t *name, size_t name_len);
+
+/* The field of a dword at an offset whose entry has that place; always present. */
+ck_field_answer ck_field(uint8_t kind, const uint8_t *book, size_t book_len, uint16_t offset, uint32_t dword, size_t entry);
+
+/* How many bit ranges the entry at a place has. */
+size_t ck_range_count(const uint8_t *book, size_t book_len, size_t entry);
+
+/* The entry's bit range with k before it, and its value in a dword. */
+ck_range_answer ck_range(const uint8_t *book, size_t book_len, size_t entry, uint32_t dword, size_t k);
+
+/* The entry's first bit range of that name, likewise. */
+ck_range_answer ck_range_named(const uint8_t *book, size_t book_len, size_t entry, uint32_t dword, const uint8_t *name, size_t name_len);
+
+/* The name of the entry, bit range or value at a place into the first bytes lent, if all of it fits, else none changes. The answer is its
+ * length, 0 for none; with 255 bytes lent each name of a checked book fits. */
+size_t ck_name(const uint8_t *book, size_t book_len, size_t place, uint8_t *out, size_t room);
+
+/* The name that the bit range at a place gives to a value, likewise. */
+size_t ck_value_name(const uint8_t *book, size_t book_len, size_t range, uint32_t value, uint8_t *out, size_t room);
 
 #ifdef __cplusplus
 }

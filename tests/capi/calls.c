@@ -199,7 +199,115 @@ static void books(void) {
     see(ck_book_check(zeros, 65536) == CK_BAD_BOOK, "a book over 65,535 bytes");
 }
 
-int main(void) {
+/* The sample book, which the test's caller names. */
+static uint8_t book[65536];
+static size_t book_len;
+
+static int load_book(const char *path) {
+    FILE *file = fopen(path, "rb");
+    if (!file) return 0;
+    book_len = fread(book, 1, sizeof book, file);
+    fclose(file);
+    return book_len > 0;
+}
+
+static int is(ck_value v, uint64_t value) { return v.number == CK_OK && v.present == 1 && v.value == value; }
+static int is_absent(ck_value v) { return v.number == CK_OK && v.present == 0 && v.value == 0; }
+static int is_refused(ck_value v, uint8_t number) { return v.number == number && v.present == 0 && v.value == 0; }
+
+/* Does the place have that name, with no byte changed behind it? */
+static int is_named(size_t place, const char *name) {
+    uint8_t *out = fresh_buffer();
+    size_t n = strlen(name);
+    return ck_name(book, book_len, place, out, ROOM) == n && unwritten(n) && !memcmp(out, name, n);
+}
+
+#define PACKET(kind, dwords) kind, book, book_len, dwords, sizeof dwords / sizeof *dwords
+#define DESCRIBED(dwords, places) book, book_len, dwords, sizeof dwords / sizeof *dwords, places, sizeof dwords / sizeof *dwords
+#define NAME(text) bytes(text), sizeof text - 1
+
+/* The read request of document 01, described by the sample book. */
+static void packets(void) {
+    static const uint32_t read[] = {0, 0, 0x04002001}, reply[] = {0x80000000, 1, 0x04002001, 7, 8}, bare[] = {1};
+    uint32_t *places = fresh_slots();
+    ck_packet_answer p = ck_packet(PACKET(1, read), places, SLOTS);
+    see(p.number == CK_OK && p.start == CK_NONE && p.has_uuid == 0 && untouched(3) && places[2] != 0, "a read request is a packet");
+    see(is(ck_packet_route(PACKET(1, read)), 0) && is(ck_packet_cm(PACKET(1, read)), 0), "its route and CM");
+    see(is(ck_packet_data_address(PACKET(1, read)), 1) && is(ck_packet_data_size(PACKET(1, read)), 1), "its address and size");
+    see(is(ck_packet_adapter_num(PACKET(1, read)), 0) && is_absent(ck_packet_data_start(PACKET(1, read))), "its adapter, and no data");
+    see(is(ck_packet_is_read(PACKET(1, read)), 1) && is(ck_packet_is_write(PACKET(1, read)), 0) && is(ck_packet_is_xdomain(PACKET(1, read)), 0),
+        "it reads");
+    see(is(ck_described_value(DESCRIBED(read, places), NAME("Configuration Space")), 2), "its space, by name");
+    see(is_absent(ck_described_value(DESCRIBED(read, places), NAME("Nothing"))), "no range of that name");
+    see(is(ck_described_data_address(1, DESCRIBED(read, places)), 1) && is(ck_described_data_size(1, DESCRIBED(read, places)), 1) &&
+            is(ck_described_adapter_num(DESCRIBED(read, places)), 0) && is(ck_described_route(read, 3), 0) && is(ck_described_cm(read, 3), 0),
+        "the described forms answer the same");
+    see(is(ck_packet_route(PACKET(2, reply)), (UINT64_C(1) << 63) + 1) && is(ck_packet_cm(PACKET(2, reply)), 1), "a route with its top bit");
+    see(is(ck_packet_data_start(PACKET(2, reply)), 3) && ck_packet_data(PACKET(2, reply)) == 2, "a read response has data");
+    see(is_refused(ck_packet_route(PACKET(1, bare)), CK_NO_PACKET_ROUTE) && is_refused(ck_described_cm(bare, 1), CK_NO_PACKET_ROUTE), "one dword is no route");
+    see(is_refused(ck_packet_route(PACKET(0, read)), CK_NO_KIND) && is_refused(ck_packet_cm(PACKET(12, read)), CK_NO_TABLE), "no kind, no table");
+    see(is_refused(ck_packet_adapter_num(1, bytes("x"), 1, read, 3), CK_BAD_BOOK), "no book");
+    see(is_refused(ck_packet_data_size(PACKET(2, bare)), CK_FEW_DWORDS) && ck_packet_data(PACKET(2, bare)) == 0, "too few dwords");
+}
+
+/* Fields, their ranges and names. */
+static void fields(void) {
+    static const uint32_t read[] = {0, 0, 0x04002001};
+    uint32_t *places = fresh_slots();
+    ck_packet(PACKET(1, read), places, SLOTS);
+    ck_field_answer f = ck_packet_field_by_range(PACKET(1, read), NAME("Read Size"));
+    see(f.number == CK_OK && f.present == 1 && f.offset == 2 && f.value == 0x04002001 && f.source == 1 && f.entry == places[2], "a field by its range");
+    ck_field_answer same = ck_described_field(1, DESCRIBED(read, places), 2), made_up = ck_field(1, book, book_len, 2, read[2], places[2]);
+    see(same.present == 1 && same.entry == f.entry && same.value == f.value && made_up.source == 1 && made_up.entry == f.entry, "by offset, and by place");
+    same = ck_described_field_by_range(1, DESCRIBED(read, places), NAME("Read Size"));
+    see(same.present == 1 && same.entry == f.entry, "and over the places");
+    see(!ck_packet_field(PACKET(1, read), 3).present && ck_packet_field(PACKET(0, read), 0).number == CK_NO_KIND, "no dword 3, no kind 0");
+    see(!ck_packet_field_by_name(PACKET(1, read), NAME("")).present && !ck_described_field_by_name(1, DESCRIBED(read, places), NAME("")).present,
+        "no field has an empty name");
+    static const struct { uint8_t low, high; uint32_t value; const char *name; } want[] = {
+        {0, 12, 1, "Address"}, {13, 18, 1, "Read Size"}, {19, 24, 0, "Adapter Num"}, {25, 26, 2, "Configuration Space"}};
+    for (size_t k = 0; k < 4; k++) {
+        ck_range_answer r = ck_range(book, book_len, f.entry, f.value, k);
+        see(r.present == 1 && r.low == want[k].low && r.high == want[k].high && r.value == want[k].value && is_named(r.place, want[k].name), want[k].name);
+    }
+    size_t count = ck_range_count(book, book_len, f.entry);
+    see(count >= 4 && !ck_range(book, book_len, f.entry, f.value, count).present && ck_range_count(book, book_len, 0) == 0, "the ranges end");
+    ck_range_answer space = ck_range_named(book, book_len, f.entry, f.value, NAME("Configuration Space"));
+    uint8_t *out = fresh_buffer();
+    size_t n = ck_value_name(book, book_len, space.place, space.value, out, ROOM);
+    see(n > 0 && unwritten(n), "the space's value has a name");
+    out = fresh_buffer();
+    see(ck_value_name(book, book_len, space.place, space.value, out, n - 1) == n && unwritten(0), "a name that does not fit is not written");
+    see(ck_value_name(book, book_len, space.place, 4, out, ROOM) == 0 && ck_name(book, book_len, 0, out, ROOM) == 0 && unwritten(0), "no name");
+}
+
+/* An inter-domain packet: the discovery protocol's properties request. */
+static void crossing(void) {
+    uint32_t request[16] = {0, 1, 14, 0x0ed738b6, 0xbb40ff42, 0xe290c297, 0x07ffb2c0, 3};
+    uint32_t *places = fresh_slots();
+    ck_packet_answer p = ck_packet(PACKET(8, request), places, SLOTS);
+    ck_uuid u = ck_packet_uuid(PACKET(8, request)), v = ck_packet_uuid_by_name(PACKET(8, request), NAME("UUID"));
+    ck_uuid w = ck_described_uuid_by_name(DESCRIBED(request, places), NAME("UUID"));
+    see(p.number == CK_OK && p.has_uuid == 1 && !memcmp(p.uuid, request + 3, 16), "an inter-domain packet");
+    see(u.present == 1 && !memcmp(u.dwords, request + 3, 16) && v.present == 1 && w.present == 1 && !memcmp(w.dwords, u.dwords, 16), "its UUID, three ways");
+    see(!ck_packet_uuid_by_name(PACKET(8, request), NAME("Else")).present && ck_packet_uuid(PACKET(0, request)).number == CK_NO_KIND, "no UUID of that name");
+    ck_type t = ck_packet_type(PACKET(8, request)), d = ck_described_type(DESCRIBED(request, places));
+    uint8_t *out = fresh_buffer();
+    size_t n = ck_packet_type_name(PACKET(8, request), out, ROOM);
+    see(t.number == CK_OK && t.present == 1 && t.value == 3 && d.present == 1 && d.name == t.name && n > 0 && unwritten(n), "its type has a name");
+    static uint8_t again[255];
+    see(ck_name(book, book_len, t.name, again, sizeof again) == n && !memcmp(again, out, n), "which stands at the type's place");
+    request[7] = 0xffff;
+    t = ck_packet_type(PACKET(8, request));
+    out = fresh_buffer();
+    see(t.number == CK_UNNAMED_TYPE && !t.present && ck_packet_type_name(PACKET(8, request), out, ROOM) == 0 && unwritten(0), "a type with no name");
+    static const uint32_t read[] = {0, 0, 0};
+    t = ck_packet_type(PACKET(1, read));
+    see(t.number == CK_OK && !t.present && t.name == 0, "a read request has no type");
+}
+
+int main(int count, char **words) {
+    if (count < 2 || !load_book(words[1])) return puts("usage: calls BOOK"), 2;
     lines();
     refused_lines();
     limits();
@@ -207,6 +315,9 @@ int main(void) {
     refused_entries();
     questions();
     books();
+    packets();
+    fields();
+    crossing();
     printf("%u passed, %u failed\n", passed, failed);
     return failed != 0;
 }

@@ -1,3 +1,4 @@
 -- What the C calls answer.
 pub mod Calls
 pub mod Packets
+pub mod Told

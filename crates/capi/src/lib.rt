@@ -5,8 +5,14 @@
 //     ck_record_write                          an entry: its record
 //     ck_book_check                            a book: accepted, or number 20
 //     ck_event_name, ck_adapter_num, ck_unplug what an entry is asked
-//     packets                                  the calls on packets
+//     packets, asked, described                packets over a book, and what they are asked
+//     fields                                   what the book says of a field; names
+//     told                                     the answers as plain structs
+pub mod asked;
+pub mod described;
+pub mod fields;
 pub mod packets;
+pub mod told;
 
 use book::Checked;
 use book::check;

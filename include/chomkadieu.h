@@ -145,6 +145,18 @@ typedef struct ck_packet_answer {
 ck_packet_answer ck_packet(uint8_t kind, const uint8_t *book, size_t book_len, const uint32_t *dwords, size_t dwords_len, uint32_t *places,
                            size_t places_len);
 
+/* A text's packet, or why there is none. */
+typedef struct ck_text_packet {
+    uint8_t kind;              /* the packet's kind, 0 if it is refused */
+    size_t dwords;             /* how many dwords it has, 0 if it is refused */
+    ck_packet_answer packet;   /* its number is the text's (1 to 17, 30 to 35) or the packet's (20 to 26) */
+} ck_text_packet;
+
+/* The packet of a text that is a record if it starts with A1, else a line: its dwords into the first slots, the place of each one's entry into
+ * the first places. A refusal of the packet leaves the slots as found too. A line and its record give the same. */
+ck_text_packet ck_read_packet(const uint8_t *text, size_t text_len, const uint8_t *book, size_t book_len, uint32_t *slots, size_t slots_len,
+                              uint32_t *places, size_t places_len);
+
 /* Many packets over one book, which is checked once. Packet k has kind kinds[k] and the next counts[k] dwords, as far as they go; its places
  * stand where its dwords do. codes[k] becomes where its data view starts; 65,536 if it has none; 65,536 and the number if it is refused, and
  * then its places are as found. The answer is how many packets there were: the least of kinds_len, counts_len and codes_len. */

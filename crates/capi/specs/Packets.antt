@@ -2,6 +2,7 @@
 use Prim.Native.Nat.{ℕ}
 use mathlib.Core.Path.{_≡_}
 use mathlib.Core.List.{List}
+use lib.ListN.{length}
 use Rattle.entry.specs.declared.optional.MaybeWord.{MaybeWord}
 use Rattle.entry.specs.declared.optional.MaybeWord.the-variants as W
 use Rattle.flat.specs.Flat.{flatWord}
@@ -10,8 +11,11 @@ use Rattle.packet.specs.declared.Answer.the-variants as A
 use Rattle.packet.specs.declared.Packet.{Packet}
 use Rattle.packet.specs.declared.MaybeUuid.{MaybeUuid}
 use Rattle.packet.specs.declared.MaybeUuid.the-variants as U
-use Rattle.packet.specs.Packet.{listBy}
+use Rattle.packet.specs.Packet.{placesOf, listBy}
+use Rattle.intake.specs.Intake.{takenDwords}
+use Rattle.intake.specs.Packets.{packetTaken, kindIn}
 use Rattle.capi.specs.declared.packets.PacketAnswer.{PacketAnswer}
+use Rattle.capi.specs.declared.packets.TextPacket.{TextPacket}
 
 -- number, start and UUID, whose dwords are 0 where there is none
 abbrev pub uuidBy : ℕ → MaybeWord → MaybeUuid → PacketAnswer
@@ -33,3 +37,20 @@ packetBy (A.Refused k) = uuidBy k W.Absent U.Absent
 pub record Described (answer : Answer) (places out exit : List ℕ) (r : PacketAnswer) : Type 0 where
   pub is : r ≡ packetBy answer
   pub list : exit ≡ listBy answer places out
+
+-- a text's packet: kind, how many dwords, and the packet
+unfoldable pub ofPacket : Packet → TextPacket
+ofPacket p = record { kind = p .kind; dwords = p .dwords; packet = madeBy p }
+
+-- or the number, with no kind and no dword
+unfoldable pub textBy : Answer → TextPacket
+textBy (A.Packet p) = ofPacket p
+textBy (A.Refused k) = record { kind = 0; dwords = 0; packet = packetBy (A.Refused k) }
+
+-- the answer, each slot and each place: a packet's dwords and their places over the first, a refusal leaves them as found
+pub record TextRead (t s slots slots′ places places′ : List ℕ) (r : TextPacket) : Type 0 where
+  pub is : r ≡ textBy (packetTaken t s (length slots) (length places))
+  pub slots-left : slots′ ≡ listBy (packetTaken t s (length slots) (length places)) (takenDwords t) slots
+  pub places-left : places′
+      ≡ listBy (packetTaken t s (length slots) (length places))
+      (placesOf (kindIn (packetTaken t s (length slots) (length places))) s (takenDwords t)) places

@@ -9,7 +9,7 @@ ghost use mathlib.Core.Path.{_≡_};
 ghost use lib.ListN.{length};
 ghost use Rattle.packet.specs.Packet.{parseOf, placesOf};
 ghost use Rattle.batch.specs.Batch.{Batch};
-ghost use Rattle.capi.specs.Packets.{Described, packetBy, madeBy, uuidBy};
+ghost use Rattle.capi.specs.Packets.{Described, packetBy, madeBy, uuidBy, ofPacket, textBy, TextRead};
 
 // Number 0 and the packet, or the number that refuses it, no start and no UUID. A start is a word or ABSENT; `has_uuid` is 1 where the four
 // dwords are a UUID, else 0, and they are 0.
@@ -99,5 +99,52 @@ fn whole(number: u8, start: u32, has_uuid: u8, u: Uuid) -> PacketAnswer
         second: u.second,
         third: u.third,
         fourth: u.fourth,
+    }
+}
+
+// A text's packet: its kind and how many dwords it has, 0 for a refusal, and what `ck_packet` tells of it.
+#[repr(C)]
+pub struct TextPacket {
+    pub kind: u8,
+    pub dwords: usize,
+    pub packet: PacketAnswer,
+}
+
+// The packet of a text that is a record if it starts with A1, else a line: its dwords in the first slots, the places of their entries in the
+// first places. Numbers of the text come before those of the packet.
+#[no_mangle]
+pub extern "C" fn ck_read_packet(
+    text: &[u8],
+    book: &[u8],
+    slots: &mut [u32],
+    places: &mut [u32],
+) -> TextPacket
+    ensures { λ r. ⌜ TextRead (now (text .entry)) (now (book .entry)) (now (slots .entry)) (now (slots .exit)) (now (places .entry)) (now (places .exit)) r ⌝ }
+{
+    text_packet(intake::packet(text, book, slots, places))
+}
+
+fn text_packet(answer: Answer) -> TextPacket
+    ensures { λ r. ⌜ r ≡ textBy answer ⌝ }
+{
+    match answer {
+        Answer::Packet(p) => of_packet(p),
+        Answer::Refused(number) => TextPacket {
+            kind: 0,
+            dwords: 0,
+            packet: packet_answer(Answer::Refused(number)),
+        },
+    }
+}
+
+fn of_packet(p: Packet) -> TextPacket
+    ensures { λ r. ⌜ r ≡ ofPacket p ⌝ }
+{
+    let kind = p.kind;
+    let dwords = p.dwords;
+    TextPacket {
+        kind,
+        dwords,
+        packet: made(p),
     }
 }

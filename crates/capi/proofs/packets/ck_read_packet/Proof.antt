@@ -1,0 +1,39 @@
+-- `capi::packets::ck_read_packet` meets its contract: what the intake's packet call answers. Assumes nothing.
+use Rattle.capi.specs.Packets.{textBy}
+use Rattle.packet.specs.Packet.{placesOf, listBy}
+use Rattle.packet.specs.declared.Answer.{Answer}
+use Rattle.intake.specs.Intake.{takenDwords}
+use Rattle.intake.specs.Packets.{kindIn}
+use mathlib.Core.Path.{_≡_, sym, ap, _∙_}
+use native.Mathlib.Omega.{arith}
+use borrow.Author.Needs.{needs}
+use Rattle.capi.proofs.packets.ck_read_packet.Statement.{statement}
+use Rattle.capi.proofs.packets.ck_read_packet.Tie as tie
+use Rattle.capi.proofs.packets.ck_read_packet.Reads as reads
+use Rattle.capi.proofs.packets.ck_read_packet.Lts as lts
+use Rattle.capi.proofs.packets.text_packet.Reads as text-packet-reads
+use Rattle.intake.proofs.packet.Reads as packet-reads
+
+packet-requires : tie.Need-packet-requires
+packet-requires c κs = search needs
+
+text-packet-requires : tie.Need-text-packet-requires
+text-packet-requires c κs = search needs
+
+same-length : tie.Need-same-length
+same-length c = search needs
+
+same-length-2 : tie.Need-same-length-2
+same-length-2 c = search needs
+
+returns : tie.Need-returns
+returns c =
+    record {
+      is = c .text-packet .ensures ∙ ap textBy (c .before .before .before .before .before .packet .ensures .answer);
+      slots-left = c .before .before .before .before .before .packet .ensures .slots-left ∙ ap (λ (r : Answer). listBy r (takenDwords (c .before .before .before .before .before .before .before .before .before .before .before .before .args .text .now)) (c .before .before .before .before .before .before .before .before .before .before .before .before .args .slots .now)) (c .before .before .before .before .before .packet .ensures .answer);
+      places-left = c .before .before .before .before .before .packet .ensures .places-left ∙ ap (λ (r : Answer). listBy r (placesOf (kindIn r) (c .before .before .before .before .before .before .before .before .before .before .before .before .args .book .now) (takenDwords (c .before .before .before .before .before .before .before .before .before .before .before .before .args .text .now))) (c .before .before .before .before .before .before .before .before .before .before .before .before .args .places .now)) (c .before .before .before .before .before .packet .ensures .answer);
+    }
+
+pub ck-read-packet-spec : {M : Type 1} → statement M
+ck-read-packet-spec =
+    tie.close (tie.spec packet-requires text-packet-requires same-length same-length-2 returns)

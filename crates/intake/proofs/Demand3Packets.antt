@@ -38,6 +38,8 @@ use Rattle.packet.specs.Packet.{
   listBy,
 }
 use Rattle.packet.proofs.Packets.{length-places}
+use Rattle.questions.specs.Questions.{refusal, viewOf}
+use Rattle.questions.proofs.Views.{view-is-from-n}
 use Rattle.record.specs.Grammar.{recordBytes, IsRecord}
 use Rattle.writer.specs.declared.Written.the-variants as W
 use Rattle.intake.specs.Intake.{Belongs, startsA1, takenOf, takenDwords}
@@ -195,6 +197,11 @@ cut-at v book view few {p} q =
     let start = ap (λ (w : Packet). w .start) (packet-is (v .kind) book (v .dwords) (length (v .dwords)) q) in
     (start ∙ rw view (ap Word.Is whole), within)
 
+-- a question about an accepted packet is answered
+no-refusal : (v : EntryValue) (book : List ℕ) {p : Packet} → packetFor v book ≡ P.Packet p → refusal (v .kind) book (v .dwords) ≡ 0
+unfolding packetFor refusal
+no-refusal v book q = accepted-number (v .kind) book (v .dwords) (length (v .dwords)) q
+
 -- a packet of kind 2 or 3 has its view from n onward, as the text says
 cut-once : (text : List ℕ) (v : EntryValue) → Belongs text v → viewed (v .kind) ≡ true
     → (book slots places : List ℕ) (p : Packet) (slots-left places-left : List ℕ) → PacketCall text book slots places (P.Packet p) slots-left places-left
@@ -203,7 +210,13 @@ cut-once text v b view book slots places p slots-left places-left c =
     let g = gives text book slots places (P.Packet p) slots-left places-left c v b in
     let r = says text book slots places (P.Packet p) slots-left places-left c v b in
     let at = cut-at v book view (r .few) (sym (g .is)) in
-    record { start = at .0; enough = at .1; view = ap (drop (entriesOf book (v .kind))) (dwords-are v book slots places g refl) }
+    let own = dwords-are v book slots places g refl in
+    record {
+      start = at .0;
+      enough = at .1;
+      view = ap (drop (entriesOf book (v .kind))) own;
+      handed-out = ap (viewOf (v .kind) book) own ∙ view-is-from-n (v .kind) book (v .dwords) view (no-refusal v book (sym (g .is)));
+    }
 
 -- ---- round after round
 

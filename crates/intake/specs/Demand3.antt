@@ -1,5 +1,7 @@
 -- Demand 3 for lines and records: every accepted line has a record. It is stated over the contracts of the two calls, `read` of crate `intake` and `write`
 -- of crate `writer`, so it holds of whatever they answer and leave behind.
+-- How to read it: `a ≡ b` is "a equals b"; `P → Q` "if P then Q"; `P → ⊥` "P never holds"; `P × Q` "P and Q"; `(x : A) × P` "there is an x so that P";
+-- `(x : A) → P` "for every x, P"; `↔` "exactly when". A name before a dot tells whose answer it is: `A.` the reader's, `W.` the writer's.
 use Prim.Native.Nat.{ℕ, _≤_}
 use mathlib.Core.Path.{_≡_}
 use mathlib.Core.Bool.{true, false}

@@ -15,6 +15,7 @@ use Rattle.packet.specs.declared.Answer.{Answer}
 use Rattle.packet.specs.declared.Answer.the-variants as P
 use Rattle.packet.specs.declared.Packet.{Packet}
 use Rattle.packet.specs.Packet.{viewed, entriesOf, placesOf, parseOf, listBy}
+use Rattle.questions.specs.Questions.{viewOf}
 use Rattle.record.specs.Grammar.{IsRecord}
 use Rattle.writer.specs.declared.Written.the-variants as W
 use Rattle.intake.specs.Intake.{Belongs}
@@ -54,7 +55,8 @@ pub record SamePacket (a : Answer) (slots-a places-a : List ℕ) (b : Answer) (s
   -- With a packet, the same entry for each dword.
   pub places : (p : Packet) → a ≡ P.Packet p → take (p .dwords) places-a ≡ take (p .dwords) places-b
 
--- The data view of a packet of v, which is of kind 2 or 3, is cut once, at n, the number of control entries of the kind.
+-- The data view of a packet of v, which is of kind 2 or 3, is cut once, at n, the number of control entries of the kind: `entries-are` of crate `packet`
+-- says that `entriesOf` is that number.
 pub record CutOnce (v : EntryValue) (book : List ℕ) (p : Packet) (slots-left : List ℕ) : Type 0 where
   -- The view starts at n.
   pub start : p .start ≡ Word.Is (entriesOf book (v .kind))
@@ -62,6 +64,8 @@ pub record CutOnce (v : EntryValue) (book : List ℕ) (p : Packet) (slots-left :
   pub enough : entriesOf book (v .kind) ≤ length (v .dwords)
   -- The packet's dwords from n onward are v's own from n onward.
   pub view : drop (entriesOf book (v .kind)) (take (p .dwords) slots-left) ≡ drop (entriesOf book (v .kind)) (v .dwords)
+  -- They are what `data` of crate `questions` hands out, asked with the kind, the book and the packet's dwords.
+  pub handed-out : viewOf (v .kind) book (take (p .dwords) slots-left) ≡ drop (entriesOf book (v .kind)) (v .dwords)
 
 -- A text was read, its entry was written, and what was written is handed on as a text.
 pub record Round (text next : List ℕ) : Type 0 where

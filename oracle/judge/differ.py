@@ -1,33 +1,46 @@
-"""The program under test beside the judged Rust: every field of every generated line."""
+"""The programs under test beside the judged Rust: every field of every generated line and packet."""
 
 import os
 import struct
 import subprocess
 import tempfile
 
-from generate import lines as generator
+from generate import books, lines as generator, packets as packet_generator
+from generate.tree import encoded
+from judge import packets
 from judge.lines import beyond
 from judge.tally import Tally, ask
-from reading import line as reading
+from reading import line as reading, packet as packet_reading
+from reading.book import read_book
+from reading.texts import Refused
 
 HERE = os.path.dirname(os.path.abspath(__file__))
 TOP = os.path.join(HERE, "..", "..")
 AT_ONCE = 200_000
+BOOKS_AT_ONCE = 100
 SLOTS = 256
 
 
-def replay(texts):
-    """The program's answers, one a line, with 256 slots lent for each."""
+def run(program, parts, count):
+    """What a program answers to its input, given in parts: so many rows."""
     with tempfile.TemporaryFile() as given, tempfile.TemporaryFile() as said:
-        for text in texts:
-            given.write(struct.pack("<II", len(text), SLOTS) + text)
+        for part in parts:
+            given.write(part)
         given.seek(0)
-        subprocess.run([os.path.join(TOP, "run"), "replay"], check=True, stdin=given, stdout=said)
+        subprocess.run([os.path.join(TOP, "run"), program], check=True, stdin=given, stdout=said)
         said.seek(0)
         answers = said.read().decode("ascii").splitlines()
-    if len(answers) != len(texts):
+    if len(answers) != count:
         raise ValueError("the program answered another number of frames")
     return answers
+
+
+# Lines
+
+def replay(texts):
+    """The program's answers, one a line, with 256 slots lent for each."""
+    frames = (struct.pack("<II", len(text), SLOTS) + text for text in texts)
+    return run("replay", frames, len(texts))
 
 
 def judge(tally, name, line, oracle, ours):
@@ -60,4 +73,81 @@ def compare(seed, count, short):
             some = []
     if some:
         judge_all(tally, some)
+    return tally
+
+
+# Packets
+
+def group(data, cases):
+    """A book, the names to ask for, and packets over it (places lent, kind, dwords), as the program reads them."""
+    names = b"".join(bytes([len(name)]) + name for name in asked(data))
+    bodies = [(places, packet_generator.body(kind, dwords)) for places, kind, dwords in cases]
+    return struct.pack("<III", len(data), len(names), len(bodies)) + data + names + b"".join(
+        struct.pack("<II", len(body), places) + body for places, body in bodies)
+
+
+def asked(data):
+    """The names of a book, in the order of the row; a broken book has none to ask for."""
+    try:
+        return packet_reading.asked_names(read_book(data))
+    except Refused:
+        return []
+
+
+def lent(number, dwords):
+    """Places lent: mostly 256, for some packets just enough, for some one too few."""
+    return {8: max(len(dwords) - 1, 0), 4: len(dwords)}.get(number % 9, SLOTS)
+
+
+def with_places(some):
+    return [(lent(number, dwords), kind, dwords) for number, (_, kind, dwords) in enumerate(some)]
+
+
+def judge_packet(tally, given, oracle, ours, expected):
+    """Where document 01 goes beyond the Rust (24, 26) the reading decides, else the Rust."""
+    name, kind, dwords = given
+    beyond_rust = expected in ("refused 24", "refused 26")
+    if not beyond_rust:
+        expected = oracle.replace("panic ", "refused ").replace("none ", "refused ")
+    if ours != expected:
+        return tally.differ(name, packet_generator.body(kind, dwords), expected, ours)
+    if beyond_rust:
+        return tally.beyond(name, ours)
+    return tally.same(name, "packet" if ours.startswith("packet ") else ours)
+
+
+def judge_book(tally, name, data, some, answers):
+    said = ask("packets", [packet_generator.body(kind, dwords) for _, kind, dwords in some], data)
+    book = read_book(data)
+    typed = packets.typed_places(book)
+    tally.books[name] += 1
+    for number, (given, oracle, ours) in enumerate(zip(some, said, answers)):
+        _, kind, dwords = given
+        expected = packet_reading.answer_over(book, kind, dwords, lent(number, dwords))
+        judge_packet(tally, given, oracle, ours, expected)
+        tally.branches.update(packets.branches(ours, typed))
+
+
+def judge_books(tally, chosen):
+    """One run of the program over many books: class, bytes and packets of each."""
+    groups = (group(data, with_places(some)) for _, data, some in chosen)
+    answers = run("replay_packets", groups, sum(len(some) for _, _, some in chosen))
+    for name, data, some in chosen:
+        judge_book(tally, name, data, some, answers[:len(some)])
+        del answers[:len(some)]
+
+
+def compare_packets(seed, book_count, count):
+    tally = Tally()
+    chosen = []
+    good = list(books.good(seed, book_count))
+    for index, (name, tables) in enumerate(good):
+        data = encoded(tables)
+        share = packets.FEW if len(data) > packets.LARGE else count / len(good)
+        chosen.append((name, data, list(packet_generator.generate(seed * 100_000 + index, share, data))))
+        if len(chosen) == BOOKS_AT_ONCE:
+            judge_books(tally, chosen)
+            chosen = []
+    if chosen:
+        judge_books(tally, chosen)
     return tally

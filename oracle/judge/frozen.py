@@ -8,6 +8,7 @@ from generate.broken import RULES
 from generate.seed import frame
 from generate.tree import encoded
 from judge import chosen, chosen_books
+from judge.differ import group
 from judge.lines import beyond
 from judge.tally import ask
 from reading import book as book_reading, line as line_reading, packet as packet_reading
@@ -90,6 +91,8 @@ EACH_BOOK = 3
 LARGEST_TAKEN = 3_000
 EACH_PACKETS = 45
 BROKEN = ("second table", "bad name", "stray end")
+# No file of oracle/frozen: books.bin and packets.bin in another order.
+GROUPS = "groups"
 
 
 def of_each_class(cases, count):
@@ -164,7 +167,14 @@ def freeze_packets(origin):
         "books.bin": b"".join(map(frame, found)),
         "packets.bin": b"".join(map(frame, bodies)),
         "packets.txt": text(answers),
+        GROUPS: packet_groups(found, cases),
     }, answers
+
+
+def packet_groups(found, cases):
+    """The same packets as the program of the gate reads them, book by book."""
+    return b"".join(group(data, [case[1:] for case in cases if case[0] == index])
+                    for index, data in enumerate(found))
 
 
 # Book checks

@@ -37,7 +37,8 @@ pub fn put_both(out: &mut [u8], at: usize, name: &[u8], s: &[u8]) -> usize
     put_hex(out, behind, s)
 }
 
-fn put_none(out: &mut [u8], at: usize, name: &[u8]) -> usize
+// A name and a dash.
+pub fn put_none(out: &mut [u8], at: usize, name: &[u8]) -> usize
     requires { ⌜ at ≤ length (now out) ⌝ }
     ensures { λ r. ⌜ r ≤ length (now (out .entry)) ⌝ }
 {
@@ -75,7 +76,8 @@ pub fn put_flag(out: &mut [u8], at: usize, name: &[u8], v: MaybeFlag) -> usize
     }
 }
 
-fn put_bool(out: &mut [u8], at: usize, name: &[u8], yes: bool) -> usize
+// A name and 1 or 0.
+pub fn put_bool(out: &mut [u8], at: usize, name: &[u8], yes: bool) -> usize
     requires { ⌜ at ≤ length (now out) ⌝ }
     ensures { λ r. ⌜ r ≤ length (now (out .entry)) ⌝ }
 {

@@ -1,6 +1,6 @@
 // The answer to a line as one row of text: every field of its entry, or the number that refuses it. A row that fits the buffer is whole;
 // of one that does not, the parts that do not fit are left out.
-mod fields;
+pub mod fields;
 
 use crate::fields::put_both;
 use crate::fields::put_count;

@@ -1,4 +1,4 @@
-"""The programs under test beside the judged Rust: every field of every generated line and packet."""
+"""The programs under test beside the judged Rust: every field of every line and packet."""
 
 import os
 import struct
@@ -79,7 +79,7 @@ def compare(seed, count, short):
 # Packets
 
 def group(data, cases):
-    """A book, the names to ask for, and packets over it (places lent, kind, dwords), as the program reads them."""
+    """A book, the names to ask for, and packets over it, each of places lent, kind and dwords."""
     names = b"".join(bytes([len(name)]) + name for name in asked(data))
     bodies = [(places, packet_generator.body(kind, dwords)) for places, kind, dwords in cases]
     return struct.pack("<III", len(data), len(names), len(bodies)) + data + names + b"".join(
@@ -103,15 +103,21 @@ def with_places(some):
     return [(lent(number, dwords), kind, dwords) for number, (_, kind, dwords) in enumerate(some)]
 
 
-def judge_packet(tally, given, oracle, ours, expected):
-    """Where document 01 goes beyond the Rust (24, 26) the reading decides, else the Rust."""
+def beyond_rust(said, oracle):
+    """Numbers that the Rust lacks: 24 where it has no earlier one, 26 where it has none."""
+    allowed = {"refused 24": ("packet ", "panic 25"), "refused 26": ("packet ",)}
+    return oracle.startswith(allowed.get(said, ()))
+
+
+def judge_packet(tally, given, oracle, ours, said):
+    """The Rust decides, but for the two numbers that it lacks: there the second reading does."""
     name, kind, dwords = given
-    beyond_rust = expected in ("refused 24", "refused 26")
-    if not beyond_rust:
-        expected = oracle.replace("panic ", "refused ").replace("none ", "refused ")
+    outside = beyond_rust(said, oracle)
+    rust = oracle.replace("panic ", "refused ").replace("none ", "refused ")
+    expected = said if outside else rust
     if ours != expected:
         return tally.differ(name, packet_generator.body(kind, dwords), expected, ours)
-    if beyond_rust:
+    if outside:
         return tally.beyond(name, ours)
     return tally.same(name, "packet" if ours.startswith("packet ") else ours)
 
@@ -123,8 +129,8 @@ def judge_book(tally, name, data, some, answers):
     tally.books[name] += 1
     for number, (given, oracle, ours) in enumerate(zip(some, said, answers)):
         _, kind, dwords = given
-        expected = packet_reading.answer_over(book, kind, dwords, lent(number, dwords))
-        judge_packet(tally, given, oracle, ours, expected)
+        reading_says = packet_reading.answer_over(book, kind, dwords, lent(number, dwords))
+        judge_packet(tally, given, oracle, ours, reading_says)
         tally.branches.update(packets.branches(ours, typed))
 
 
@@ -144,7 +150,8 @@ def compare_packets(seed, book_count, count):
     for index, (name, tables) in enumerate(good):
         data = encoded(tables)
         share = packets.FEW if len(data) > packets.LARGE else count / len(good)
-        chosen.append((name, data, list(packet_generator.generate(seed * 100_000 + index, share, data))))
+        some = list(packet_generator.generate(seed * 100_000 + index, share, data))
+        chosen.append((name, data, some))
         if len(chosen) == BOOKS_AT_ONCE:
             judge_books(tally, chosen)
             chosen = []

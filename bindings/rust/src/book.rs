@@ -1,7 +1,7 @@
 //! The book of field descriptions.
 use crate::{Refusal, raw};
 
-/// A book that passed the check of its grammar. Packets will be described by one, and the check is then made once for all of them.
+/// A book that passed the check of its grammar. Packets are described by one ([`crate::Entry::packet`]): its grammar is known to hold before any is asked.
 #[derive(Clone, Copy, Debug)]
 pub struct Book<'b> {
     bytes: &'b [u8],

@@ -1,6 +1,6 @@
 //! The entry: what a line or a record says.
 use crate::raw::{self, RawEntry};
-use crate::{Event, Pdf, Refusal};
+use crate::{Book, ControlPacket, Event, Pdf, Refusal};
 
 /// Seconds, and microseconds as they stand in the line.
 #[derive(Clone, Copy, Debug, PartialEq, Eq)]
@@ -50,6 +50,18 @@ impl<'t, 's> Entry<'t, 's> {
     /// The entry's record into the first bytes of the buffer, and how many bytes it has. A refusal leaves the buffer as it was.
     pub fn write(&self, out: &mut [u8]) -> Result<usize, Refusal> {
         raw::record_write(self.text, self.raw, self.data, out).map_err(Refusal::from_number)
+    }
+
+    /// The entry's packet over a checked book; the first places take where the book describes each dword.
+    pub fn packet<'a>(
+        &self,
+        book: Book<'a>,
+        places: &'a mut [u32],
+    ) -> Result<ControlPacket<'a>, Refusal>
+    where
+        's: 'a,
+    {
+        ControlPacket::parse(self.pdf(), book, self.data, places)
     }
 
     fn part(&self, at: usize, len: usize) -> &'t str {

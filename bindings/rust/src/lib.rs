@@ -20,6 +20,7 @@
 mod book;
 mod entry;
 mod event;
+mod packet;
 mod pdf;
 mod raw;
 mod refusal;
@@ -27,6 +28,7 @@ mod refusal;
 pub use book::Book;
 pub use entry::{Entry, Timestamp};
 pub use event::Event;
+pub use packet::{ControlPacket, Field, Name, Range, Source};
 pub use pdf::Pdf;
 pub use refusal::Refusal;
 

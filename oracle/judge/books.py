@@ -2,7 +2,7 @@
 
 from generate import books as generator
 from generate.broken import RULES
-from judge.tally import Tally, ask
+from judge.tally import Tally, ask, in_parts
 from reading import book as reading
 
 AT_ONCE = 500
@@ -28,11 +28,6 @@ def judge_all(tally, some):
 
 def compare(seed, count):
     tally = Tally()
-    some = []
-    for case in generator.generate(seed, count):
-        some.append(case)
-        if len(some) == AT_ONCE:
-            judge_all(tally, some)
-            some = []
-    judge_all(tally, some)
+    for some in in_parts(generator.generate(seed, count), AT_ONCE):
+        judge_all(tally, some)
     return tally

@@ -9,7 +9,7 @@ from generate import books, lines as generator, packets as packet_generator
 from generate.tree import encoded
 from judge import packets
 from judge.lines import beyond
-from judge.tally import Tally, ask
+from judge.tally import Tally, ask, in_parts
 from reading import line as reading, packet as packet_reading
 from reading.book import read_book
 from reading.texts import Refused
@@ -65,13 +65,7 @@ def judge_all(tally, some):
 
 def compare(seed, count, short):
     tally = Tally()
-    some = []
-    for case in generator.generate(seed, count, short):
-        some.append(case)
-        if len(some) == AT_ONCE:
-            judge_all(tally, some)
-            some = []
-    if some:
+    for some in in_parts(generator.generate(seed, count, short), AT_ONCE):
         judge_all(tally, some)
     return tally
 
@@ -143,18 +137,17 @@ def judge_books(tally, chosen):
         del answers[:len(some)]
 
 
-def compare_packets(seed, book_count, count):
-    tally = Tally()
-    chosen = []
+def with_packets(seed, book_count, count):
+    """Good books, each with packets aimed at it."""
     good = list(books.good(seed, book_count))
     for index, (name, tables) in enumerate(good):
         data = encoded(tables)
         share = packets.FEW if len(data) > packets.LARGE else count / len(good)
-        some = list(packet_generator.generate(seed * 100_000 + index, share, data))
-        chosen.append((name, data, some))
-        if len(chosen) == BOOKS_AT_ONCE:
-            judge_books(tally, chosen)
-            chosen = []
-    if chosen:
+        yield name, data, list(packet_generator.generate(seed * 100_000 + index, share, data))
+
+
+def compare_packets(seed, book_count, count):
+    tally = Tally()
+    for chosen in in_parts(with_packets(seed, book_count, count), BOOKS_AT_ONCE):
         judge_books(tally, chosen)
     return tally

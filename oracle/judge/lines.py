@@ -1,7 +1,7 @@
 """Lines: inside the limits both must say the same, beyond them each by its own rule."""
 
 from generate import lines as generator
-from judge.tally import Tally, ask
+from judge.tally import Tally, ask, in_parts
 from reading import line as reading
 
 AT_ONCE = 20_000
@@ -43,13 +43,8 @@ def judge(tally, name, line, oracle):
 
 def compare(seed, count, short):
     tally = Tally()
-    some = []
-    for case in generator.generate(seed, count, short):
-        some.append(case)
-        if len(some) == AT_ONCE:
-            judge_all(tally, some)
-            some = []
-    judge_all(tally, some)
+    for some in in_parts(generator.generate(seed, count, short), AT_ONCE):
+        judge_all(tally, some)
     return tally
 
 

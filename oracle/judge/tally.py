@@ -5,12 +5,20 @@ import subprocess
 import tempfile
 import time
 from collections import Counter
+from itertools import islice
 
 from generate.seed import frame
 
 HERE = os.path.dirname(os.path.abspath(__file__))
 ORACLE = os.path.join(HERE, "..", "target", "release", "oracle")
 SHOWN = 20
+
+
+def in_parts(cases, most):
+    """The cases in lists of at most so many, so that a run of any length fits in memory."""
+    cases = iter(cases)
+    while part := list(islice(cases, most)):
+        yield part
 
 
 def ask(command, bodies, *before):

@@ -1,4 +1,7 @@
 // A field of a row: its name, and its value or a dash for none. Each call hands back the place behind what it put, which is in the buffer.
+//
+// These are helpers of the replaying programs, below their outer surface: each asks for a place inside the buffer, which the call before it
+// promised, so that no call tests again what is known. Their contracts are bounds; what they print is compared with the oracle in the gate.
 use entry::events::Name;
 use entry::events::name_of;
 use entry::optional::MaybeByte;

@@ -10,7 +10,8 @@ pub fn least(a: usize, b: usize) -> usize
     if a < b { a } else { b }
 }
 
-// So many behind a place, as far as the list goes.
+// So many behind a place, as far as the list goes. Used in this crate alone (the module is private): a packet starts where the one before it
+// was cut, so the place is inside the list.
 pub fn cut(from: usize, count: usize, len: usize) -> usize
     requires { ⌜ from ≤ len ⌝ }
     ensures { λ r. ⌜ Cut from count len r ⌝ }

@@ -1,4 +1,5 @@
 -- `make_room` meets its contract: what waits lies in the buffer. Assumes nothing.
+use borrow.Author.Tests.{lt-ltb, le-ltb}
 use mathlib.Core.Path.{sym}
 use lib.Seq.{length-take-le}
 use native.Mathlib.Omega.{arith}
@@ -16,10 +17,10 @@ write-all-requires : tie.Need-write-all-requires
 write-all-requires c κs = search needs
 
 returns : tie.Need-returns
-returns c = search needs
+returns c = (rw (lt-ltb _ _ (c .before .before .if1 .taken)), omega (arith, c .before .before .before .before .pre .0))
 
 returns-2 : tie.Need-returns-2
-returns-2 c = search needs
+returns-2 c = (rw (le-ltb _ _ (c .if1 .left)), omega (arith, c .if1 .left, c .before .before .pre .1))
 
 pub make-room-spec : {M : Type 1} → statement M
 make-room-spec =

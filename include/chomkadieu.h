@@ -145,6 +145,11 @@ typedef struct ck_packet_answer {
 ck_packet_answer ck_packet(uint8_t kind, const uint8_t *book, size_t book_len, const uint32_t *dwords, size_t dwords_len, uint32_t *places,
                            size_t places_len);
 
+/* The same over a book that ck_book_check accepted, without a second check: a twentieth of the time. Any other book is taken too, and no memory
+ * but the places is written; then the answer is what its fields say as far as they can be read, or 20 if it has more than 65,535 bytes. */
+ck_packet_answer ck_checked_packet(uint8_t kind, const uint8_t *book, size_t book_len, const uint32_t *dwords, size_t dwords_len, uint32_t *places,
+                                   size_t places_len);
+
 /* A text's packet, or why there is none. */
 typedef struct ck_text_packet {
     uint8_t kind;              /* the packet's kind, 0 if it is refused */
@@ -210,6 +215,12 @@ typedef struct ck_range_answer {
     uint32_t value;        /* the value of these bits in the dword */
     size_t place;          /* its place in the book: for ck_name and ck_value_name */
 } ck_range_answer;
+
+/* A part of the book that is a name. */
+typedef struct ck_name_part {
+    size_t at;             /* where it starts in the book, 0 for no name */
+    size_t len;            /* how many bytes it has, 0 for no name */
+} ck_name_part;
 
 /* The first dword above the second; 27 if there are fewer than two. */
 ck_value ck_packet_route(uint8_t kind, const uint8_t *book, size_t book_len, const uint32_t *dwords, size_t dwords_len);
@@ -317,6 +328,12 @@ ck_range_answer ck_range(const uint8_t *book, size_t book_len, size_t entry, uin
 
 /* The entry's first bit range of that name, likewise. */
 ck_range_answer ck_range_named(const uint8_t *book, size_t book_len, size_t entry, uint32_t dword, const uint8_t *name, size_t name_len);
+
+/* Where the name of the entry, bit range or value at a place stands in the book, so that it can be read there. It lies inside the book. */
+ck_name_part ck_name_at(const uint8_t *book, size_t book_len, size_t place);
+
+/* The place of the value that the bit range at a place gives to a number, 0 for none: for ck_name_at and ck_name. */
+size_t ck_value_at(const uint8_t *book, size_t book_len, size_t range, uint32_t number);
 
 /* The name of the entry, bit range or value at a place into the first bytes lent, if all of it fits, else none changes. The answer is its
  * length, 0 for none; with 255 bytes lent each name of a checked book fits. */

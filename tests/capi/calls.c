@@ -281,6 +281,72 @@ static void fields(void) {
     see(ck_value_name(book, book_len, space.place, 4, out, ROOM) == 0 && ck_name(book, book_len, 0, out, ROOM) == 0 && unwritten(0), "no name");
 }
 
+/* Where names stand, for whoever reads them in the book. */
+static void names(void) {
+    static const uint32_t read[] = {0, 0, 0x04002001};
+    uint32_t *places = fresh_slots();
+    ck_packet(PACKET(1, read), places, SLOTS);
+    ck_range_answer space = ck_range_named(book, book_len, places[2], read[2], NAME("Configuration Space"));
+    ck_name_part low = ck_name_at(book, book_len, places[1]), range = ck_name_at(book, book_len, space.place);
+    see(low.len == 16 && !memcmp(book + low.at, "Route String Low", 16), "an entry's name in the book");
+    see(range.len == 19 && !memcmp(book + range.at, "Configuration Space", 19), "a bit range's");
+    ck_name_part router = ck_name_at(book, book_len, ck_value_at(book, book_len, space.place, 2));
+    see(router.len == 6 && !memcmp(book + router.at, "Router", 6), "a value's");
+    ck_name_part none[] = {ck_name_at(book, book_len, 0), ck_name_at(book, book_len, places[2]), ck_name_at(book, book_len, SIZE_MAX)};
+    for (size_t i = 0; i < 3; i++) see(none[i].at == 0 && none[i].len == 0, "no name is at 0 with no byte");
+    see(ck_value_at(book, book_len, space.place, 4) == 0 && ck_value_at(book, book_len, 0, 2) == 0, "no such value");
+}
+
+/* A book that was checked is not checked again; any other is taken too. */
+static void checked(void) {
+    static const uint32_t reply[] = {0x80000000, 1, 0x04002001, 7, 8};
+    static const uint8_t zeros[65536];
+    for (uint8_t kind = 0; kind < 14; kind++) {
+        uint32_t kept[SLOTS], *places = fresh_slots();
+        ck_packet_answer p = ck_packet(PACKET(kind, reply), places, SLOTS);
+        memcpy(kept, places, sizeof kept);
+        places = fresh_slots();
+        ck_packet_answer q = ck_checked_packet(PACKET(kind, reply), places, SLOTS);
+        see(p.number == q.number && p.start == q.start && p.has_uuid == q.has_uuid && !memcmp(kept, places, sizeof kept) && untouched(p.number ? 0 : 5),
+            "the same with and without a check");
+    }
+    uint32_t *places = fresh_slots();
+    see(ck_checked_packet(2, bytes("x"), 1, reply, 5, places, SLOTS).number == CK_NO_TABLE && untouched(0), "no book has no table");
+    see(ck_checked_packet(2, zeros, 65536, reply, 5, places, SLOTS).number == CK_BAD_BOOK && untouched(0), "a book that is too long");
+}
+
+/* Many packets in one call. */
+static void batches(void) {
+    static const uint8_t kinds[] = {1, 0, 2};
+    static const uint32_t counts[] = {3, 1, 5}, dwords[] = {0, 0, 0x04002001, 9, 0x80000000, 1, 0x04002001, 7, 8};
+    uint32_t codes[3] = {5, 5, 5}, *places = fresh_slots();
+    size_t n = ck_packet_all(book, book_len, kinds, 3, counts, 3, dwords, 9, places, 9, codes, 3);
+    see(n == 3 && codes[0] == 65536 && codes[1] == 65536 + CK_NO_KIND && codes[2] == 3, "no view, no kind, and a view from 3");
+    see(places[0] && places[2] && places[3] == 0xdeadbeef && places[4] && !places[8] && untouched(9), "places where the dwords stand");
+    places = fresh_slots();
+    n = ck_packet_all(bytes("x"), 1, kinds, 3, counts, 2, dwords, 9, places, 9, codes, 3);
+    see(n == 2 && codes[0] == 65536 + CK_BAD_BOOK && codes[1] == 65536 + CK_BAD_BOOK && codes[2] == 3 && untouched(0), "no book, two packets");
+}
+
+/* A line and its record have one packet. */
+static void texts(void) {
+    uint32_t slots[SLOTS] = {0}, places[SLOTS], other_slots[SLOTS] = {0}, other_places[SLOTS];
+    memset(places, 0xee, sizeof places);
+    memset(other_places, 0xee, sizeof other_places);
+    ck_entry_answer a = ck_parse(bytes(FWD), sizeof FWD - 1, slots, SLOTS);
+    static uint8_t record[CK_MOST_BYTES];
+    ck_write_answer w = ck_record_write(bytes(FWD), sizeof FWD - 1, a.entry, slots, a.entry.dwords, record, sizeof record);
+    ck_text_packet l = ck_read_packet(bytes(FWD), sizeof FWD - 1, book, book_len, slots, SLOTS, places, SLOTS);
+    ck_text_packet r = ck_read_packet(record, w.bytes, book, book_len, other_slots, SLOTS, other_places, SLOTS);
+    see(l.packet.number == CK_OK && l.kind == 1 && l.dwords == 3 && slots[2] == 0x04002001 && places[2] != 0 && places[3] == 0xeeeeeeee, "a line's packet");
+    see(r.packet.number == CK_OK && r.kind == l.kind && r.dwords == l.dwords && r.packet.start == l.packet.start, "its record's");
+    see(!memcmp(slots, other_slots, sizeof slots) && !memcmp(places, other_places, sizeof places), "the same dwords and places");
+    uint32_t *kept = fresh_slots();
+    ck_text_packet none = ck_read_packet(bytes(FWD), sizeof FWD - 1, bytes("x"), 1, kept, SLOTS, other_places, SLOTS);
+    see(none.packet.number == CK_BAD_BOOK && none.kind == 0 && none.dwords == 0 && untouched(0), "no book: no slot is touched");
+    see(!memcmp(places, other_places, sizeof places), "and no place");
+}
+
 /* An inter-domain packet: the discovery protocol's properties request. */
 static void crossing(void) {
     uint32_t request[16] = {0, 1, 14, 0x0ed738b6, 0xbb40ff42, 0xe290c297, 0x07ffb2c0, 3};
@@ -317,6 +383,10 @@ int main(int count, char **words) {
     books();
     packets();
     fields();
+    names();
+    checked();
+    batches();
+    texts();
     crossing();
     printf("%u passed, %u failed\n", passed, failed);
     return failed != 0;

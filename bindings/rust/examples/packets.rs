@@ -28,7 +28,7 @@ fn show(out: &mut impl Write, packet: &ControlPacket) -> io::Result<()> {
             "{:>3} {:08x} {}",
             field.offset(),
             field.value(),
-            field.name()
+            field.name().unwrap_or_default()
         )?;
         for range in field.ranges() {
             writeln!(
@@ -36,7 +36,7 @@ fn show(out: &mut impl Write, packet: &ControlPacket) -> io::Result<()> {
                 "      {:<24} {} {}",
                 range.name(),
                 range.value(),
-                range.value_name()
+                range.value_name().unwrap_or_default()
             )?;
         }
     }

@@ -28,7 +28,7 @@ mod refusal;
 pub use book::Book;
 pub use entry::{Entry, Timestamp};
 pub use event::Event;
-pub use packet::{ControlPacket, Field, Name, Range, Source};
+pub use packet::{ControlPacket, Field, Range, Source};
 pub use pdf::Pdf;
 pub use refusal::Refusal;
 

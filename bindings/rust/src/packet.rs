@@ -1,13 +1,12 @@
 //! Packets: an entry's dwords, described by a book.
 use crate::raw::{self, Described, RawField, RawRange};
 use crate::{Book, Pdf, Refusal};
-use core::fmt;
 
 /// A packet over a checked book. It borrows the book, the dwords and the places that it was described into.
 #[derive(Clone, Copy, Debug)]
 pub struct ControlPacket<'a> {
     described: Described<'a>,
-    start: Option<usize>,
+    start: Option<u16>,
     uuid: Option<[u32; 4]>,
 }
 
@@ -36,6 +35,11 @@ impl<'a> ControlPacket<'a> {
         })
     }
 
+    /// The packet's kind.
+    pub fn pdf(&self) -> Pdf {
+        Pdf::from_kind(self.described.kind)
+    }
+
     /// The first dword above the second, or [`Refusal::NoPacketRoute`].
     pub fn route(&self) -> Result<u64, Refusal> {
         one(self.described.route())
@@ -62,13 +66,28 @@ impl<'a> ControlPacket<'a> {
     }
 
     /// Where the data starts.
-    pub fn data_start(&self) -> Option<usize> {
+    pub fn data_start(&self) -> Option<u16> {
         self.start
     }
 
-    /// The data: the dwords from its start on.
+    /// The data: the dwords from its start on. They are the original ones, cut once.
     pub fn data(&self) -> Option<&'a [u32]> {
-        self.described.dwords.get(self.start?..)
+        self.described.dwords.get(self.start?.into()..)
+    }
+
+    /// Is it a read, request or response?
+    pub fn is_read(&self) -> bool {
+        matches!(self.pdf(), Pdf::ReadRequest | Pdf::ReadResponse)
+    }
+
+    /// Is it a write, request or response?
+    pub fn is_write(&self) -> bool {
+        matches!(self.pdf(), Pdf::WriteRequest | Pdf::WriteResponse)
+    }
+
+    /// Is it an inter-domain packet?
+    pub fn is_xdomain(&self) -> bool {
+        matches!(self.pdf(), Pdf::XdomainRequest | Pdf::XdomainResponse)
     }
 
     /// The UUID that chose the protocol, four dwords.
@@ -82,9 +101,10 @@ impl<'a> ControlPacket<'a> {
     }
 
     /// The packet type, its number and name; [`Refusal::UnnamedType`] if the number has none.
-    pub fn packet_type(&self) -> Result<Option<(u32, Name)>, Refusal> {
+    pub fn packet_type(&self) -> Result<Option<(u32, &'a str)>, Refusal> {
         let told = self.described.packet_type().map_err(Refusal::from_number)?;
-        Ok(told.map(|(value, place)| (value, Name::at(self.described.book, place))))
+        let book = self.described.book;
+        Ok(told.map(|(value, place)| (value, raw::name(book, place).unwrap_or_default())))
     }
 
     /// The value of the first bit range of that name.
@@ -98,8 +118,13 @@ impl<'a> ControlPacket<'a> {
         (0..described.dwords.len()).map_while(move |i| field(described, described.field(i as u16)))
     }
 
+    /// For each dword the place in the book of the entry that describes it, 0 for none.
+    pub fn places(&self) -> &'a [u32] {
+        self.described.places
+    }
+
     /// The field at an offset.
-    pub fn field(&self, offset: u16) -> Option<Field<'a>> {
+    pub fn field_by_offset(&self, offset: u16) -> Option<Field<'a>> {
         field(self.described, self.described.field(offset))
     }
 
@@ -179,9 +204,9 @@ impl<'a> Field<'a> {
         }
     }
 
-    /// Its name, empty if it has none.
-    pub fn name(&self) -> Name {
-        Name::at(self.book, self.raw.entry)
+    /// Its name, a part of the book.
+    pub fn name(&self) -> Option<&'a str> {
+        raw::name(self.book, self.raw.entry)
     }
 
     /// Its bit ranges, in the book's order.
@@ -207,7 +232,7 @@ pub struct Range<'a> {
     book: &'a [u8],
 }
 
-impl Range<'_> {
+impl<'a> Range<'a> {
     /// Its lowest bit.
     pub fn low(&self) -> u8 {
         self.raw.low
@@ -223,58 +248,13 @@ impl Range<'_> {
         self.raw.value
     }
 
-    /// Its name.
-    pub fn name(&self) -> Name {
-        Name::at(self.book, self.raw.place)
+    /// Its name, a part of the book.
+    pub fn name(&self) -> &'a str {
+        raw::name(self.book, self.raw.place).unwrap_or_default()
     }
 
-    /// The name of its value, empty if it has none.
-    pub fn value_name(&self) -> Name {
-        Name::by(|out| raw::value_name(self.book, self.raw.place, self.raw.value, out))
-    }
-}
-
-/// A name of the book, copied: at most 255 bytes, ASCII.
-#[derive(Clone, Copy)]
-pub struct Name {
-    bytes: [u8; 255],
-    len: usize,
-}
-
-impl Name {
-    fn at(book: &[u8], place: usize) -> Self {
-        Self::by(|out| raw::name(book, place, out))
-    }
-
-    fn by(copy: impl Fn(&mut [u8]) -> usize) -> Self {
-        let mut bytes = [0; 255];
-        let len = copy(&mut bytes);
-        Self { bytes, len }
-    }
-
-    /// Its text.
-    pub fn as_str(&self) -> &str {
-        // A checked book's names fit and are ASCII; were one not, this would be empty and no harm done.
-        self.bytes
-            .get(..self.len)
-            .and_then(|name| core::str::from_utf8(name).ok())
-            .unwrap_or_default()
-    }
-
-    /// Is there no name?
-    pub fn is_empty(&self) -> bool {
-        self.len == 0
-    }
-}
-
-impl fmt::Display for Name {
-    fn fmt(&self, f: &mut fmt::Formatter<'_>) -> fmt::Result {
-        f.pad(self.as_str())
-    }
-}
-
-impl fmt::Debug for Name {
-    fn fmt(&self, f: &mut fmt::Formatter<'_>) -> fmt::Result {
-        fmt::Debug::fmt(self.as_str(), f)
+    /// The name of its value, where it has one.
+    pub fn value_name(&self) -> Option<&'a str> {
+        raw::value_name(self.book, self.raw.place, self.raw.value)
     }
 }

@@ -1,73 +1,53 @@
 //! Kinds of packets.
 use core::fmt;
 
-/// The kind of a packet, with document 01's number, which is not the wire's.
-#[derive(Clone, Copy, Debug, PartialEq, Eq, Hash)]
-#[repr(u8)]
-#[allow(missing_docs)]
-pub enum Pdf {
-    Unknown = 0,
-    ReadRequest = 1,
-    ReadResponse = 2,
-    WriteRequest = 3,
-    WriteResponse = 4,
-    Error = 5,
-    NotifyAck = 6,
-    Event = 7,
-    XdomainRequest = 8,
-    XdomainResponse = 9,
-    IcmEvent = 10,
-    IcmCommand = 11,
-    IcmResponse = 12,
+/// One row a kind: its case, document 01's number, which is not the wire's, and what it is called.
+macro_rules! kinds {
+    ($($case:ident = $kind:literal, $name:literal;)*) => {
+        /// The kind of a packet. Its number is document 01's, which is not the wire's.
+        #[derive(Clone, Copy, Debug, PartialEq, Eq, Hash)]
+        #[repr(u8)]
+        pub enum Pdf {
+            $(#[doc = concat!("Kind ", $kind, ": ", $name, ".")] $case = $kind,)*
+        }
+
+        impl Pdf {
+            /// The kind of a number; none has one above 12.
+            pub(crate) fn from_kind(kind: u8) -> Self {
+                match kind {
+                    $($kind => Pdf::$case,)*
+                    _ => Pdf::Unknown,
+                }
+            }
+
+            /// Its number.
+            pub fn kind(self) -> u8 {
+                self as u8
+            }
+        }
+
+        impl fmt::Display for Pdf {
+            fn fmt(&self, f: &mut fmt::Formatter<'_>) -> fmt::Result {
+                f.pad(match self {
+                    $(Pdf::$case => $name,)*
+                })
+            }
+        }
+    };
 }
 
-impl Pdf {
-    const ALL: [Pdf; 13] = [
-        Pdf::Unknown,
-        Pdf::ReadRequest,
-        Pdf::ReadResponse,
-        Pdf::WriteRequest,
-        Pdf::WriteResponse,
-        Pdf::Error,
-        Pdf::NotifyAck,
-        Pdf::Event,
-        Pdf::XdomainRequest,
-        Pdf::XdomainResponse,
-        Pdf::IcmEvent,
-        Pdf::IcmCommand,
-        Pdf::IcmResponse,
-    ];
-
-    /// The kind of a number; none has one above 12.
-    pub(crate) fn from_kind(kind: u8) -> Self {
-        Self::ALL
-            .get(usize::from(kind))
-            .copied()
-            .unwrap_or(Pdf::Unknown)
-    }
-
-    /// Its number.
-    pub fn kind(self) -> u8 {
-        self as u8
-    }
-}
-
-impl fmt::Display for Pdf {
-    fn fmt(&self, f: &mut fmt::Formatter<'_>) -> fmt::Result {
-        f.pad(match self {
-            Pdf::Unknown => "unknown",
-            Pdf::ReadRequest => "read request",
-            Pdf::ReadResponse => "read response",
-            Pdf::WriteRequest => "write request",
-            Pdf::WriteResponse => "write response",
-            Pdf::Error => "error",
-            Pdf::NotifyAck => "notification acknowledged",
-            Pdf::Event => "hot plug event",
-            Pdf::XdomainRequest => "inter-domain request",
-            Pdf::XdomainResponse => "inter-domain response",
-            Pdf::IcmEvent => "ICM event",
-            Pdf::IcmCommand => "ICM command",
-            Pdf::IcmResponse => "ICM response",
-        })
-    }
+kinds! {
+    Unknown = 0, "unknown";
+    ReadRequest = 1, "read request";
+    ReadResponse = 2, "read response";
+    WriteRequest = 3, "write request";
+    WriteResponse = 4, "write response";
+    Notification = 5, "notification";
+    NotificationAck = 6, "notification acknowledged";
+    HotPlugEvent = 7, "hot plug event";
+    XdomainRequest = 8, "inter-domain request";
+    XdomainResponse = 9, "inter-domain response";
+    IcmEvent = 10, "ICM event";
+    IcmRequest = 11, "ICM request";
+    IcmResponse = 12, "ICM response";
 }

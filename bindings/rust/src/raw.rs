@@ -30,22 +30,30 @@ pub struct RawEntry {
     pub dwords: usize,
 }
 
+/// `ck_entry_answer`.
 #[repr(C)]
-struct EntryAnswer {
+pub struct EntryAnswer {
     number: u8,
     entry: RawEntry,
 }
 
+/// `ck_write_answer`.
 #[repr(C)]
-struct WriteAnswer {
+pub struct WriteAnswer {
     number: u8,
     bytes: usize,
 }
 
-/// `ck_packet_answer`.
-#[derive(Clone, Copy, Debug)]
+/// `ck_event_text`.
 #[repr(C)]
-pub struct RawPacket {
+pub struct EventText {
+    pub bytes: [u8; 14],
+    pub len: usize,
+}
+
+/// `ck_packet_answer`.
+#[repr(C)]
+pub struct PacketAnswer {
     number: u8,
     start: u32,
     has_uuid: u8,
@@ -54,7 +62,7 @@ pub struct RawPacket {
 
 /// `ck_value`.
 #[repr(C)]
-struct Value {
+pub struct Value {
     number: u8,
     present: u8,
     value: u64,
@@ -62,7 +70,7 @@ struct Value {
 
 /// `ck_uuid`.
 #[repr(C)]
-struct Uuid {
+pub struct Uuid {
     number: u8,
     present: u8,
     dwords: [u32; 4],
@@ -70,7 +78,7 @@ struct Uuid {
 
 /// `ck_type`.
 #[repr(C)]
-struct Type {
+pub struct Type {
     number: u8,
     present: u8,
     value: u32,
@@ -100,149 +108,66 @@ pub struct RawRange {
     pub place: usize,
 }
 
-/// `ck_event_text`.
+/// `ck_name_part`.
 #[repr(C)]
-pub struct EventText {
-    pub bytes: [u8; 14],
-    pub len: usize,
+pub struct NamePart {
+    at: usize,
+    len: usize,
 }
 
-type Reader = unsafe extern "C" fn(*const u8, usize, *mut u32, usize) -> EntryAnswer;
+/// One row a call, as the header has it: a slice stands in brackets, and C takes it as a pointer and a length. Each row makes the declaration and
+/// a safe function of the same name over it.
+macro_rules! calls {
+    ($($name:ident($($given:tt)*) -> $answer:ty;)*) => {
+        $(calls!(@ $name $answer; () () (); $($given)*);)*
+    };
+    (@ $name:ident $answer:ty; ($($declared:tt)*) ($($taken:tt)*) ($($passed:tt)*);) => {
+        fn $name($($taken)*) -> $answer {
+            unsafe extern "C" {
+                fn $name($($declared)*) -> $answer;
+            }
+            // SAFETY: a slice is valid for its length, also an empty one, and a `&mut` overlaps nothing. The call takes any input, keeps no
+            // pointer, and writes only inside what it is lent for writing (proved).
+            unsafe { $name($($passed)*) }
+        }
+    };
+    (@ $name:ident $answer:ty; ($($d:tt)*) ($($t:tt)*) ($($p:tt)*); [mut $s:ident: $of:ty] $(, $($rest:tt)*)?) => {
+        calls!(@ $name $answer; ($($d)* $s: *mut $of, _: usize,) ($($t)* $s: &mut [$of],) ($($p)* $s.as_mut_ptr(), $s.len(),); $($($rest)*)?);
+    };
+    (@ $name:ident $answer:ty; ($($d:tt)*) ($($t:tt)*) ($($p:tt)*); [$s:ident: $of:ty] $(, $($rest:tt)*)?) => {
+        calls!(@ $name $answer; ($($d)* $s: *const $of, _: usize,) ($($t)* $s: &[$of],) ($($p)* $s.as_ptr(), $s.len(),); $($($rest)*)?);
+    };
+    (@ $name:ident $answer:ty; ($($d:tt)*) ($($t:tt)*) ($($p:tt)*); $n:ident: $of:ty $(, $($rest:tt)*)?) => {
+        calls!(@ $name $answer; ($($d)* $n: $of,) ($($t)* $n: $of,) ($($p)* $n,); $($($rest)*)?);
+    };
+}
 
-unsafe extern "C" {
-    fn ck_parse(line: *const u8, length: usize, slots: *mut u32, count: usize) -> EntryAnswer;
-    fn ck_record_read(text: *const u8, length: usize, slots: *mut u32, count: usize)
-    -> EntryAnswer;
-    fn ck_read(text: *const u8, length: usize, slots: *mut u32, count: usize) -> EntryAnswer;
-    fn ck_record_write(
-        text: *const u8,
-        length: usize,
-        entry: RawEntry,
-        dwords: *const u32,
-        count: usize,
-        out: *mut u8,
-        room: usize,
-    ) -> WriteAnswer;
-    fn ck_book_check(book: *const u8, length: usize) -> u8;
-    fn ck_event_name(code: u8) -> EventText;
-    fn ck_adapter_num(entry: RawEntry) -> u32;
-    fn ck_unplug(entry: RawEntry) -> u32;
-    fn ck_packet(
-        k: u8,
-        b: *const u8,
-        bn: usize,
-        d: *const u32,
-        dn: usize,
-        p: *mut u32,
-        pn: usize,
-    ) -> RawPacket;
-    fn ck_described_route(d: *const u32, dn: usize) -> Value;
-    fn ck_described_cm(d: *const u32, dn: usize) -> Value;
-    fn ck_described_value(
-        b: *const u8,
-        bn: usize,
-        d: *const u32,
-        dn: usize,
-        p: *const u32,
-        pn: usize,
-        n: *const u8,
-        nn: usize,
-    ) -> Value;
-    fn ck_described_adapter_num(
-        b: *const u8,
-        bn: usize,
-        d: *const u32,
-        dn: usize,
-        p: *const u32,
-        pn: usize,
-    ) -> Value;
-    fn ck_described_data_address(
-        k: u8,
-        b: *const u8,
-        bn: usize,
-        d: *const u32,
-        dn: usize,
-        p: *const u32,
-        pn: usize,
-    ) -> Value;
-    fn ck_described_data_size(
-        k: u8,
-        b: *const u8,
-        bn: usize,
-        d: *const u32,
-        dn: usize,
-        p: *const u32,
-        pn: usize,
-    ) -> Value;
-    fn ck_described_uuid_by_name(
-        b: *const u8,
-        bn: usize,
-        d: *const u32,
-        dn: usize,
-        p: *const u32,
-        pn: usize,
-        n: *const u8,
-        nn: usize,
-    ) -> Uuid;
-    fn ck_described_type(
-        b: *const u8,
-        bn: usize,
-        d: *const u32,
-        dn: usize,
-        p: *const u32,
-        pn: usize,
-    ) -> Type;
-    fn ck_described_field(
-        k: u8,
-        b: *const u8,
-        bn: usize,
-        d: *const u32,
-        dn: usize,
-        p: *const u32,
-        pn: usize,
-        i: u16,
-    ) -> RawField;
-    fn ck_described_field_by_name(
-        k: u8,
-        b: *const u8,
-        bn: usize,
-        d: *const u32,
-        dn: usize,
-        p: *const u32,
-        pn: usize,
-        n: *const u8,
-        nn: usize,
-    ) -> RawField;
-    fn ck_described_field_by_range(
-        k: u8,
-        b: *const u8,
-        bn: usize,
-        d: *const u32,
-        dn: usize,
-        p: *const u32,
-        pn: usize,
-        n: *const u8,
-        nn: usize,
-    ) -> RawField;
-    fn ck_range_count(b: *const u8, bn: usize, entry: usize) -> usize;
-    fn ck_range(b: *const u8, bn: usize, entry: usize, dword: u32, k: usize) -> RawRange;
-    fn ck_range_named(
-        b: *const u8,
-        bn: usize,
-        entry: usize,
-        dword: u32,
-        n: *const u8,
-        nn: usize,
-    ) -> RawRange;
-    fn ck_name(b: *const u8, bn: usize, place: usize, o: *mut u8, on: usize) -> usize;
-    fn ck_value_name(
-        b: *const u8,
-        bn: usize,
-        range: usize,
-        value: u32,
-        o: *mut u8,
-        on: usize,
-    ) -> usize;
+calls! {
+    ck_parse([line: u8], [mut slots: u32]) -> EntryAnswer;
+    ck_record_read([text: u8], [mut slots: u32]) -> EntryAnswer;
+    ck_read([text: u8], [mut slots: u32]) -> EntryAnswer;
+    ck_record_write([text: u8], entry: RawEntry, [dwords: u32], [mut out: u8]) -> WriteAnswer;
+    ck_book_check([book: u8]) -> u8;
+    ck_event_name(code: u8) -> EventText;
+    ck_adapter_num(entry: RawEntry) -> u32;
+    ck_unplug(entry: RawEntry) -> u32;
+    ck_checked_packet(kind: u8, [book: u8], [dwords: u32], [mut places: u32]) -> PacketAnswer;
+    ck_described_route([dwords: u32]) -> Value;
+    ck_described_cm([dwords: u32]) -> Value;
+    ck_described_value([book: u8], [dwords: u32], [places: u32], [name: u8]) -> Value;
+    ck_described_adapter_num([book: u8], [dwords: u32], [places: u32]) -> Value;
+    ck_described_data_address(kind: u8, [book: u8], [dwords: u32], [places: u32]) -> Value;
+    ck_described_data_size(kind: u8, [book: u8], [dwords: u32], [places: u32]) -> Value;
+    ck_described_uuid_by_name([book: u8], [dwords: u32], [places: u32], [name: u8]) -> Uuid;
+    ck_described_type([book: u8], [dwords: u32], [places: u32]) -> Type;
+    ck_described_field(kind: u8, [book: u8], [dwords: u32], [places: u32], offset: u16) -> RawField;
+    ck_described_field_by_name(kind: u8, [book: u8], [dwords: u32], [places: u32], [name: u8]) -> RawField;
+    ck_described_field_by_range(kind: u8, [book: u8], [dwords: u32], [places: u32], [name: u8]) -> RawField;
+    ck_range_count([book: u8], entry: usize) -> usize;
+    ck_range([book: u8], entry: usize, dword: u32, k: usize) -> RawRange;
+    ck_range_named([book: u8], entry: usize, dword: u32, [name: u8]) -> RawRange;
+    ck_name_at([book: u8], place: usize) -> NamePart;
+    ck_value_at([book: u8], range: usize, number: u32) -> usize;
 }
 
 /// A number other than 0 is the refusal's.
@@ -250,74 +175,57 @@ fn accepted<T>(number: u8, answer: T) -> Result<T, u8> {
     if number == 0 { Ok(answer) } else { Err(number) }
 }
 
-fn call(reader: Reader, text: &[u8], slots: &mut [u32]) -> Result<RawEntry, u8> {
-    // SAFETY: each slice is valid for its length, also an empty one, and a `&mut` overlaps nothing. The call takes any bytes, keeps no pointer
-    // and writes inside the slots only (proved).
-    let answer = unsafe { reader(text.as_ptr(), text.len(), slots.as_mut_ptr(), slots.len()) };
+fn entry(answer: EntryAnswer) -> Result<RawEntry, u8> {
     accepted(answer.number, answer.entry)
 }
 
 pub fn parse(line: &[u8], slots: &mut [u32]) -> Result<RawEntry, u8> {
-    call(ck_parse, line, slots)
+    entry(ck_parse(line, slots))
 }
 
 pub fn record_read(text: &[u8], slots: &mut [u32]) -> Result<RawEntry, u8> {
-    call(ck_record_read, text, slots)
+    entry(ck_record_read(text, slots))
 }
 
 pub fn read(text: &[u8], slots: &mut [u32]) -> Result<RawEntry, u8> {
-    call(ck_read, text, slots)
+    entry(ck_read(text, slots))
 }
 
+/// How many bytes were written.
 pub fn record_write(
     text: &[u8],
     entry: RawEntry,
     dwords: &[u32],
     out: &mut [u8],
 ) -> Result<usize, u8> {
-    // SAFETY: as above; the entry may hold any numbers.
-    let answer = unsafe {
-        ck_record_write(
-            text.as_ptr(),
-            text.len(),
-            entry,
-            dwords.as_ptr(),
-            dwords.len(),
-            out.as_mut_ptr(),
-            out.len(),
-        )
-    };
+    let answer = ck_record_write(text, entry, dwords, out);
     accepted(answer.number, answer.bytes)
 }
 
 pub fn book_check(book: &[u8]) -> Result<(), u8> {
-    // SAFETY: the slice is valid for its length, and the call reads only.
-    accepted(unsafe { ck_book_check(book.as_ptr(), book.len()) }, ())
+    accepted(ck_book_check(book), ())
 }
 
 pub fn event_name(code: u8) -> EventText {
-    // SAFETY: a number goes in, a struct comes back.
-    unsafe { ck_event_name(code) }
+    ck_event_name(code)
 }
 
 pub fn adapter_num(entry: RawEntry) -> Option<u8> {
-    // SAFETY: a struct of numbers goes in, a number comes back.
-    byte(unsafe { ck_adapter_num(entry) })
+    byte(ck_adapter_num(entry))
 }
 
 pub fn unplug(entry: RawEntry) -> Option<bool> {
-    // SAFETY: likewise.
-    byte(unsafe { ck_unplug(entry) }).map(|answer| answer == 1)
+    byte(ck_unplug(entry)).map(|answer| answer == 1)
 }
 
 /// An optional field of one byte.
 pub fn byte(n: u32) -> Option<u8> {
-    if n == NONE { None } else { Some(n as u8) }
+    (n != NONE).then_some(n as u8)
 }
 
 /// An optional field of two bytes.
 pub fn word(n: u32) -> Option<u16> {
-    if n == NONE { None } else { Some(n as u16) }
+    (n != NONE).then_some(n as u16)
 }
 
 /// What a question is told: a value, none, or a refusal's number.
@@ -340,23 +248,13 @@ fn range(r: RawRange) -> Option<RawRange> {
 }
 
 /// Where the data view starts, and the UUID.
-pub type Made = (Option<usize>, Option<[u32; 4]>);
+pub type Made = (Option<u16>, Option<[u32; 4]>);
 
+/// The packet over a book that was checked.
 pub fn packet(kind: u8, book: &[u8], dwords: &[u32], places: &mut [u32]) -> Result<Made, u8> {
-    // SAFETY: as for `call`: slices valid for their lengths, `&mut` overlapping nothing; the call writes inside the places only (proved).
-    let p = unsafe {
-        ck_packet(
-            kind,
-            book.as_ptr(),
-            book.len(),
-            dwords.as_ptr(),
-            dwords.len(),
-            places.as_mut_ptr(),
-            places.len(),
-        )
-    };
-    let start = word(p.start).map(usize::from);
-    accepted(p.number, (start, (p.has_uuid == 1).then_some(p.uuid)))
+    let p = ck_checked_packet(kind, book, dwords, places);
+    let uuid = (p.has_uuid == 1).then_some(p.uuid);
+    accepted(p.number, (word(p.start), uuid))
 }
 
 /// A described packet: what every question takes.
@@ -368,202 +266,91 @@ pub struct Described<'a> {
     pub places: &'a [u32],
 }
 
-// SAFETY of every call below: each slice is valid for its length, also an empty one; the call takes any input, reads only, and keeps nothing.
 impl Described<'_> {
     pub fn route(self) -> Told<u64> {
-        value(unsafe { ck_described_route(self.dwords.as_ptr(), self.dwords.len()) })
+        value(ck_described_route(self.dwords))
     }
 
     pub fn cm(self) -> Told<u64> {
-        value(unsafe { ck_described_cm(self.dwords.as_ptr(), self.dwords.len()) })
+        value(ck_described_cm(self.dwords))
     }
 
     pub fn value(self, name: &[u8]) -> Told<u64> {
-        let (b, d, p) = (self.book, self.dwords, self.places);
-        value(unsafe {
-            ck_described_value(
-                b.as_ptr(),
-                b.len(),
-                d.as_ptr(),
-                d.len(),
-                p.as_ptr(),
-                p.len(),
-                name.as_ptr(),
-                name.len(),
-            )
-        })
+        value(ck_described_value(
+            self.book,
+            self.dwords,
+            self.places,
+            name,
+        ))
     }
 
     pub fn adapter_num(self) -> Told<u64> {
-        let (b, d, p) = (self.book, self.dwords, self.places);
-        value(unsafe {
-            ck_described_adapter_num(
-                b.as_ptr(),
-                b.len(),
-                d.as_ptr(),
-                d.len(),
-                p.as_ptr(),
-                p.len(),
-            )
-        })
+        value(ck_described_adapter_num(
+            self.book,
+            self.dwords,
+            self.places,
+        ))
     }
 
     pub fn data_address(self) -> Told<u64> {
         let (b, d, p) = (self.book, self.dwords, self.places);
-        value(unsafe {
-            ck_described_data_address(
-                self.kind,
-                b.as_ptr(),
-                b.len(),
-                d.as_ptr(),
-                d.len(),
-                p.as_ptr(),
-                p.len(),
-            )
-        })
+        value(ck_described_data_address(self.kind, b, d, p))
     }
 
     pub fn data_size(self) -> Told<u64> {
         let (b, d, p) = (self.book, self.dwords, self.places);
-        value(unsafe {
-            ck_described_data_size(
-                self.kind,
-                b.as_ptr(),
-                b.len(),
-                d.as_ptr(),
-                d.len(),
-                p.as_ptr(),
-                p.len(),
-            )
-        })
+        value(ck_described_data_size(self.kind, b, d, p))
     }
 
     pub fn uuid_by_name(self, name: &[u8]) -> Told<[u32; 4]> {
-        let (b, d, p) = (self.book, self.dwords, self.places);
-        let u = unsafe {
-            ck_described_uuid_by_name(
-                b.as_ptr(),
-                b.len(),
-                d.as_ptr(),
-                d.len(),
-                p.as_ptr(),
-                p.len(),
-                name.as_ptr(),
-                name.len(),
-            )
-        };
+        let u = ck_described_uuid_by_name(self.book, self.dwords, self.places, name);
         told(u.number, u.present, u.dwords)
     }
 
+    /// Its value, and the place of its name.
     pub fn packet_type(self) -> Told<(u32, usize)> {
-        let (b, d, p) = (self.book, self.dwords, self.places);
-        let t = unsafe {
-            ck_described_type(
-                b.as_ptr(),
-                b.len(),
-                d.as_ptr(),
-                d.len(),
-                p.as_ptr(),
-                p.len(),
-            )
-        };
+        let t = ck_described_type(self.book, self.dwords, self.places);
         told(t.number, t.present, (t.value, t.name))
     }
 
     pub fn field(self, offset: u16) -> Told<RawField> {
         let (b, d, p) = (self.book, self.dwords, self.places);
-        field(unsafe {
-            ck_described_field(
-                self.kind,
-                b.as_ptr(),
-                b.len(),
-                d.as_ptr(),
-                d.len(),
-                p.as_ptr(),
-                p.len(),
-                offset,
-            )
-        })
+        field(ck_described_field(self.kind, b, d, p, offset))
     }
 
     pub fn field_by_name(self, name: &[u8]) -> Told<RawField> {
         let (b, d, p) = (self.book, self.dwords, self.places);
-        field(unsafe {
-            ck_described_field_by_name(
-                self.kind,
-                b.as_ptr(),
-                b.len(),
-                d.as_ptr(),
-                d.len(),
-                p.as_ptr(),
-                p.len(),
-                name.as_ptr(),
-                name.len(),
-            )
-        })
+        field(ck_described_field_by_name(self.kind, b, d, p, name))
     }
 
     pub fn field_by_range(self, name: &[u8]) -> Told<RawField> {
         let (b, d, p) = (self.book, self.dwords, self.places);
-        field(unsafe {
-            ck_described_field_by_range(
-                self.kind,
-                b.as_ptr(),
-                b.len(),
-                d.as_ptr(),
-                d.len(),
-                p.as_ptr(),
-                p.len(),
-                name.as_ptr(),
-                name.len(),
-            )
-        })
+        field(ck_described_field_by_range(self.kind, b, d, p, name))
     }
 }
 
 pub fn range_count(book: &[u8], entry: usize) -> usize {
-    // SAFETY: likewise, here and below; a name goes into the lent bytes only (proved).
-    unsafe { ck_range_count(book.as_ptr(), book.len(), entry) }
+    ck_range_count(book, entry)
 }
 
 pub fn nth_range(book: &[u8], entry: usize, dword: u32, k: usize) -> Option<RawRange> {
-    range(unsafe { ck_range(book.as_ptr(), book.len(), entry, dword, k) })
+    range(ck_range(book, entry, dword, k))
 }
 
 pub fn range_named(book: &[u8], entry: usize, dword: u32, name: &[u8]) -> Option<RawRange> {
-    range(unsafe {
-        ck_range_named(
-            book.as_ptr(),
-            book.len(),
-            entry,
-            dword,
-            name.as_ptr(),
-            name.len(),
-        )
-    })
+    range(ck_range_named(book, entry, dword, name))
 }
 
-pub fn name(book: &[u8], place: usize, out: &mut [u8]) -> usize {
-    unsafe {
-        ck_name(
-            book.as_ptr(),
-            book.len(),
-            place,
-            out.as_mut_ptr(),
-            out.len(),
-        )
-    }
+/// The name at a place: a part of the book, none where it would be empty.
+pub fn name(book: &[u8], place: usize) -> Option<&str> {
+    let part = ck_name_at(book, place);
+    // A name lies inside the book (proved) and a checked book's is ASCII; were it not so, there would be none and no harm done.
+    let bytes = book.get(part.at..)?.get(..part.len)?;
+    let text = core::str::from_utf8(bytes).ok()?;
+    (!text.is_empty()).then_some(text)
 }
 
-pub fn value_name(book: &[u8], range: usize, value: u32, out: &mut [u8]) -> usize {
-    unsafe {
-        ck_value_name(
-            book.as_ptr(),
-            book.len(),
-            range,
-            value,
-            out.as_mut_ptr(),
-            out.len(),
-        )
-    }
+/// The name that the bit range at a place gives to a number.
+pub fn value_name(book: &[u8], range: usize, number: u32) -> Option<&str> {
+    name(book, ck_value_at(book, range, number))
 }

@@ -35,17 +35,12 @@ fn the_fwd_line_has_named_fields() {
     );
     let space = field.range("Configuration Space").unwrap();
     assert_eq!(
-        (
-            space.low(),
-            space.high(),
-            space.value(),
-            space.value_name().as_str()
-        ),
-        (25, 26, 2, "Router")
+        (space.low(), space.high(), space.value(), space.value_name()),
+        (25, 26, 2, Some("Router"))
     );
-    assert_eq!(field.ranges().next().unwrap().name().as_str(), "Address");
+    assert_eq!(field.ranges().next().unwrap().name(), "Address");
     assert!(
-        packet.field(3).is_none()
+        packet.field_by_offset(3).is_none()
             && packet.field_by_name("").is_none()
             && field.range("Nothing").is_none()
     );
@@ -65,7 +60,7 @@ fn a_response_has_data_and_a_route_its_top_bit() {
         (packet.data_start(), packet.data()),
         (Some(3), Some(&[7, 8][..]))
     );
-    assert_eq!(packet.field(4).unwrap().source(), Source::Bare);
+    assert_eq!(packet.field_by_offset(4).unwrap().source(), Source::Bare);
 }
 
 #[test]
@@ -84,11 +79,11 @@ fn a_discovery_request_has_uuid_and_type() {
         (Some(uuid), Some(uuid), None)
     );
     let (value, name) = packet.packet_type().unwrap().unwrap();
-    assert_eq!((value, name.as_str()), (3, "Properties Request"));
+    assert_eq!((value, name), (3, "Properties Request"));
     assert_eq!(
         (
-            packet.field(3).unwrap().source(),
-            packet.field(7).unwrap().source()
+            packet.field_by_offset(3).unwrap().source(),
+            packet.field_by_offset(7).unwrap().source()
         ),
         (Source::Header, Source::Protocol)
     );

@@ -14,6 +14,10 @@ use Rattle.flat.specs.declared.Raised.the-variants as R
 use Rattle.flat.specs.Flat.{raiseOf}
 use Rattle.capi.specs.declared.EntryAnswer.{EntryAnswer}
 use Rattle.capi.specs.declared.WriteAnswer.{WriteAnswer}
+use Rattle.packet.specs.declared.Answer as P
+use Rattle.packet.specs.Packet.{listBy}
+use Rattle.capi.specs.declared.packets.PacketAnswer.{PacketAnswer}
+use Rattle.capi.specs.Packets.{Described, packetBy}
 use Rattle.capi.specs.Calls.{Read, Wrote, answerBy, writtenBy, writeFor, recordFor}
 
 -- an answer that is the one wanted, and the slots behind it
@@ -29,3 +33,9 @@ module _ (text : List ℕ) (f : Flat) (dwords out : List ℕ) {q : Raised} (rais
   pub wrote-nothing : q ≡ R.OutOfRange → r ≡ writtenBy (W.Refused 37) → Wrote text f dwords out out r
   unfolding writeFor recordFor bufferBy
   wrote-nothing e is = record { is = rw (← raised, e) is; buffer = rw (← raised, e) }
+
+-- a packet call's answer told, with its places
+pub described-call : (answer : P.Answer) (places out : List ℕ) {r : P.Answer} {exit : List ℕ} {told : PacketAnswer} → r ≡ answer
+    → exit ≡ listBy r places out → told ≡ packetBy r → Described answer places out exit told
+described-call answer places out is left tells =
+    record { is = tells ∙ ap packetBy is; list = left ∙ ap (λ (r : P.Answer). listBy r places out) is }

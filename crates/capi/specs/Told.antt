@@ -1,10 +1,13 @@
 -- What a question is told, as plain structs: number 0 with `present` 1 and the answer; 0 and 0 where there is none; or the number that refuses
 -- the packet. What is not there is 0.
-use Prim.Native.Nat.{ℕ}
+use Prim.Native.Nat.{ℕ, _+_}
 use mathlib.Core.Path.{_≡_}
 use mathlib.Core.Bool.{Bool}
 use mathlib.Core.List.{List}
 use lib.ListN.{length}
+use Rattle.tlv.specs.Reading.{between}
+use Rattle.packet.specs.Field.{nameIn}
+use Rattle.field.specs.Names.{spanOf}
 use Rattle.print.specs.Put.{bufferAfter}
 use Rattle.flat.specs.Flat.{flagNumber}
 use Rattle.book.specs.declared.Uuid.{Uuid}
@@ -12,6 +15,7 @@ use Rattle.field.specs.declared.Source.{Source}
 use Rattle.field.specs.declared.Source.the-variants.{Control, Header, Protocol, Bare}
 use Rattle.field.specs.declared.Field.{Field}
 use Rattle.field.specs.declared.Range.{Range}
+use Rattle.field.specs.declared.Span.{Span}
 use Rattle.field.specs.declared.MaybeRange.{MaybeRange}
 use Rattle.field.specs.declared.MaybeRange.the-variants as R
 use Rattle.field.specs.Source.{entryOf}
@@ -22,6 +26,7 @@ use Rattle.capi.specs.declared.told.UuidTold.{UuidTold}
 use Rattle.capi.specs.declared.told.TypeTold.{TypeTold}
 use Rattle.capi.specs.declared.told.FieldTold.{FieldTold}
 use Rattle.capi.specs.declared.told.RangeTold.{RangeTold}
+use Rattle.capi.specs.declared.told.NameTold.{NameTold}
 
 -- a number
 abbrev pub valueBy : Told ℕ → ValueTold
@@ -68,6 +73,15 @@ fieldBy (refused k) = record { number = k; present = 0; offset = 0; value = 0; s
 abbrev pub rangeBy : MaybeRange → RangeTold
 rangeBy (R.Is g) = record { present = 1; low = g .low; high = g .high; value = g .value; place = g .place .at }
 rangeBy R.Absent = record { present = 0; low = 0; high = 0; value = 0; place = 0 }
+
+-- where a name stands, and how many bytes it has
+abbrev pub nameBy : Span → NameTold
+nameBy p = record { at = p .at; len = p .len }
+
+-- the one part of the book that is told as the name at a place, and what it holds
+pub record NamePart (s : List ℕ) (place : ℕ) (r : NameTold) : Type 0 where
+  pub is : r ≡ nameBy (spanOf s place)
+  pub holds : between s (r .at) (r .at + r .len) ≡ nameIn s place
 
 -- the field that an entry makes of a value: of its ranges, offset and table say nothing
 abbrev pub fieldWith : ℕ → ℕ → Field

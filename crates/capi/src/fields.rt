@@ -1,5 +1,6 @@
 // What the book says of a field, by the place of its entry; and names. Any book and any place is taken; place 0 is none.
 use crate::told::FieldTold;
+use crate::told::NameTold;
 use crate::told::RangeTold;
 use crate::told::tell_range;
 use crate::told::whole_field;
@@ -12,8 +13,8 @@ use print::put::put;
 ghost use mathlib.Core.Path.{_≡_};
 ghost use Rattle.packet.specs.Field.{nameIn};
 ghost use Rattle.field.specs.Source.{fieldOf};
-ghost use Rattle.field.specs.Ranges.{rangeCount, nthRange, rangeNamed, valueName};
-ghost use Rattle.capi.specs.Told.{wholeField, fieldWith, rangeWith, rangeBy, Copied};
+ghost use Rattle.field.specs.Ranges.{rangeCount, nthRange, rangeNamed, valueIn, valueName};
+ghost use Rattle.capi.specs.Told.{wholeField, fieldWith, rangeWith, rangeBy, NamePart, Copied};
 
 // The field of a dword at an offset, described by the entry at the place.
 #[no_mangle]
@@ -62,6 +63,26 @@ fn field_with(entry: usize, value: u32) -> Field
         value,
         source: Source::Protocol(Place { at: entry }),
     }
+}
+
+// Where the name of the entry, bit range or value at the place stands in the book, for whoever need not copy it.
+#[no_mangle]
+pub extern "C" fn ck_name_at(book: &[u8], place: usize) -> NameTold
+    ensures { λ r. ⌜ NamePart (now (book .entry)) place r ⌝ }
+{
+    let span = field::name_at(book, place);
+    NameTold {
+        at: span.at,
+        len: span.len,
+    }
+}
+
+// The place of the value that a bit range gives to a number, 0 for none.
+#[no_mangle]
+pub extern "C" fn ck_value_at(book: &[u8], range: usize, number: u32) -> usize
+    ensures { λ r. ⌜ r ≡ valueIn (now (book .entry)) range number ⌝ }
+{
+    field::value_at(book, range, number)
 }
 
 // The name of the entry, bit range or value at the place into the first bytes of the buffer, if all of it fits. The answer is its length, 0 where

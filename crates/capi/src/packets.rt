@@ -7,7 +7,7 @@ use packet::MaybeUuid;
 use packet::Packet;
 ghost use mathlib.Core.Path.{_≡_};
 ghost use lib.ListN.{length};
-ghost use Rattle.packet.specs.Packet.{parseOf, placesOf};
+ghost use Rattle.packet.specs.Packet.{parseOf, overOf, placesOf};
 ghost use Rattle.batch.specs.Batch.{Batch};
 ghost use Rattle.capi.specs.Packets.{Described, packetBy, madeBy, uuidBy, ofPacket, textBy, TextRead};
 
@@ -35,6 +35,19 @@ pub extern "C" fn ck_packet(
     ensures { λ r. ⌜ Described (parseOf kind (now (book .entry)) (now (dwords .entry)) (length (now (places .entry)))) (placesOf kind (now (book .entry)) (now (dwords .entry))) (now (places .entry)) (now (places .exit)) r ⌝ }
 {
     packet_answer(packet::parse(kind, book, dwords, places))
+}
+
+// The same over a book that was checked before, and is not again. Any other book is taken too.
+#[no_mangle]
+pub extern "C" fn ck_checked_packet(
+    kind: u8,
+    book: &[u8],
+    dwords: &[u32],
+    places: &mut [u32],
+) -> PacketAnswer
+    ensures { λ r. ⌜ Described (overOf kind (now (book .entry)) (now (dwords .entry)) (length (now (places .entry)))) (placesOf kind (now (book .entry)) (now (dwords .entry))) (now (places .entry)) (now (places .exit)) r ⌝ }
+{
+    packet_answer(packet::parse_over(kind, book, dwords, places))
 }
 
 // Many packets over one book, which is checked once.

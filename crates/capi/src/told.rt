@@ -64,6 +64,13 @@ pub struct RangeTold {
     pub place: usize,
 }
 
+// A part of the book that is a name: where it starts, and how many bytes it has; both are 0 where there is none.
+#[repr(C)]
+pub struct NameTold {
+    pub at: usize,
+    pub len: usize,
+}
+
 pub fn tell_byte(answer: ByteAnswer) -> ValueTold
     ensures { λ r. ⌜ r ≡ valueBy (byteTold answer) ⌝ }
 {

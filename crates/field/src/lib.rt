@@ -5,6 +5,7 @@
 //     count_ranges            how many bit ranges a field has
 //     nth_range, range_named  a bit range, by how many stand before it and by its name
 //     range_name, value_name  the names of a bit range and of its value
+//     name_at, value_at       where in the book a name stands, and a value of a bit range
 //
 // Every call takes any book and any place. A name is a part of the lent book, empty for none.
 mod table;
@@ -17,11 +18,18 @@ use packet::field::range_in;
 use packet::field::value_in;
 ghost use mathlib.Core.Path.{_≡_};
 ghost use Rattle.field.specs.Source.{sourceOf, entryOf, fieldOf};
+ghost use Rattle.field.specs.Names.{Names};
 ghost use Rattle.field.specs.Ranges.{fieldName, rangeCount, rangeAt, nthRange, rangeNamed, rangeName, valueIn, valueName};
 
 // Where an entry stands in the book: the place of its tag byte.
 pub struct Place {
     pub at: usize,
+}
+
+// A part of the book: where it starts, and how many bytes it has.
+pub struct Span {
+    pub at: usize,
+    pub len: usize,
 }
 
 // The table that a description comes from, with the place of the entry; or there is no description.
@@ -153,15 +161,29 @@ pub fn range_name(book: &[u8], range: Range) -> &[u8]
 pub fn value_name(book: &[u8], range: Range) -> &[u8]
     ensures { λ r. ⌜ now r ≡ valueName (now (book .entry)) range ⌝ }
 {
-    name_in(book, find_value(book, range.place.at, range.value))
+    name_in(book, value_at(book, range.place.at, range.value))
 }
 
 // The place of a number among the values of a bit range.
-fn find_value(book: &[u8], range: usize, number: u32) -> usize
+pub fn value_at(book: &[u8], range: usize, number: u32) -> usize
     ensures { λ r. ⌜ r ≡ valueIn (now (book .entry)) range number ⌝ }
 {
     if range == 0 {
         return 0;
     }
     find::value_of_number(book, range, number)
+}
+
+// Where the name of the entry, bit range or value at a place stands in the book; at 0 with no byte where there is none.
+pub fn name_at(book: &[u8], place: usize) -> Span
+    ensures { λ r. ⌜ Names (now (book .entry)) place r ⌝ }
+{
+    let len = name_in(book, place).len();
+    if len == 0 {
+        return Span { at: 0, len: 0 };
+    }
+    if tlv::byte_at(book, place) == 7 {
+        return Span { at: place + 7, len };
+    }
+    Span { at: place + 8, len }
 }

@@ -4,7 +4,7 @@ use mathlib.Core.Path.{_≡_, refl, sym, ap, ap₂, subst, _∙_}
 use mathlib.Core.Bool.{Bool, true, false, cond, _&&_}
 use mathlib.Core.List.{List, [], _∷_, _++_}
 use native.Mathlib.Omega.{arith}
-use borrow.Author.Tests.{leb-true, ltb-false}
+use borrow.Author.Tests.{leb-true, ltb-false, le-ltb, lt-ltb}
 use lib.Dec.{eqb, leb, ltb}
 use lib.ListN.{length, take, drop, replicate, length-replicate, length-append, length-take, length-drop}
 use lib.Seq.{take-at, length-take-le}
@@ -40,6 +40,7 @@ use Rattle.packet.specs.Packet.{
   numberChecked,
   after,
   numberOf,
+  numberOver,
   stepOne,
   placesOf,
   uuidOf,
@@ -48,8 +49,10 @@ use Rattle.packet.specs.Packet.{
   packetOf,
   unless,
   parseOf,
+  overOf,
   listBy,
   Parsed,
+  Over,
 }
 use Rattle.packet.specs.Inner.{headerOf, headerFor, isMissing, openBy, openOf, placesWith, uuidWith, Described, Made}
 use Rattle.packet.proofs.Filling.{length-filled, length-map-from}
@@ -213,19 +216,19 @@ module _ (kind : ℕ) (s ds : List ℕ) {t : Tables} {room : ℕ} (o : Open kind
   pub described-uuid : uuidWith (t .header) s ds (controlPlaces s (t .control) ds) ≡ uuidOf kind s ds
   described-uuid = with-header (crosses kind) refl .1
 
-module _ (kind : ℕ) (s ds out : List ℕ) (checked : checkOf s ≡ C.Accepted) where
-  number-is : numberOf kind s (length ds) (length out) ≡ numberChecked kind s (length ds) (length out)
-  unfolding numberOf
-  number-is = rw checked
+module _ (kind : ℕ) (s ds out : List ℕ) (fits : length s ≤ 65535) where
+  number-is : numberOver kind s (length ds) (length out) ≡ numberChecked kind s (length ds) (length out)
+  unfolding numberOver
+  number-is = rw (le-ltb 65535 (length s) fits)
 
   -- a packet: its places in front, the rest as found
-  pub parsed-packet : {t : Tables} → openOf kind s (length ds) (length out) ≡ O.Tables t → {p : Packet} {ps exit : List ℕ} → Made kind s t ds ps p
-      → exit ≡ ps ++ drop (length ds) out → Parsed kind s ds out exit (A.Packet p)
-  unfolding parseOf packetOf listBy
-  parsed-packet {t} e {p} {ps} m x =
+  pub over-packet : {t : Tables} → openOf kind s (length ds) (length out) ≡ O.Tables t → {p : Packet} {ps exit : List ℕ} → Made kind s t ds ps p
+      → exit ≡ ps ++ drop (length ds) out → Over kind s ds out exit (A.Packet p)
+  unfolding overOf packetOf listBy
+  over-packet {t} e {p} {ps} m x =
       let o = opened-tables kind s (length ds) (length out) e in
       let places : ps ≡ placesOf kind s ds = m .places ∙ described-places kind s ds o in
-      let none : numberOf kind s (length ds) (length out) ≡ 0 = number-is ∙ o .none in
+      let none : numberOver kind s (length ds) (length out) ≡ 0 = number-is ∙ o .none in
       let start : p .start ≡ word (viewFrom kind s (placesOf kind s ds)) = m .start-is ∙ ap (λ (l : List ℕ). word (viewFrom kind s l)) places in
       let uuid : p .uuid ≡ uuidOf kind s ds = m .uuid-is ∙ described-uuid kind s ds o in
       record {
@@ -234,22 +237,22 @@ module _ (kind : ℕ) (s ds out : List ℕ) (checked : checkOf s ≡ C.Accepted)
       }
 
   -- as many places as before
-  pub length-parsed : {t : Tables} → openOf kind s (length ds) (length out) ≡ O.Tables t → {p : Packet} {ps : List ℕ} → Made kind s t ds ps p
+  pub length-over : {t : Tables} → openOf kind s (length ds) (length out) ≡ O.Tables t → {p : Packet} {ps : List ℕ} → Made kind s t ds ps p
       → length (ps ++ drop (length ds) out) ≡ length out
-  length-parsed e {p} {ps} m =
+  length-over e {p} {ps} m =
       let o = opened-tables kind s (length ds) (length out) e in
       let size : length ps ≡ length ds = ap length (m .places ∙ described-places kind s ds o) ∙ length-places kind s ds in
       length-append ps (drop (length ds) out) ∙ omega (arith, size, length-drop (length ds) out, o .fit)
 
   -- a number: nothing is touched
-  pub parsed-number : {k : ℕ} → openOf kind s (length ds) (length out) ≡ O.Refused k → Parsed kind s ds out out (A.Refused k)
-  unfolding parseOf listBy
-  parsed-number {k} e =
+  pub over-number : {k : ℕ} → openOf kind s (length ds) (length out) ≡ O.Refused k → Over kind s ds out out (A.Refused k)
+  unfolding overOf listBy
+  over-number {k} e =
       let w = opened-refused kind s (length ds) (length out) e in
       record { answer = sym (refuses k (number-is ∙ w .0) (w .1)); places = refl }
     where
-      refuses : (n : ℕ) → numberOf kind s (length ds) (length out) ≡ n → 0 < n
-          → unless (numberOf kind s (length ds) (length out)) (packetOf kind s ds) ≡ A.Refused n
+      refuses : (n : ℕ) → numberOver kind s (length ds) (length out) ≡ n → 0 < n
+          → unless (numberOver kind s (length ds) (length out)) (packetOf kind s ds) ≡ A.Refused n
       refuses zero h lt = absurd (omega arith)
       refuses (suc n) h lt = rw h
 
@@ -293,3 +296,16 @@ length-listed kind s ds out = by (refusalOf (checkOf s)) (numberChecked kind s (
         let size = length-places kind s ds in
         length-append (placesOf kind s ds) (drop (length (placesOf kind s ds)) out)
         ∙ omega (arith, size, length-drop (length (placesOf kind s ds)) out, fit)
+
+-- a book too long to have passed
+pub over-20 : (kind : ℕ) (s ds out : List ℕ) → 65535 < length s → Over kind s ds out out (A.Refused 20)
+unfolding overOf numberOver listBy
+over-20 kind s ds out long = record { answer = rw (lt-ltb 65535 (length s) long); places = refl }
+
+-- over a checked book it makes no difference that the check was made before
+pub over-is-parsed : (kind : ℕ) (s ds : List ℕ) {out exit : List ℕ} {r : Answer} → checkOf s ≡ C.Accepted → Over kind s ds out exit r
+    → Parsed kind s ds out exit r
+unfolding overOf parseOf numberOf numberOver
+over-is-parsed kind s ds {out} checked o =
+    let fits : ltb 65535 (length s) ≡ false = le-ltb 65535 (length s) (checked-fits s checked) in
+    record { answer = o .answer ∙ rw (checked, fits); places = o .places }

@@ -69,6 +69,10 @@ abbrev pub after : ℕ → ℕ → ℕ
 after zero k = k
 after (suc n) k = suc n
 
+-- over a book that was checked before: 20 is left for one that is too long to have passed
+unfoldable pub numberOver : ℕ → List ℕ → ℕ → ℕ → ℕ
+numberOver kind s count room = cond (ltb 65535 (length s)) 20 (numberChecked kind s count room)
+
 -- 20 comes first
 unfoldable pub numberOf : ℕ → List ℕ → ℕ → ℕ → ℕ
 numberOf kind s count room = after (refusalOf (checkOf s)) (numberChecked kind s count room)
@@ -123,6 +127,10 @@ unless (suc k) p = A.Refused (suc k)
 unfoldable pub parseOf : ℕ → List ℕ → List ℕ → ℕ → Answer
 parseOf kind s ds room = unless (numberOf kind s (length ds) room) (packetOf kind s ds)
 
+-- over a book that was checked before
+unfoldable pub overOf : ℕ → List ℕ → List ℕ → ℕ → Answer
+overOf kind s ds room = unless (numberOver kind s (length ds) room) (packetOf kind s ds)
+
 -- document 01's number for an answer, 0 for a packet
 abbrev pub numberOfAnswer : Answer → ℕ
 numberOfAnswer (A.Packet p) = 0
@@ -136,4 +144,9 @@ listBy (A.Refused k) ps out = out
 -- the answer, and each lent place
 pub record Parsed (kind : ℕ) (s ds out exit : List ℕ) (r : Answer) : Type 0 where
   pub answer : r ≡ parseOf kind s ds (length out)
+  pub places : exit ≡ listBy r (placesOf kind s ds) out
+
+-- the same over a book that was checked before; over a checked book the two are one (`over-is-parsed`)
+pub record Over (kind : ℕ) (s ds out exit : List ℕ) (r : Answer) : Type 0 where
+  pub answer : r ≡ overOf kind s ds (length out)
   pub places : exit ≡ listBy r (placesOf kind s ds) out

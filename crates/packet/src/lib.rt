@@ -1,7 +1,8 @@
 // A packet: its dwords described over a book.
 //
 //     parse            numbers 20 to 26; the place of each dword's entry; the UUID, and where the data view starts
-//     parse_checked    the same over a book that was checked
+//     parse_over       the same for whoever checked the book before: it takes any book, and does not check it again
+//     parse_checked    the same over a book that is known to be checked, for the crates above
 //     fill, steps      the entries of a table by their offsets; the three steps
 //     seek, field      the first dword as asked, and the dwords of one name; what the book says of one dword
 pub mod field;
@@ -18,7 +19,7 @@ use book::Uuid;
 use entry::optional::MaybeWord;
 ghost use mathlib.Core.Path.{_≡_};
 ghost use Rattle.book.specs.Reading.{checkOf};
-ghost use Rattle.packet.specs.Packet.{Parsed};
+ghost use Rattle.packet.specs.Packet.{Parsed, Over};
 ghost use Rattle.packet.specs.Inner.{Ready, Made};
 
 pub enum MaybeUuid {
@@ -69,11 +70,22 @@ pub fn parse(kind: u8, book: &[u8], dwords: &[u32], places: &mut [u32]) -> Answe
     }
 }
 
-// The same over a book that was checked.
+// The same over a book that is known to be checked.
 pub fn parse_checked(kind: u8, book: &[u8], dwords: &[u32], places: &mut [u32]) -> Answer
     requires { ⌜ checkOf (now book) ≡ Checked.Accepted ⌝ }
     ensures { λ r. ⌜ Parsed kind (now (book .entry)) (now (dwords .entry)) (now (places .entry)) (now (places .exit)) r ⌝ }
 {
+    parse_over(kind, book, dwords, places)
+}
+
+// The same for whoever checked the book before. Any book is taken: one that did not pass is described as far as its fields can be read, and
+// one that is too long to have passed is refused.
+pub fn parse_over(kind: u8, book: &[u8], dwords: &[u32], places: &mut [u32]) -> Answer
+    ensures { λ r. ⌜ Over kind (now (book .entry)) (now (dwords .entry)) (now (places .entry)) (now (places .exit)) r ⌝ }
+{
+    if 65_535 < book.len() {
+        return Answer::Refused(20);
+    }
     let n = dwords.len();
     let opened = open(kind, book, n, places.len());
     match opened {

@@ -7,18 +7,18 @@ use Rattle.field.proofs.value_name.Statement.{statement}
 use Rattle.field.proofs.value_name.Tie as tie
 use Rattle.field.proofs.value_name.Reads as reads
 use Rattle.field.proofs.value_name.Lts as lts
-use Rattle.field.proofs.find_value.Reads as find-value-reads
+use Rattle.field.proofs.value_at.Reads as value-at-reads
 use Rattle.packet.proofs.field.name_in.Reads as name-in-reads
 
-find-value-requires : tie.Need-find-value-requires
-find-value-requires c κs = search needs
+value-at-requires : tie.Need-value-at-requires
+value-at-requires c κs = search needs
 
 name-in-requires : tie.Need-name-in-requires
 name-in-requires c κs = search needs
 
 returns : tie.Need-returns
 unfolding valueName
-returns c = c .name-in .ensures ∙ ap (nameIn (c .before .before .before .args .book .now)) (c .before .find-value .ensures)
+returns c = c .name-in .ensures ∙ ap (nameIn (c .before .before .before .args .book .now)) (c .before .value-at .ensures)
 
 pub value-name-spec : {M : Type 1} → statement M
-value-name-spec = tie.close (tie.spec find-value-requires name-in-requires returns)
+value-name-spec = tie.close (tie.spec value-at-requires name-in-requires returns)

@@ -1,8 +1,6 @@
 -- `capi::packets::ck_packet` meets its contract: what the packet call answers. Assumes nothing.
-use Rattle.capi.specs.Packets.{packetBy}
-use Rattle.packet.specs.Packet.{placesOf, listBy}
-use Rattle.packet.specs.declared.Answer.{Answer}
-use mathlib.Core.Path.{_≡_, sym, ap, _∙_}
+use Rattle.capi.proofs.Calling.{described-call}
+use Rattle.packet.specs.Packet.{placesOf}
 use native.Mathlib.Omega.{arith}
 use borrow.Author.Needs.{needs}
 use Rattle.capi.proofs.packets.ck_packet.Statement.{statement}
@@ -22,7 +20,7 @@ same-length : tie.Need-same-length
 same-length c = search needs
 
 returns : tie.Need-returns
-returns c = record { is = c .packet-answer .ensures ∙ ap packetBy (c .before .before .before .parse .ensures .answer); list = c .before .before .before .parse .ensures .places ∙ ap (λ (r : Answer). listBy r (placesOf (c .before .before .before .before .before .before .before .before .args .kind) (c .before .before .before .before .before .before .before .before .args .book .now) (c .before .before .before .before .before .before .before .before .args .dwords .now)) (c .before .before .before .before .before .before .before .before .args .places .now)) (c .before .before .before .parse .ensures .answer) }
+returns c = described-call _ (placesOf (c .before .before .before .before .before .before .before .before .args .kind) (c .before .before .before .before .before .before .before .before .args .book .now) (c .before .before .before .before .before .before .before .before .args .dwords .now)) (c .before .before .before .before .before .before .before .before .args .places .now) (c .before .before .before .parse .ensures .answer) (c .before .before .before .parse .ensures .places) (c .packet-answer .ensures)
 
 pub ck-packet-spec : {M : Type 1} → statement M
 ck-packet-spec = tie.close (tie.spec parse-requires packet-answer-requires same-length returns)

@@ -1,13 +1,13 @@
--- `field::find_value` meets its contract: no value in no range. Assumes nothing.
+-- `field::value_at` meets its contract: no value in no range. Assumes nothing.
 use Rattle.field.specs.Ranges.{valueIn}
 use Rattle.packet.proofs.Fields.{inside-none, inside-some}
 use Rattle.book.specs.Finders.{valueOfNumber}
 use mathlib.Core.Path.{sym, _∙_}
 use borrow.Author.Needs.{needs}
-use Rattle.field.proofs.find_value.Statement.{statement}
-use Rattle.field.proofs.find_value.Tie as tie
-use Rattle.field.proofs.find_value.Reads as reads
-use Rattle.field.proofs.find_value.Lts as lts
+use Rattle.field.proofs.value_at.Statement.{statement}
+use Rattle.field.proofs.value_at.Tie as tie
+use Rattle.field.proofs.value_at.Reads as reads
+use Rattle.field.proofs.value_at.Lts as lts
 use Rattle.book.proofs.find.value_of_number.Reads as value-of-number-reads
 
 returns : tie.Need-returns
@@ -21,5 +21,5 @@ returns-2 : tie.Need-returns-2
 unfolding valueIn
 returns-2 c = c .value-of-number .ensures .0 ∙ sym (inside-some (λ r. valueOfNumber (c .before .before .before .args .book .now) r (c .before .before .before .args .number)) (c .before .before .before .args .range) (c .before .if1 .left))
 
-pub find-value-spec : {M : Type 1} → statement M
-find-value-spec = tie.close (tie.spec returns value-of-number-requires returns-2)
+pub value-at-spec : {M : Type 1} → statement M
+value-at-spec = tie.close (tie.spec returns value-of-number-requires returns-2)

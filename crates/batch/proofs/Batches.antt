@@ -1,27 +1,12 @@
 -- Packet after packet: what was answered stands in front, and what is left to answer is the batch of the rest. Assumes nothing.
-use Prim.Native.Nat.{ℕ, zero, suc, _+_, _-_, _≤_, _<_, min}
+use Prim.Native.Nat.{ℕ, suc, _+_, _-_, _≤_, _<_, min}
 use mathlib.Core.Path.{_≡_, refl, sym, ap, ap₂, subst, _∙_}
 use mathlib.Core.List.{List, [], _∷_, _++_, append-nil, append-assoc}
 use mathlib.Core.Bool.{Bool, true, false}
 use native.Mathlib.Omega.{arith}
 use borrow.Author.Tests.{leb-true, leb-false}
 use lib.Dec.{leb}
-use lib.ListN.{
-  length,
-  getD,
-  take,
-  drop,
-  set,
-  replicate,
-  length-append,
-  length-take,
-  length-drop,
-  length-set,
-  length-replicate,
-  replicate-append-replicate,
-  take-append-drop,
-  drop-of-length-le,
-}
+use lib.ListN.{length, getD, take, drop, set, replicate, length-append, length-drop, length-set, length-replicate, replicate-append-replicate, take-append-drop, drop-of-length-le}
 use lib.Seq.{drop-cons, set-at, drop-drop, take-all, take-at, drop-at, take-suc-set, drop-set-lt, append-snoc, length-take-le}
 use Rattle.book.specs.declared.Checked.{Checked}
 use Rattle.book.specs.declared.Checked.the-variants as C

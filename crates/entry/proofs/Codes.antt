@@ -10,7 +10,6 @@ use borrow.Author.Tests.{eqb-true}
 use Rattle.text.specs.Decimal.{decimalText}
 use Rattle.text.proofs.Decimals.{decimal-short, decimal-long}
 use Rattle.entry.specs.declared.events.Event.{Event}
-use Rattle.entry.specs.declared.events.Event.the-variants.{Unknown}
 use Rattle.entry.specs.Event.{codeOf, named, among, eventOf}
 
 code-among : (es : List Event) (code : ℕ) → codeOf (among es code) ≡ code

@@ -1,13 +1,12 @@
 -- Padding copies byte after byte over zeros. Assumes nothing.
 use native.Mathlib.Nat.{zero-add}
 use Prim.Native.Nat.{ℕ, zero, suc, _+_, _-_, _≤_, _<_}
-use mathlib.Core.Path.{_≡_, refl, sym, ap, _∙_}
-use mathlib.Core.List.{List, [], _∷_, _++_}
+use mathlib.Core.Path.{_≡_, sym, ap, _∙_}
+use mathlib.Core.List.{List, _++_}
 use native.Mathlib.Numerals.{add-one}
 use native.Mathlib.Omega.{arith}
-use lib.ListN.{length, getD, take, drop, set, replicate, length-replicate, length-take}
+use lib.ListN.{length, getD, drop, set, replicate}
 use lib.Seq.{paste, paste-zero, paste-suc, take-length}
-use Rattle.entry.specs.declared.events.Name.{Name}
 use Rattle.entry.specs.Event.{padded}
 
 -- i bytes of s copied over fourteen zeros

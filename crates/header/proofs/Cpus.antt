@@ -1,7 +1,7 @@
 -- The CPU stands at a first place, whose brackets and digits all lie within the header. Assumes nothing.
-use Prim.Native.Nat.{ℕ, _+_, _-_, _≤_, _<_}
-use mathlib.Core.Path.{_≡_, refl, sym, ap, _∙_}
-use mathlib.Core.Bool.{Bool, true, false, _&&_}
+use Prim.Native.Nat.{ℕ, _+_, _-_, _<_}
+use mathlib.Core.Path.{_≡_, refl, sym, _∙_}
+use mathlib.Core.Bool.{true, false, _&&_}
 use mathlib.Core.List.{List}
 use native.Mathlib.Omega.{arith}
 use lib.Dec.{eqb}
@@ -12,7 +12,7 @@ use Rattle.text.specs.declared.place.Found.{Found}
 use Rattle.text.specs.declared.place.Found.the-variants.{At, Nothing}
 use Rattle.text.specs.Class.{isDigit}
 use Rattle.text.specs.Number.{numberOf}
-use Rattle.text.specs.Place.{First, firstPlace}
+use Rattle.text.specs.Place.{firstPlace}
 use Rattle.text.proofs.Places.{first-is, first-all, stands-within}
 use Rattle.text.proofs.Texts.{both-right}
 use Rattle.text.proofs.Numbers.{number-is, number-all}

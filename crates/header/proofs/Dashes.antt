@@ -1,7 +1,7 @@
 -- Task and pid: both are last dashes of the first run, so their laws are those of last places. Assumes nothing.
-use Prim.Native.Nat.{ℕ, zero, suc, _+_, _-_, _^_, _≤_, _<_}
+use Prim.Native.Nat.{ℕ, _+_, _-_, _^_, _≤_, _<_}
 use mathlib.Core.Path.{_≡_, refl, sym, ap, _∙_}
-use mathlib.Core.Bool.{Bool, true, false, not, _&&_, _||_}
+use mathlib.Core.Bool.{Bool, true, false}
 use mathlib.Core.List.{List}
 use native.Mathlib.Omega.{arith}
 use lib.ListN.{length, getD, take, drop}
@@ -12,7 +12,7 @@ use Rattle.text.specs.declared.place.Found.{Found}
 use Rattle.text.specs.declared.place.Found.the-variants.{At, Nothing}
 use Rattle.text.specs.Class.{isDigit, inClass}
 use Rattle.text.specs.Number.{numberOf}
-use Rattle.text.specs.Place.{Last, lastPlace}
+use Rattle.text.specs.Place.{lastPlace}
 use Rattle.text.specs.Run.{Run, runEnd}
 use Rattle.text.proofs.Places.{last-is, last-all}
 use Rattle.text.proofs.Runs.{run-is, run-all, run-within}

@@ -1,17 +1,16 @@
 -- The function is a run that ends the header, before it a run that ends what is left: one of each. Assumes nothing.
-use Prim.Native.Nat.{ℕ, _+_, _≤_, _<_}
+use Prim.Native.Nat.{ℕ, _≤_, _<_}
 use mathlib.Core.Path.{_≡_, refl, sym, ap, _∙_}
-use mathlib.Core.Bool.{Bool, true, false, cond, _&&_}
+use mathlib.Core.Bool.{Bool, true, false, _&&_}
 use mathlib.Core.List.{List}
 use native.Mathlib.Omega.{arith}
 use lib.Dec.{ltb, eqb}
 use lib.ListN.{length, take, drop}
 use borrow.Author.Tests.{lt-ltb, le-ltb, eq-eqb, ne-eqb, ltb-true, eqb-true}
-use Rattle.text.specs.declared.place.Found.{Found}
 use Rattle.text.specs.declared.place.Found.the-variants.{At, Nothing}
 use Rattle.text.specs.Class.{isWord, isBlank}
 use Rattle.text.specs.Place.{byteBefore}
-use Rattle.text.specs.Run.{RunBack, runStart}
+use Rattle.text.specs.Run.{runStart}
 use Rattle.text.proofs.Texts.{both-left, both-right}
 use Rattle.text.proofs.Runs.{back-is, back-all}
 use Rattle.header.specs.Function.{Function, functionOf}

@@ -1,9 +1,9 @@
 -- The timestamp: within one run of digits only its first place can start a whole run, so a walk may pass over runs, and the first place
 -- that fits is the sentence's first whole run. Assumes nothing.
-use Prim.Native.Nat.{ℕ, zero, suc, _+_, _-_, _^_, _≤_, _<_}
-use mathlib.Core.Path.{_≡_, refl, sym, ap, _∙_}
+use Prim.Native.Nat.{ℕ, _+_, _-_, _^_, _≤_, _<_}
+use mathlib.Core.Path.{_≡_, refl, sym, _∙_}
 use mathlib.Core.Bool.{Bool, true, false, not, _&&_}
-use mathlib.Core.List.{List, []}
+use mathlib.Core.List.{List}
 use native.Mathlib.Omega.{arith}
 use lib.Dec.{ltb, eqb}
 use lib.ListN.{length, getD, take, drop, List·getD-eq-default}
@@ -14,8 +14,8 @@ use Rattle.text.specs.declared.place.Found.{Found}
 use Rattle.text.specs.declared.place.Found.the-variants as F
 use Rattle.text.specs.Class.{between, isDigit, isBlank}
 use Rattle.text.specs.Number.{numberOf}
-use Rattle.text.specs.Place.{Free, First, firstPlace, byteBefore}
-use Rattle.text.specs.Run.{Run, runEnd}
+use Rattle.text.specs.Place.{firstPlace, byteBefore}
+use Rattle.text.specs.Run.{runEnd}
 use Rattle.text.proofs.Places.{by-order, clash, place-hit, place-end, place-skip-to, first-is, first-all, before-none, before-some, stands-within}
 use Rattle.text.proofs.Runs.{run-is, run-all, run-over, run-up, run-within}
 use Rattle.text.proofs.Texts.{both-left, both-right}

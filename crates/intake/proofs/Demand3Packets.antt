@@ -1,12 +1,12 @@
 -- Demand 3 for packets: a packet is asked for kind and dwords alone, and these are what the text says; a line and its record say one thing. However often a
 -- text is written and read again it says the same, so nothing is ever cut but what it says. Assumes nothing.
 use Prim.Native.Nat.{ℕ, zero, suc, _≤_, _%_}
-use mathlib.Core.Path.{_≡_, refl, sym, ap, ap₂, _∙_}
-use mathlib.Core.Bool.{Bool, true, false, cond, _&&_}
+use mathlib.Core.Path.{_≡_, refl, sym, ap, ap₂, subst, _∙_}
+use mathlib.Core.Bool.{Bool, true, false, _&&_}
 use mathlib.Core.List.{List}
 use native.Mathlib.Omega.{arith}
 use borrow.Author.Tests.{le-ltb, ltb-false}
-use lib.Dec.{eqb, ltb}
+use lib.Dec.{ltb}
 use lib.ListN.{length, take, drop}
 use lib.Seq.{take-append-seam}
 use Rattle.entry.specs.declared.Entry.{Entry}
@@ -18,26 +18,8 @@ use Rattle.scan.proofs.Values.{dwords-part}
 use Rattle.packet.specs.declared.Answer.{Answer}
 use Rattle.packet.specs.declared.Answer.the-variants as P
 use Rattle.packet.specs.declared.Packet.{Packet}
-use Rattle.book.specs.Reading.{checkOf, refusalOf}
-use Rattle.book.specs.Finders.{controlTable, uuidTable}
-use Rattle.packet.specs.Packet.{
-  viewed,
-  crosses,
-  zeroUuid,
-  isNothing,
-  entriesOf,
-  numberChecked,
-  after,
-  numberOf,
-  placesOf,
-  viewFrom,
-  word,
-  packetOf,
-  unless,
-  parseOf,
-  listBy,
-}
-use Rattle.packet.proofs.Packets.{length-places}
+use Rattle.packet.specs.Packet.{viewed, entriesOf, numberChecked, after, numberOf, placesOf, viewFrom, packetOf, unless, parseOf, listBy}
+use Rattle.packet.proofs.Packets.{none-applies, length-places}
 use Rattle.questions.specs.Questions.{refusal, viewOf}
 use Rattle.questions.proofs.Views.{view-is-from-n}
 use Rattle.record.specs.Grammar.{recordBytes, IsRecord}
@@ -159,25 +141,9 @@ same-packet v book {slots} {places} {slots′} {places′} {a} {b} g h =
 
 -- no packet of kind 2 or 3 has fewer dwords than there are control entries
 enough-dwords : (kind : ℕ) (s : List ℕ) (count room : ℕ) → viewed kind ≡ true → numberOf kind s count room ≡ 0 → entriesOf s kind ≤ count
-unfolding numberOf numberChecked
 enough-dwords kind s count room view none =
-    by (refusalOf (checkOf s)) (eqb kind 0) (isNothing (controlTable s kind)) (crosses kind && isNothing (uuidTable s zeroUuid)) (ltb 256 count)
-    (viewed kind) view (ltb count (entriesOf s kind)) refl none
-  where
-    hit : {n : ℕ} → suc n ≡ 0 → entriesOf s kind ≤ count
-    hit h = absurd (omega arith)
-
-    by : (n : ℕ) (a b c d x : Bool) → x ≡ true → (f : Bool) → ltb count (entriesOf s kind) ≡ f
-        → after n (cond a 21 (cond b 22 (cond c 23 (cond d 24 (cond (x && f) 25 (cond (ltb room count) 26 0)))))) ≡ 0
-        → entriesOf s kind ≤ count
-    by (suc n) a b c d x v f g h = hit h
-    by zero true b c d x v f g h = hit h
-    by zero false true c d x v f g h = hit h
-    by zero false false true d x v f g h = hit h
-    by zero false false false true x v f g h = hit h
-    by zero false false false false true v true g h = hit h
-    by zero false false false false true v false g h = ltb-false count (entriesOf s kind) g
-    by zero false false false false false v f g h = absurd (let z : _≡_ {A = ℕ} 0 1 = cc in omega arith)
+    ltb-false count (entriesOf s kind)
+    (subst (λ (b : Bool). (b && ltb count (entriesOf s kind)) ≡ false) view (none-applies kind s count room none .enough))
 
 accepted-number : (kind : ℕ) (s ds : List ℕ) (room : ℕ) {p : Packet} → parseOf kind s ds room ≡ P.Packet p → numberOf kind s (length ds) room ≡ 0
 unfolding parseOf

@@ -1,8 +1,8 @@
 -- Record or line: the first byte decides, and each side's contract is the intake's. Assumes nothing.
 use Prim.Native.Nat.{ℕ}
-use mathlib.Core.Path.{_≡_, refl, sym, ap, _∙_}
+use mathlib.Core.Path.{_≡_, _∙_}
 use mathlib.Core.List.{List}
-use lib.ListN.{length, getD}
+use lib.ListN.{getD}
 use borrow.Author.Tests.{eq-eqb, ne-eqb}
 use Rattle.entry.specs.declared.Entry.{Entry}
 use Rattle.scan.specs.declared.Answer.{Answer}

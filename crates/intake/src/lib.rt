@@ -9,10 +9,9 @@ use crate::room::copy;
 use scan::Answer;
 use scan::parse;
 use text::place::byte_at;
-ghost use mathlib.Core.Path.{_≡_};
 ghost use Prim.Native.Nat.{_≤_};
 ghost use lib.ListN.{length};
-ghost use Rattle.intake.specs.Intake.{Taken, RecordTaken, fromRecord};
+ghost use Rattle.intake.specs.Intake.{Taken, RecordTaken};
 ghost use Rattle.intake.specs.Packets.{PacketTaken, Handed};
 
 // The entry of a text, its dwords in the first slots; or the one number that refuses it, with no slot touched.

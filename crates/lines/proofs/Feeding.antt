@@ -1,18 +1,16 @@
 -- One call of `feed`: the line ends behind the first newline, and what fits of it is put behind what is held. Assumes nothing.
 use Prim.Native.Nat.{ℕ, min, _+_, _-_, _≤_, _<_}
-use mathlib.Core.Path.{_≡_, refl, sym, ap, _∙_}
-use mathlib.Core.Bool.{Bool, true, false, cond}
-use mathlib.Core.List.{List, []}
+use mathlib.Core.Path.{_≡_, sym, _∙_}
+use mathlib.Core.Bool.{true, false}
+use mathlib.Core.List.{List}
 use native.Mathlib.Omega.{arith}
-use lib.ListN.{length, take, drop, length-take, length-drop}
-use lib.Seq.{sets, take-take, take-all}
+use lib.ListN.{length, take, drop, length-take}
+use lib.Seq.{take-take, take-all}
 use borrow.Author.Tests.{le-leb}
-use Rattle.text.specs.declared.place.Found.{Found}
 use Rattle.text.specs.declared.place.Found.the-variants.{At, Nothing}
 use Rattle.text.specs.Place.{firstByte, isAt}
 use Rattle.text.proofs.Places.{by-order, first-is}
 use Rattle.print.specs.Put.{Placed, bufferAfter, placeAfter}
-use Rattle.lines.specs.declared.Fed as F
 use Rattle.lines.specs.declared.LineEnd.{LineEnd}
 use Rattle.lines.specs.Lines.{Ends, Fed, endBy, isFound, rest}
 

@@ -6,7 +6,7 @@ use mathlib.Core.Path.{_≡_, refl, sym, ap, _∙_}
 use mathlib.Core.Bool.{Bool, true, false, cond}
 use mathlib.Core.List.{List, [], _∷_, _++_, map, append-assoc, append-nil}
 use native.Mathlib.Omega.{arith}
-use lib.Dec.{ltb, eqb}
+use lib.Dec.{eqb}
 use lib.ListN.{length, getD, take, drop, length-append, length-take, length-drop}
 use lib.Seq.{take-all, take-append-add, take-at, sets-eq, length-take-le, split-at, take-suc, getD-drop, getD-take, drop-drop}
 use borrow.Author.Tests.{eq-eqb, ne-eqb, eqb-true}
@@ -14,7 +14,7 @@ use Rattle.text.specs.declared.place.Found.the-variants.{At, Nothing}
 use Rattle.text.specs.Place.{First, firstByte, isAt}
 use Rattle.text.proofs.Places.{clash, first-is, first-free}
 use Rattle.lines.specs.declared.Fed as F
-use Rattle.lines.specs.Lines.{Bare, Lines, ended, left, endBy, isFound, rest, Fed}
+use Rattle.lines.specs.Lines.{Bare, Lines, ended, left, endBy, rest, Fed}
 
 -- cutting before more comes changes nothing that is kept
 pub take-keep : (cap : ℕ) (x y : List ℕ) → take cap (take cap x ++ y) ≡ take cap (x ++ y)

@@ -8,8 +8,7 @@ use rows::put_refused;
 use rows::put_totals;
 use scan::Answer;
 use scan::parse;
-ghost use mathlib.Core.Path.{_≡_};
-ghost use Prim.Native.Nat.{ℕ, _+_, _≤_};
+ghost use Prim.Native.Nat.{_+_, _≤_};
 ghost use lib.ListN.{length};
 
 // What is counted so far, how much of the open line is held, and how much of the output waits to be written.

@@ -1,11 +1,11 @@
 -- Zeros from the front: so many, then what is left. Assumes nothing.
-use Prim.Native.Nat.{ℕ, zero, suc, _+_, _≤_, _<_}
+use Prim.Native.Nat.{ℕ, zero, suc, _+_, _<_}
 use mathlib.Core.Path.{_≡_, refl, sym, ap, _∙_}
 use mathlib.Core.List.{List, [], _∷_, _++_, append-nil}
 use native.Mathlib.Omega.{arith}
-use lib.ListN.{length, take, drop, set, replicate, length-replicate, replicate-append-replicate, drop-of-length-le}
-use lib.Seq.{drop-cons, set-at, append-snoc, take-length}
-use Rattle.packet.specs.Steps.{mapFrom, filled}
+use lib.ListN.{length, drop, set, replicate, length-replicate, replicate-append-replicate, drop-of-length-le}
+use lib.Seq.{drop-cons, set-at, append-snoc}
+use Rattle.packet.specs.Steps.{mapFrom}
 use Rattle.packet.specs.Field.{orElse}
 
 -- the first i are zeros, the rest is as found

@@ -1,6 +1,6 @@
 -- A walk over a table puts each entry to its offset where the dword there has none yet, so each dword ends with the first entry of its offset:
 -- at every field, what the walk would still give each dword stays the same. Assumes nothing.
-use Prim.Native.Nat.{ℕ, zero, suc, _+_, _≤_, _<_}
+use Prim.Native.Nat.{ℕ, suc, _+_, _≤_, _<_}
 use mathlib.Core.Path.{_≡_, refl, sym, ap, ap₂, subst, _∙_}
 use mathlib.Core.Bool.{Bool, true, false, cond, _&&_, and-true}
 use mathlib.Core.List.{List, [], _∷_}
@@ -9,13 +9,10 @@ use borrow.Author.Tests.{eqb-true, eqb-false, eq-eqb, ne-eqb, lt-ltb, le-ltb}
 use lib.Dec.{eqb, ltb}
 use lib.ListN.{length, getD, set, take, length-set}
 use lib.Seq.{getD-set-same, getD-set-other, take-all}
-use Rattle.text.specs.declared.place.Found.the-variants.{At, Nothing}
 use Rattle.tlv.specs.declared.Step.the-variants.{Field}
 use Rattle.tlv.specs.Number.{number}
 use Rattle.tlv.specs.Reading.{Part, Stands, fieldAt}
-use Rattle.tlv.proofs.Fields.{field-found}
 use Rattle.tlv.proofs.Places.{stands-narrows, stands-cut}
-use Rattle.book.specs.declared.seek.Want.the-variants as W
 use Rattle.book.specs.Search.{typeAt, fits, wanted, firstWanted}
 use Rattle.book.specs.Finders.{placeOf, typeOf, innerFrom, seekOf}
 use Rattle.book.proofs.Steps.{Bare, field-bare}

@@ -1,7 +1,7 @@
 -- Step 3 goes from offset to offset: behind each, what is latched and the places so far say the same about the rest as step 3 does about all.
 -- The entries of the latched type are laid out when it is known, so the fitting entry is read off two lists. Assumes nothing.
 use Prim.Native.Nat.{ℕ, zero, suc, _+_, _≤_, _<_}
-use mathlib.Core.Path.{_≡_, refl, sym, ap, ap₂, subst, _∙_}
+use mathlib.Core.Path.{_≡_, refl, sym, ap, ap₂, _∙_}
 use mathlib.Core.List.{List, [], _∷_, _++_, append-nil}
 use native.Mathlib.Omega.{arith}
 use borrow.Author.Tests.{eq-eqb, ne-eqb}

@@ -1,11 +1,10 @@
 -- The numbers in their order: each test that fails leaves the rest of the table, and the last leaves the tables. Assumes nothing.
-use Prim.Native.Nat.{ℕ, zero, suc, _+_, _%_, _≤_, _<_}
-use mathlib.Core.Path.{_≡_, refl, sym, ap, _∙_}
+use Prim.Native.Nat.{ℕ, suc, _+_, _%_, _≤_, _<_}
+use mathlib.Core.Path.{_≡_, refl, sym, ap}
 use mathlib.Core.Bool.{Bool, true, false, cond, _&&_}
 use mathlib.Core.List.{List}
-use native.Mathlib.Omega.{arith}
 use borrow.Author.Tests.{eq-eqb, ne-eqb, lt-ltb, le-ltb}
-use lib.Dec.{eqb, ltb}
+use lib.Dec.{ltb}
 use Rattle.text.specs.Quote.{bytes}
 use Rattle.text.specs.declared.place.Found.{Found}
 use Rattle.text.specs.declared.place.Found.the-variants.{At, Nothing}
@@ -18,21 +17,8 @@ use Rattle.packet.specs.declared.Header.the-variants as H
 use Rattle.packet.specs.declared.Opened.{Opened}
 use Rattle.packet.specs.declared.Opened.the-variants as O
 use Rattle.packet.specs.Field.{asks}
-use Rattle.packet.specs.Packet.{
-  viewed,
-  crosses,
-  zeroUuid,
-  isNothing,
-  controlAt,
-  headerAt,
-  entriesOf,
-  numberChecked,
-  firstFrom,
-  behind,
-  viewFrom,
-  word,
-}
-use Rattle.packet.specs.Inner.{headerOf, headerFor, isMissing, openBy, openOf}
+use Rattle.packet.specs.Packet.{viewed, crosses, zeroUuid, isNothing, controlAt, entriesOf, numberChecked, firstFrom, viewFrom, word}
+use Rattle.packet.specs.Inner.{headerOf, headerFor, isMissing, openOf}
 
 -- the header table is missing just where it is asked for and the book has none
 pub missing-is : (kind : ℕ) (s : List ℕ) → isMissing (headerFor kind s) ≡ (crosses kind && isNothing (uuidTable s zeroUuid))

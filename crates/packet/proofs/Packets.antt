@@ -6,13 +6,10 @@ use mathlib.Core.List.{List, [], _∷_, _++_}
 use native.Mathlib.Omega.{arith}
 use borrow.Author.Tests.{leb-true, ltb-false, le-ltb, lt-ltb}
 use lib.Dec.{eqb, leb, ltb}
-use lib.ListN.{length, take, drop, replicate, length-replicate, length-append, length-take, length-drop}
-use lib.Seq.{take-at, length-take-le}
+use lib.ListN.{length, drop, replicate, length-append, length-drop}
 use Rattle.text.specs.Quote.{bytes}
 use Rattle.text.specs.declared.place.Found.{Found}
 use Rattle.text.specs.declared.place.Found.the-variants.{At, Nothing}
-use Rattle.tlv.proofs.Pieces.{both-true}
-use Rattle.entry.specs.declared.optional.MaybeWord.{MaybeWord}
 use Rattle.book.specs.declared.Checked.{Checked}
 use Rattle.book.specs.declared.Checked.the-variants as C
 use Rattle.book.specs.Reading.{checkOf, refusalOf, tablesFill}
@@ -28,7 +25,7 @@ use Rattle.packet.specs.declared.Opened.the-variants as O
 use Rattle.packet.specs.declared.MaybeUuid.{MaybeUuid}
 use Rattle.packet.specs.declared.MaybeUuid.the-variants.{Is, Absent}
 use Rattle.packet.specs.declared.fill.Pick.the-variants.{Any, Typed}
-use Rattle.packet.specs.Steps.{entryOf, filled, controlPlaces, headerPlaces, gathered, placesIn, placesBy, uuidPlaces, protocolPlaces, protocolFrom, mapFrom}
+use Rattle.packet.specs.Steps.{entryOf, filled, controlPlaces, headerPlaces, gathered, placesIn, placesBy, uuidPlaces, protocolPlaces, protocolFrom}
 use Rattle.packet.specs.Packet.{
   crosses,
   zeroUuid,
@@ -54,10 +51,9 @@ use Rattle.packet.specs.Packet.{
   Parsed,
   Over,
 }
-use Rattle.packet.specs.Inner.{headerOf, headerFor, isMissing, openBy, openOf, placesWith, uuidWith, Described, Made}
+use Rattle.packet.specs.Inner.{headerOf, headerFor, openBy, openOf, placesWith, uuidWith, Described, Made}
 use Rattle.packet.proofs.Filling.{length-filled, length-map-from}
 use Rattle.packet.proofs.Clearing.{filled-zeros}
-use Rattle.packet.proofs.Opening.{missing-is}
 
 -- ---- how many places
 
@@ -120,31 +116,42 @@ module _ (s ds : List ℕ) where
 -- ---- what was opened
 
 module _ (kind : ℕ) (s : List ℕ) (count room : ℕ) where
-  -- a table of tests without a hit
-  record Passed : Type 0 where
-    pub none : numberChecked kind s count room ≡ 0
+  -- no number applies: what each test that a caller asks for says
+  pub record Passed : Type 0 where
     pub few : count ≤ 256
+    pub enough : (viewed kind && ltb count (entriesOf s kind)) ≡ false
     pub fit : count ≤ room
     pub there : (crosses kind && isNothing (uuidTable s zeroUuid)) ≡ false
 
-  passed : numberChecked kind s count room ≡ 0 → Passed
+  pub passed : numberChecked kind s count room ≡ 0 → Passed
   unfolding numberChecked
   passed e =
       by (eqb kind 0) (isNothing (controlTable s kind)) (crosses kind && isNothing (uuidTable s zeroUuid)) refl (ltb 256 count) refl
-      (viewed kind && ltb count (entriesOf s kind)) (ltb room count) refl e
+      (viewed kind && ltb count (entriesOf s kind)) refl (ltb room count) refl e
     where
       hit : {n : ℕ} → suc n ≡ 0 → Passed
       hit h = absurd (omega arith)
 
-      by : (a b c : Bool) → (crosses kind && isNothing (uuidTable s zeroUuid)) ≡ c → (d : Bool) → ltb 256 count ≡ d → (x f : Bool) → ltb room count ≡ f
+      by : (a b c : Bool) → (crosses kind && isNothing (uuidTable s zeroUuid)) ≡ c → (d : Bool) → ltb 256 count ≡ d
+          → (x : Bool) → (viewed kind && ltb count (entriesOf s kind)) ≡ x → (f : Bool) → ltb room count ≡ f
           → _≡_ {A = ℕ} (cond a 21 (cond b 22 (cond c 23 (cond d 24 (cond x 25 (cond f 26 0)))))) 0 → Passed
-      by true b c p d q x f r h = hit h
-      by false true c p d q x f r h = hit h
-      by false false true p d q x f r h = hit h
-      by false false false p true q x f r h = hit h
-      by false false false p false q true f r h = hit h
-      by false false false p false q false true r h = hit h
-      by false false false p false q false false r h = record { none = e; few = ltb-false 256 count q; fit = ltb-false room count r; there = p }
+      by true b c p d q x v f r h = hit h
+      by false true c p d q x v f r h = hit h
+      by false false true p d q x v f r h = hit h
+      by false false false p true q x v f r h = hit h
+      by false false false p false q true v f r h = hit h
+      by false false false p false q false v true r h = hit h
+      by false false false p false q false v false r h =
+          record { few = ltb-false 256 count q; enough = v; fit = ltb-false room count r; there = p }
+
+  -- the same where the book's own number is among them
+  pub none-applies : numberOf kind s count room ≡ 0 → Passed
+  unfolding numberOf
+  none-applies e = by (refusalOf (checkOf s)) e
+    where
+      by : (n : ℕ) → after n (numberChecked kind s count room) ≡ 0 → Passed
+      by zero h = passed h
+      by (suc n) h = absurd (omega (arith, h))
 
   -- the tables that were opened are the kind's
   pub record Open (t : Tables) : Type 0 where

@@ -1,6 +1,6 @@
 -- What the packet call promises, said of the book's tables: a number is answered exactly when it applies and no earlier one does. Each test of the
 -- call is its number's condition, and the first that holds is the answer. Assumes nothing.
-use Prim.Native.Nat.{ℕ, zero, suc, _+_, _≤_, _<_}
+use Prim.Native.Nat.{ℕ, zero, suc, _+_, _<_}
 use mathlib.Core.Path.{_≡_, refl, sym, ap, subst, _∙_}
 use mathlib.Core.Bool.{Bool, true, false, cond, _&&_}
 use mathlib.Core.List.{List, [], _∷_, _++_}
@@ -15,13 +15,11 @@ use Rattle.text.specs.declared.place.Found.{Found}
 use Rattle.text.specs.declared.place.Found.the-variants.{At, Nothing}
 use Rattle.tlv.specs.Number.{Bytes}
 use Rattle.tlv.specs.Grammar.{All, Apart}
-use Rattle.tlv.proofs.Pieces.{both-true}
 use Rattle.book.specs.declared.Checked.{Checked}
 use Rattle.book.specs.declared.Checked.the-variants as C
-use Rattle.book.specs.declared.Uuid.{Uuid}
-use Rattle.book.specs.Grammar.{Owner, kind, uuid, Entry, entryPiece, Table, GoodTable, tablePiece, IsBook}
+use Rattle.book.specs.Grammar.{Owner, kind, uuid, entryPiece, Table, GoodTable, tablePiece, IsBook}
 use Rattle.book.specs.Reading.{checkOf, refusalOf}
-use Rattle.book.specs.Finders.{FirstSo, StandsAt, Finds, placeOf, controlTable, uuidTable, entryCount, entryOfOffset}
+use Rattle.book.specs.Finders.{FirstSo, Finds, placeOf, controlTable, uuidTable, entryCount, entryOfOffset}
 use Rattle.book.proofs.Book.{book-is, book-all}
 use Rattle.book.proofs.Unique.{one-book}
 use Rattle.book.proofs.Answers.{control-table-is, control-table-none, uuid-table-is, uuid-table-none, count-entries-is, first-good, entry-of-offset-is}

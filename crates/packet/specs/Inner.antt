@@ -22,11 +22,11 @@ use Rattle.packet.specs.declared.Packet.{Packet}
 use Rattle.packet.specs.declared.Opened.{Opened}
 use Rattle.packet.specs.declared.Opened.the-variants as O
 use Rattle.packet.specs.declared.MaybeUuid.{MaybeUuid}
-use Rattle.packet.specs.declared.MaybeUuid.the-variants.{Is, Absent}
+use Rattle.packet.specs.declared.MaybeUuid.the-variants.{Absent}
 use Rattle.packet.specs.declared.fill.Pick.{Pick}
 use Rattle.packet.specs.declared.fill.Pick.the-variants.{Any, Typed}
 use Rattle.packet.specs.Field.{nameIn}
-use Rattle.packet.specs.Steps.{entryOf, filled, controlPlaces, headerPlaces, gathered, placesBy, uuidPlaces, latchBehind}
+use Rattle.packet.specs.Steps.{entryOf, filled, controlPlaces, headerPlaces, gathered, uuidPlaces, latchBehind}
 use Rattle.packet.specs.Packet.{crosses, zeroUuid, controlAt, numberChecked, viewFrom, word}
 
 -- ---- one walk over a table

@@ -1,8 +1,8 @@
 -- The packet of a kind, a book and dwords, and the number that refuses it.
 -- Assumes nothing.
-use Prim.Native.Nat.{ℕ, zero, suc, _+_, _%_, _^_}
+use Prim.Native.Nat.{ℕ, zero, suc, _+_, _%_}
 use mathlib.Core.Path.{_≡_}
-use mathlib.Core.Bool.{Bool, true, false, not, cond, _&&_, _||_}
+use mathlib.Core.Bool.{Bool, true, false, cond, _&&_, _||_}
 use mathlib.Core.List.{List, [], _∷_, _++_}
 use lib.Dec.{eqb, ltb}
 use lib.ListN.{length, drop}
@@ -12,7 +12,6 @@ use Rattle.text.specs.declared.place.Found.the-variants.{At, Nothing}
 use Rattle.entry.specs.declared.optional.MaybeWord.{MaybeWord}
 use Rattle.entry.specs.declared.optional.MaybeWord.the-variants as W
 use Rattle.book.specs.declared.Checked.{Checked}
-use Rattle.book.specs.declared.Checked.the-variants as C
 use Rattle.book.specs.declared.Uuid.{Uuid}
 use Rattle.book.specs.Reading.{checkOf, refusalOf}
 use Rattle.book.specs.Finders.{placeOf, controlTable, uuidTable, entryCount}

@@ -1,14 +1,12 @@
 -- The steps that describe a packet's dwords: for each dword the place of its entry, 0 while it has none.
 -- Assumes nothing.
-use Prim.Native.Nat.{ℕ, zero, suc, _+_}
-use mathlib.Core.Bool.{Bool, cond}
+use Prim.Native.Nat.{ℕ, zero, suc}
+use mathlib.Core.Bool.{cond}
 use mathlib.Core.List.{List, [], _∷_}
 use lib.Dec.{eqb}
-use lib.ListN.{length, getD}
 use Rattle.text.specs.Quote.{bytes}
 use Rattle.text.specs.declared.place.Found.{Found}
 use Rattle.text.specs.declared.place.Found.the-variants.{At, Nothing}
-use Rattle.book.specs.declared.Uuid.{Uuid}
 use Rattle.book.specs.Finders.{uuidTable, entryOfOffset, entryOfType}
 use Rattle.packet.specs.declared.MaybeUuid.{MaybeUuid}
 use Rattle.packet.specs.declared.MaybeUuid.the-variants.{Is, Absent}

@@ -11,8 +11,6 @@ use text::place::Found;
 ghost use mathlib.Core.Path.{_≡_};
 ghost use mathlib.Core.Bool.{_&&_};
 ghost use lib.Dec.{ltb};
-ghost use Prim.Native.Nat.{_≤_};
-ghost use lib.ListN.{length};
 ghost use Rattle.book.specs.Finders.{entryCount};
 ghost use Rattle.packet.specs.Packet.{viewed, crosses, controlAt, viewFrom, word};
 ghost use Rattle.packet.specs.Inner.{headerFor, isMissing, openOf};

@@ -1,11 +1,11 @@
 -- A text is put byte after byte: what stands so far is a copy of its first bytes, and the whole copy is the text. Assumes nothing.
-use Prim.Native.Nat.{ℕ, zero, suc, _+_, _-_, _≤_, _<_}
-use mathlib.Core.Path.{_≡_, refl, sym, ap, _∙_}
-use mathlib.Core.List.{List, [], _∷_, _++_}
+use Prim.Native.Nat.{ℕ, _+_, _-_, _≤_, _<_}
+use mathlib.Core.Path.{_≡_, sym, _∙_}
+use mathlib.Core.List.{List}
 use native.Mathlib.Numerals.{add-one}
 use native.Mathlib.Omega.{arith}
-use lib.ListN.{length, getD, take, drop, set}
-use lib.Seq.{sets, sets-eq, paste, paste-zero, paste-suc, length-paste, take-length}
+use lib.ListN.{length, getD, set}
+use lib.Seq.{sets-eq, paste, paste-zero, paste-suc, length-paste, take-length}
 use borrow.Author.Tests.{le-leb, lt-leb}
 use Rattle.print.specs.Put.{bufferAfter, placeAfter, Placed}
 

@@ -1,5 +1,4 @@
 // The decimal digits of a number.
-ghost use mathlib.Core.Path.{_≡_};
 ghost use Rattle.print.specs.Put.{Digits as DigitsOf};
 
 // The digits stand at the end of the bytes, from a place on.

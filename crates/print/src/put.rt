@@ -1,6 +1,5 @@
 // Bytes and numbers into a lent buffer.
 use crate::digits::digits_of;
-ghost use mathlib.Core.Path.{_≡_};
 ghost use Rattle.text.specs.Decimal.{decimalText};
 ghost use Rattle.print.specs.Put.{Placed};
 

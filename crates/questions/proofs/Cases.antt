@@ -1,10 +1,8 @@
 -- Document 01's cases of packets: P12 and P14 from the packets computed in crate `packet`, P13 computed here. Assumes nothing.
-use Prim.Native.Nat.{ℕ, _+_, _^_}
+use Prim.Native.Nat.{_+_, _^_}
 use mathlib.Core.Path.{_≡_, refl}
-use mathlib.Core.List.{List, [], _∷_}
-use lib.ListN.{length}
+use mathlib.Core.List.{[], _∷_}
 use Rattle.tlv.specs.Grammar.{fieldBytes}
-use Rattle.packet.specs.Packet as Packet
 use Rattle.packet.specs.Packet.{entriesOf}
 use Rattle.packet.proofs.Examples.{threeEntries, threeUuids, fourUuids, packets-open}
 use Rattle.questions.specs.Answers.{is, absent, refused}

@@ -2,22 +2,21 @@
 -- whatever was there before. Assumes nothing.
 use Prim.Native.Nat.{ℕ, zero, suc, _≤_}
 use mathlib.Core.Path.{_≡_, refl, sym, ap, _∙_}
-use mathlib.Core.Bool.{Bool, true, false, cond, _&&_}
+use mathlib.Core.Bool.{Bool, true, false}
 use mathlib.Core.List.{List, _++_}
 use native.Mathlib.Omega.{arith}
 use borrow.Author.Tests.{ltb-false, le-ltb}
-use lib.Dec.{eqb, ltb}
+use lib.Dec.{ltb}
 use lib.ListN.{length, take, drop, length-append}
 use lib.Seq.{take-at}
 use Rattle.book.specs.declared.Checked.the-variants as C
 use Rattle.book.specs.Reading.{checkOf, refusalOf}
-use Rattle.book.specs.Finders.{controlTable, uuidTable}
 use Rattle.packet.specs.declared.Answer.{Answer}
 use Rattle.packet.specs.declared.Answer.the-variants as A
 use Rattle.packet.specs.declared.Packet.{Packet}
 use Rattle.packet.specs.Packet as packet
-use Rattle.packet.specs.Packet.{Parsed, after, crosses, isNothing, zeroUuid, viewed, entriesOf, numberChecked, numberOf, placesOf, packetOf, parseOf, listBy}
-use Rattle.packet.proofs.Packets.{length-places, parsed-20}
+use Rattle.packet.specs.Packet.{Parsed, after, numberChecked, numberOf, placesOf, packetOf, parseOf, listBy}
+use Rattle.packet.proofs.Packets.{Passed, none-applies, length-places, parsed-20}
 use Rattle.questions.specs.Answers.{Told, is, refused, unless}
 use Rattle.questions.specs.Questions.{refusal, answer}
 
@@ -34,37 +33,10 @@ never-26 kind s count room le = ap (after (refusalOf (checkOf s))) (by (ltb 256 
         let few : count ≤ 256 = ltb-false 256 count e in
         rw (le-ltb room count (omega (arith, few, le)), le-ltb count count (omega arith))
 
-after-none : (n k : ℕ) → after n k ≡ 0 → k ≡ 0
-after-none zero k e = e
-after-none (suc n) k e = absurd (omega arith)
-
 -- no number: what each test says
-pub record Passed (kind : ℕ) (s : List ℕ) (count : ℕ) : Type 0 where
-  pub few : count ≤ 256
-  pub enough : (viewed kind && ltb count (entriesOf s kind)) ≡ false
-
-pub passed : (kind : ℕ) (s ds : List ℕ) → refusal kind s ds ≡ 0 → Passed kind s (length ds)
-unfolding refusal numberOf numberChecked
-passed kind s ds e =
-    by (eqb kind 0) (isNothing (controlTable s kind)) (crosses kind && isNothing (uuidTable s zeroUuid)) (ltb 256 count) refl
-    (viewed kind && ltb count (entriesOf s kind)) refl (ltb count count)
-    (after-none (refusalOf (checkOf s)) (numberChecked kind s count count) e)
-  where
-    count : ℕ
-    count = length ds
-
-    hit : {n : ℕ} → suc n ≡ 0 → Passed kind s (length ds)
-    hit h = absurd (omega arith)
-
-    by : (a b c d : Bool) → ltb 256 (length ds) ≡ d → (x : Bool) → (viewed kind && ltb (length ds) (entriesOf s kind)) ≡ x → (f : Bool)
-        → _≡_ {A = ℕ} (cond a 21 (cond b 22 (cond c 23 (cond d 24 (cond x 25 (cond f 26 0)))))) 0 → Passed kind s (length ds)
-    by true b c d p x q f h = hit h
-    by false true c d p x q f h = hit h
-    by false false true d p x q f h = hit h
-    by false false false true p x q f h = hit h
-    by false false false false p true q f h = hit h
-    by false false false false p false q true h = hit h
-    by false false false false p false q false h = record { few = ltb-false 256 (length ds) p; enough = q }
+pub passed : (kind : ℕ) (s ds : List ℕ) → refusal kind s ds ≡ 0 → Passed kind s (length ds) (length ds)
+unfolding refusal
+passed kind s ds e = none-applies kind s (length ds) (length ds) e
 
 -- ---- an answer by the number
 

@@ -1,8 +1,8 @@
 -- The ways to an answer: a number of 30 to 34, too few slots, or the entry with its dwords over the first slots. Assumes nothing.
 use Prim.Native.Nat.{ℕ, _/_, _≤_, _<_}
-use mathlib.Core.Path.{_≡_, _∙_, sym, ap, refl}
+use mathlib.Core.Path.{_≡_, refl}
 use mathlib.Core.List.{List}
-use borrow.Author.Tests.{eq-eqb, ne-eqb, le-leb, lt-leb}
+use borrow.Author.Tests.{ne-eqb, le-leb, lt-leb}
 use lib.ListN.{length}
 use Rattle.entry.specs.declared.Entry.{Entry}
 use Rattle.record.specs.declared.Answer.the-variants as A

@@ -2,14 +2,13 @@
 -- induction. Assumes nothing.
 use Prim.Native.Nat.{ℕ, zero, suc, _+_, _-_, _*_, _/_, _%_, _^_, _≤_, _<_}
 use mathlib.Core.Path.{_≡_, _∙_, sym, ap, ap₂, refl}
-use mathlib.Core.Bool.{Bool, true, false, cond, _&&_}
+use mathlib.Core.Bool.{Bool, true, false, cond}
 use mathlib.Core.List.{List, [], _∷_, _++_, map, append-nil}
-use mathlib.Core.Option.{Option, some, none, Option·map, Option·getD}
+use mathlib.Core.Option.{Option, some, none, Option·map}
 use native.Mathlib.Omega.{arith}
-use native.Mathlib.Nat.{zero-add}
 use borrow.Author.Tests.{eqb-true, leb-true, ltb-true, eq-eqb, le-leb, lt-ltb}
 use lib.Dec.{ltb, eqb}
-use lib.ListN.{length, getD, take, drop, length-append, length-drop}
+use lib.ListN.{length, take, drop, length-append}
 use lib.Seq.{take-all, take-add, drop-drop, drop-at}
 use Rattle.text.proofs.Texts.{both-left, both-right}
 use Rattle.tlv.specs.Number.{Bytes, number, numberBytes}
@@ -24,7 +23,7 @@ use Rattle.record.specs.declared.find.Span.the-variants.{At, Absent}
 use Rattle.record.specs.Grammar.{dwordsBytes, Below}
 use Rattle.record.specs.Rule.{fitsText, fitsNumber, fitsDwords}
 use Rattle.record.specs.Finding.{spanAmong, spanOf, isThere, placeOf, maybeOf, numberOf}
-use Rattle.record.specs.Reading.{dwordsAt, dwordCount, dwordsOf}
+use Rattle.record.specs.Reading.{dwordsAt}
 use Rattle.record.proofs.Finding.{lookup, span-moves}
 
 -- ---- numbers

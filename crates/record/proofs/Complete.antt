@@ -1,20 +1,20 @@
 -- Every record of the grammar is read, and reads as the value that it was made from: its fields are the rows that are there, each is good, and each
 -- is found by its tag. Assumes nothing.
-use Prim.Native.Nat.{ℕ, _+_, _-_, _*_, _/_, _^_, _≤_, _<_}
+use Prim.Native.Nat.{ℕ, _+_, _-_, _*_, _^_, _≤_, _<_}
 use mathlib.Core.Path.{_≡_, _∙_, sym, ap, refl}
-use mathlib.Core.Bool.{Bool, true, false, cond, not, _&&_}
-use mathlib.Core.List.{List, [], _∷_, _++_, append-nil}
+use mathlib.Core.Bool.{Bool, true, false}
+use mathlib.Core.List.{List, [], append-nil}
 use mathlib.Core.Option.{Option, some, none, Option·map}
 use native.Mathlib.Omega.{arith}
 use borrow.Author.Tests.{eq-eqb, ne-eqb, lt-ltb, le-leb}
 use lib.Dec.{eqb}
 use lib.ListN.{length, drop}
-use lib.Seq.{take-all, drop-length}
+use lib.Seq.{take-all}
 use Rattle.text.specs.Class.{isWord}
 use Rattle.tlv.specs.declared.Step.the-variants.{Field}
 use Rattle.tlv.specs.Number.{numberBytes}
-use Rattle.tlv.specs.Grammar.{Piece, fieldBytes, fieldsBytes, All}
-use Rattle.tlv.specs.Reading.{fieldAt, partAt, Stands, fills}
+use Rattle.tlv.specs.Grammar.{fieldBytes, fieldsBytes}
+use Rattle.tlv.specs.Reading.{fieldAt}
 use Rattle.tlv.proofs.Pieces.{field-bytes-length, made-field, made-pieces, made-fills}
 use Rattle.entry.specs.Entry.{EntryValue, partOf, byteValue, wordValue, valueOf}
 use Rattle.entry.proofs.Parts.{part-in}
@@ -22,13 +22,12 @@ use Rattle.record.specs.declared.rule.Width.{Width}
 use Rattle.record.specs.declared.rule.Width.the-variants.{One, Two, Four, Eight}
 use Rattle.record.specs.declared.rule.Letters.the-variants as L
 use Rattle.record.specs.declared.rule.Rule.the-variants as R
-use Rattle.record.specs.Grammar.{Row, flag, dwordsBytes, rowsOf, present, recordBytes, Below, TaskText, FunctionText, Ranged, IsRecord}
+use Rattle.record.specs.Grammar.{flag, dwordsBytes, rowsOf, present, recordBytes, Below, Ranged, IsRecord}
 use Rattle.record.specs.Rule.{bytesOf, ruleOf, isLetter, fitsRule}
 use Rattle.record.specs.Judging.{framed, taskSize, judged, hasRequired, refusalOf}
-use Rattle.record.specs.Conditions.{GoodFields}
 use Rattle.record.specs.Finding.{maybeOf, numberOf, byteOf, wordOf, asByte, asWord, placeOf}
 use Rattle.record.specs.Gathering.{originOf, packetOf, notedOf, entryOf}
-use Rattle.record.specs.Reading.{dwordsAt, dwordCount, dwordsOf}
+use Rattle.record.specs.Reading.{dwordCount, dwordsOf}
 use Rattle.record.proofs.Finding.{lookup}
 use Rattle.record.proofs.Rows.{RisingRows, bodyAt, lookup-present, GoodRows, rows-good}
 use Rattle.record.proofs.Judging.{judged-good, nothing-refused}

@@ -1,21 +1,19 @@
 -- Finding a field by its tag: the field sought among those from a place on is the one there, if it has the tag, else the one sought from its end on.
 -- Assumes nothing.
-use Prim.Native.Nat.{ℕ, _+_, _-_, _≤_, _<_}
-use mathlib.Core.Path.{_≡_, _∙_, sym, ap, refl}
+use Prim.Native.Nat.{ℕ, _-_, _≤_, _<_}
+use mathlib.Core.Path.{_≡_, _∙_, sym, refl}
 use mathlib.Core.Bool.{Bool, true, false, cond}
-use mathlib.Core.List.{List, [], _∷_, map}
+use mathlib.Core.List.{List, [], _∷_}
 use mathlib.Core.Option.{Option, some, none}
 use native.Mathlib.Omega.{arith}
 use borrow.Author.Tests.{eq-eqb, ne-eqb, eqb-true}
 use lib.Dec.{eqb}
 use lib.ListN.{length}
-use Rattle.tlv.specs.declared.Step.{Step}
-use Rattle.tlv.specs.declared.Step.the-variants.{Field, Stray, Overrun, End}
-use Rattle.tlv.specs.Reading.{fieldAt, refusalOf, Part, Stands, between, pieceOf, parts}
+use Rattle.tlv.specs.declared.Step.the-variants.{Field, End}
+use Rattle.tlv.specs.Reading.{fieldAt, refusalOf, Part, Stands, parts}
 use Rattle.tlv.specs.Grammar.{Piece, All}
 use Rattle.tlv.proofs.Fields.{Found, field-found}
 use Rattle.tlv.proofs.Walks.{parts-end, parts-cut, parts-field, parts-stand}
-use Rattle.record.specs.declared.find.Span.{Span}
 use Rattle.record.specs.declared.find.Span.the-variants.{At, Absent}
 use Rattle.record.specs.Finding.{spanAmong, spanOf}
 

@@ -3,17 +3,16 @@
 use Prim.Native.Nat.{ℕ, _+_, _-_, _≤_, _<_}
 use mathlib.Core.Path.{_≡_, _∙_, sym, ap, refl}
 use mathlib.Core.Bool.{Bool, true, false, cond}
-use mathlib.Core.List.{List, [], _∷_, map}
+use mathlib.Core.List.{List, map}
 use native.Mathlib.Omega.{arith}
 use borrow.Author.Tests.{eq-eqb, ne-eqb, lt-ltb, le-ltb, ltb-true, eqb-true, eqb-false}
 use mathlib.Core.Bool.{_&&_, false≢true}
 use native.Mathlib.Numerals.{add-one}
 use lib.Dec.{eqb, ltb}
-use lib.ListN.{length, getD, drop, drop-of-length-le}
+use lib.ListN.{getD, drop, drop-of-length-le}
 use lib.Seq.{drop-cons}
-use Rattle.tlv.specs.declared.Step.{Step}
-use Rattle.tlv.specs.declared.Step.the-variants.{Field, Stray, Overrun, End}
-use Rattle.tlv.specs.Reading.{fieldAt, Part, Stands, between, pieceOf, walk, parts, fills, all}
+use Rattle.tlv.specs.declared.Step.the-variants.{Field, End}
+use Rattle.tlv.specs.Reading.{fieldAt, Part, Stands, between, pieceOf, parts, fills, all}
 use Rattle.tlv.specs.Reading.{refusalOf as cutOf}
 use Rattle.tlv.proofs.Walks.{by-fields, walk-end, walk-cut, walk-field, parts-end, parts-field, filled-end, filled-cut, filled-field}
 use Rattle.record.specs.Judging.{framed, taskSize, judgeField, joined, judged, requiredTags, hasRequired, refusalOf}

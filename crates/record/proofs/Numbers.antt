@@ -1,38 +1,34 @@
 -- Each number is answered exactly where its condition holds: up to the first thing wrong the fields are good, and a text has one first thing wrong,
 -- since the judgement passes over good fields. Assumes nothing.
-use Prim.Native.Nat.{ℕ, zero, suc, _+_, _-_, _≤_, _<_}
+use Prim.Native.Nat.{ℕ, _+_, _-_, _≤_, _<_}
 use mathlib.Core.Path.{_≡_, _∙_, sym, ap, ap₂, refl}
 use mathlib.Core.Bool.{Bool, true, false, cond, _&&_, and-false, false≢true}
-use mathlib.Core.List.{List, [], _∷_, _++_, map, append-nil, List·Memᴰ, List·Memᴰ·head, List·Memᴰ·tail, List·Memᴰ·not-nil, List·Memᴰ·cases-cons}
+use mathlib.Core.List.{List, [], _∷_, _++_, append-nil, List·Memᴰ, List·Memᴰ·head, List·Memᴰ·tail, List·Memᴰ·not-nil, List·Memᴰ·cases-cons}
 use mathlib.Core.Logic.{_↔_, _⊎_, ⊎-elim}
 use mathlib.Core.Option.{Option, some, none}
 use native.Mathlib.Omega.{arith}
 use borrow.Author.Tests.{eq-eqb, ne-eqb, eqb-true, eqb-false, ltb-true, ltb-false, leb-false, lt-leb}
 use lib.Dec.{eqb, ltb, leb}
-use lib.ListN.{length, take, drop, length-append, length-take, drop-of-length-le}
+use lib.ListN.{length, take, drop, length-take, drop-of-length-le}
 use lib.Seq.{take-at, take-take}
-use Rattle.tlv.specs.declared.Step.{Step}
-use Rattle.tlv.specs.declared.Step.the-variants.{Field}
 use Rattle.tlv.specs.Number.{Bytes}
-use Rattle.tlv.specs.Grammar.{Piece, fieldBytes, fieldsBytes, FieldAt, RunsPast}
-use Rattle.tlv.specs.Reading.{fieldAt, Part, partAt, Stands, between, pieceOf, parts, fills, all}
-use Rattle.tlv.specs.Reading.{refusalOf as cutOf}
+use Rattle.tlv.specs.Grammar.{Piece, fieldBytes, fieldsBytes, FieldAt}
+use Rattle.tlv.specs.Reading.{Part, partAt, Stands, between, pieceOf, all}
 use Rattle.tlv.proofs.Fields.{Found, field-found, field-all, field-is, refusal-is, refusal-all, end-all}
 use Rattle.tlv.proofs.Places.{between-length, between-end, between-join, between-is, stands-widens}
 use Rattle.tlv.proofs.Walks.{by-fields}
 use Rattle.tlv.proofs.Pieces.{field-bytes-length, fields-bytes-append, part-made, made-pieces, fills-made}
 use Rattle.tlv.proofs.Levels.{first-all}
 use Rattle.record.specs.Rule.{ruleOf, isKnown, fitsRule}
-use Rattle.record.specs.Judging.{framed, framedBy, taskSize, judgeField, joined, judged, requiredTags, hasRequired, refusalOf}
+use Rattle.record.specs.Judging.{framed, taskSize, judgeField, joined, judged, requiredTags, hasRequired, refusalOf}
 use Rattle.record.specs.Conditions.{GoodField, GoodFields, lastTag, Framed, GoodUpTo, Lacks, Breaks, unframed, runs-past, wrong-tag, wrong-body, lacks-tag}
 use Rattle.record.specs.Finding.{spanOf, isThere}
-use Rattle.record.specs.declared.find.Span.{Span}
-use Rattle.record.specs.declared.find.Span.the-variants.{At, Absent}
+use Rattle.record.specs.declared.find.Span.the-variants.{Absent}
 use Rattle.record.specs.declared.Answer.the-variants as A
 use Rattle.record.specs.Gathering.{entryOf}
 use Rattle.record.specs.Reading.{dwordCount, readOf}
 use Rattle.record.proofs.Finding.{lookup}
-use Rattle.record.proofs.Bodies.{piecesIn, lookup-span, body-absent, body-there}
+use Rattle.record.proofs.Bodies.{piecesIn, body-absent, body-there}
 use Rattle.record.proofs.Judging.{judged-end, judged-cut, judged-field, field-good, body-good, body-bad, judged-zero, not-framed, field-refused, tag-missing}
 use Rattle.record.proofs.Sound.{framed-is}
 

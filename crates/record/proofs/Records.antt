@@ -1,15 +1,15 @@
 -- The promises of reading: with 256 slots a text is accepted exactly if it is a record, and its entry is the one that the record is of; a record has
 -- one reading and at most 5,227 bytes; a refusal changes nothing. Assumes nothing.
-use Prim.Native.Nat.{ℕ, _+_, _*_, _≤_, _<_}
+use Prim.Native.Nat.{ℕ, _+_, _≤_}
 use mathlib.Core.Path.{_≡_, _∙_, sym, ap, refl}
 use mathlib.Core.Bool.{Bool, true, false, cond}
-use mathlib.Core.List.{List, _++_}
+use mathlib.Core.List.{List}
 use mathlib.Core.Logic.{_↔_}
 use mathlib.Core.Option.{Option, some, none, Option·map}
 use native.Mathlib.Omega.{arith}
-use borrow.Author.Tests.{eqb-true, eq-eqb, le-leb, leb-true}
+use borrow.Author.Tests.{eqb-true, le-leb, leb-true}
 use lib.Dec.{eqb, leb}
-use lib.ListN.{length, take, drop, length-append, length-drop}
+use lib.ListN.{length, drop, length-append}
 use lib.Seq.{take-append-seam}
 use Rattle.tlv.specs.Number.{Bytes, numberBytes}
 use Rattle.tlv.specs.Grammar.{fieldsBytes}
@@ -20,14 +20,13 @@ use Rattle.entry.specs.Entry.{EntryValue, partOf, valueOf, Lies}
 use Rattle.entry.proofs.Parts.{part-in}
 use Rattle.record.specs.declared.Answer.{Answer}
 use Rattle.record.specs.declared.Answer.the-variants as A
-use Rattle.record.specs.Grammar.{rowsOf, present, recordBytes, Ranged, IsRecord}
+use Rattle.record.specs.Grammar.{rowsOf, present, recordBytes, IsRecord}
 use Rattle.record.specs.Judging.{refusalOf}
-use Rattle.record.specs.Finding.{placeOf}
 use Rattle.record.specs.Gathering.{entryOf}
 use Rattle.record.specs.Reading.{over, dwordCount, dwordsOf, readOf, slotsBy, Reading}
-use Rattle.record.proofs.Rows.{sizeOf, sizesOf, present-length}
+use Rattle.record.proofs.Rows.{sizeOf, present-length}
 use Rattle.record.proofs.Bodies.{dwords-bytes-length}
-use Rattle.record.proofs.Complete.{valueIn, part-all, record-not-refused, record-dword-count, record-dwords, record-value}
+use Rattle.record.proofs.Complete.{valueIn, part-all, record-not-refused, record-dword-count, record-value}
 use Rattle.record.proofs.Sound.{Passes, passes-all, passes-is, dwords-count, places-lie}
 
 -- a text is accepted as v: reading answers an entry whose parts lie in the text and the slots as left, and which says v

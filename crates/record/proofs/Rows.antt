@@ -1,9 +1,9 @@
 -- Rising tags: fields whose tags ascend are the fields found tag by tag, so an absent field needs no case of its own. One law, over any rows.
 -- Assumes nothing.
 use Prim.Native.Nat.{ℕ, zero, suc, _+_, _≤_, _<_}
-use mathlib.Core.Path.{_≡_, _∙_, sym, ap, refl}
+use mathlib.Core.Path.{_≡_, _∙_, refl}
 use mathlib.Core.Bool.{Bool, true, false, cond}
-use mathlib.Core.List.{List, [], _∷_, _++_, map}
+use mathlib.Core.List.{List, [], _∷_}
 use mathlib.Core.Option.{Option, some, none}
 use native.Mathlib.Omega.{arith}
 use native.Mathlib.Decide.{decLe}
@@ -13,7 +13,7 @@ use lib.ListN.{length, length-append}
 use Rattle.tlv.specs.Grammar.{Piece, fieldBytes, fieldsBytes, All}
 use Rattle.tlv.proofs.Pieces.{field-bytes-length}
 use Rattle.record.specs.Grammar.{Row, placed, present}
-use Rattle.record.specs.Conditions.{GoodField, GoodFields}
+use Rattle.record.specs.Conditions.{GoodFields}
 use Rattle.record.specs.Rule.{ruleOf, isKnown, fitsRule}
 use Rattle.record.proofs.Finding.{lookup}
 

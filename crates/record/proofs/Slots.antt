@@ -1,11 +1,11 @@
 -- Dwords written one by one are dwords written over the first slots: what is still to be written shortens as the place moves on. Assumes nothing.
 use Prim.Native.Nat.{ℕ, zero, suc, _+_, _-_, _*_, _≤_, _<_}
 use mathlib.Core.Path.{_≡_, _∙_, sym, ap, refl}
-use mathlib.Core.List.{List, [], _∷_, _++_}
+use mathlib.Core.List.{List, _++_}
 use native.Mathlib.Numerals.{add-one}
 use native.Mathlib.Nat.{sub-zero, zero-add}
 use native.Mathlib.Omega.{arith}
-use lib.ListN.{length, getD, take, drop, set, length-set}
+use lib.ListN.{length, drop, set, length-set}
 use lib.Seq.{sets, sets-eq}
 use Rattle.tlv.specs.Number.{number}
 use Rattle.record.specs.Reading.{over, dwordsAt}

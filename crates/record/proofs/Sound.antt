@@ -1,14 +1,14 @@
 -- What is read is a record of the grammar: good fields with ascending tags are those found tag by tag, and each is the row of the value that they
 -- give. Assumes nothing.
-use Prim.Native.Nat.{ℕ, suc, _+_, _-_, _*_, _/_, _^_, _≤_, _<_}
+use Prim.Native.Nat.{ℕ, suc, _+_, _-_, _*_, _/_, _≤_, _<_}
 use mathlib.Core.Path.{_≡_, _∙_, sym, ap, refl}
-use mathlib.Core.Bool.{Bool, true, false, cond, not, _&&_, false≢true}
+use mathlib.Core.Bool.{Bool, true, false, cond, not, false≢true}
 use mathlib.Core.List.{List, [], _∷_, _++_, append-nil}
 use mathlib.Core.Option.{Option, some, none, Option·map}
 use native.Mathlib.Omega.{arith}
 use native.Mathlib.Decide.{decLe}
 use borrow.Author.Tests.{eqb-true, eqb-false, leb-true, ltb-true, not-true}
-use lib.Dec.{eqb, ltb, leb}
+use lib.Dec.{eqb, leb}
 use lib.ListN.{length, drop, take}
 use lib.Seq.{take-all, drop-length}
 use Rattle.text.specs.Class.{isWord}
@@ -17,11 +17,11 @@ use Rattle.tlv.specs.declared.Step.{Step}
 use Rattle.tlv.specs.declared.Step.the-variants.{Field, Stray, Overrun, End}
 use Rattle.tlv.specs.Number.{Bytes, number, numberBytes}
 use Rattle.tlv.specs.Grammar.{Piece, fieldBytes, fieldsBytes, All}
-use Rattle.tlv.specs.Reading.{fieldAt, Part, between, fills, parts, all}
+use Rattle.tlv.specs.Reading.{fieldAt, Part, between, fills, parts}
 use Rattle.tlv.proofs.Fields.{Found, field-found}
 use Rattle.tlv.proofs.Places.{between-end}
 use Rattle.tlv.proofs.Pieces.{part-made, fills-made}
-use Rattle.entry.specs.Entry.{EntryValue, partOf, byteValue, wordValue, valueOf, Lies}
+use Rattle.entry.specs.Entry.{partOf, byteValue, wordValue, valueOf, Lies}
 use Rattle.record.specs.declared.rule.Width.{Width}
 use Rattle.record.specs.declared.rule.Width.the-variants.{One, Two, Four, Eight}
 use Rattle.record.specs.declared.rule.Letters.the-variants as L
@@ -29,38 +29,19 @@ use Rattle.record.specs.declared.rule.Rule.{Rule}
 use Rattle.record.specs.declared.rule.Rule.the-variants as R
 use Rattle.record.specs.declared.find.Span.{Span}
 use Rattle.record.specs.declared.find.Span.the-variants.{At, Absent}
-use Rattle.record.specs.Grammar.{Row, flag, dwordsBytes, rowsOf, present, recordBytes, Below, TaskText, FunctionText, Ranged, IsRecord}
-use Rattle.record.specs.Rule.{bytesOf, ruleOf, isKnown, isLetter, fitsText, fitsDwords, fitsRule}
-use Rattle.record.specs.Judging.{framed, framedBy, taskIn, taskSize, judged, requiredTags, hasRequired, orElse, refusalOf}
-use Rattle.record.specs.Conditions.{GoodField, GoodFields}
+use Rattle.record.specs.Grammar.{flag, dwordsBytes, rowsOf, present, recordBytes, Below, TaskText, FunctionText, Ranged, IsRecord}
+use Rattle.record.specs.Rule.{bytesOf, ruleOf, isKnown, isLetter, fitsText, fitsRule}
+use Rattle.record.specs.Judging.{framed, framedBy, taskSize, judged, requiredTags, hasRequired, refusalOf}
+use Rattle.record.specs.Conditions.{GoodFields}
 use Rattle.record.specs.Finding.{spanOf, isThere, maybeOf, numberOf, byteOf, wordOf, placeOf}
 use Rattle.record.specs.Gathering.{originOf, packetOf, notedOf, entryOf}
 use Rattle.record.specs.Reading.{dwordsAt, dwordCount, dwordsOf}
 use Rattle.record.proofs.Texts.{unknown-behind}
 use Rattle.record.proofs.Finding.{lookup}
-use Rattle.record.proofs.Rows.{Rising, rowsFrom, found-by-tag, good-rising, good-lookup}
+use Rattle.record.proofs.Rows.{rowsFrom, found-by-tag, good-rising, good-lookup}
 use Rattle.record.proofs.Judging.{judged-zero}
 use Rattle.record.proofs.Slots.{dwords-length}
-use Rattle.record.proofs.Bodies.{
-  all-is,
-  bytes-number,
-  fits-number-is,
-  fits-text-is,
-  fits-dwords-is,
-  dwords-made,
-  dwords-below,
-  piecesIn,
-  lookup-span,
-  Body,
-  body-found,
-  body-absent,
-  body-bytes,
-  number-read,
-  text-read,
-  place-within,
-  place-length,
-  dwords-read,
-}
+use Rattle.record.proofs.Bodies.{all-is, bytes-number, fits-number-is, fits-text-is, fits-dwords-is, dwords-made, dwords-below, piecesIn, Body, body-found, body-absent, body-bytes, number-read, text-read, place-within, place-length, dwords-read}
 use Rattle.record.proofs.Complete.{valueIn, byte-value, word-value, part-all, task-size}
 
 -- ---- what no number says

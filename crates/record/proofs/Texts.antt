@@ -1,18 +1,18 @@
 -- Bodies against their rules, by places: a text is read byte by byte, a number and a length at once. Assumes nothing.
-use Prim.Native.Nat.{ℕ, _+_, _-_, _%_, _≤_, _<_}
-use mathlib.Core.Path.{_≡_, _∙_, sym, ap, refl}
-use mathlib.Core.Bool.{Bool, true, false, cond, _&&_}
-use mathlib.Core.List.{List, [], _∷_}
+use Prim.Native.Nat.{ℕ, _+_, _-_, _≤_, _<_}
+use mathlib.Core.Path.{_≡_, _∙_, sym, refl}
+use mathlib.Core.Bool.{Bool, true, false}
+use mathlib.Core.List.{List, []}
 use native.Mathlib.Omega.{arith}
 use borrow.Author.Tests.{lt-ltb, le-ltb, le-leb, lt-leb, eq-eqb, ne-eqb}
-use lib.Dec.{leb, eqb}
-use lib.ListN.{length, getD, drop, drop-of-length-le, length-take, List·getD-eq-default}
+use lib.Dec.{leb}
+use lib.ListN.{length, getD, drop-of-length-le, length-take, List·getD-eq-default}
 use Rattle.tlv.specs.Number.{number}
 use Rattle.tlv.specs.Reading.{between, all}
 use Rattle.tlv.proofs.Places.{between-length, between-first, number-between}
 use Rattle.record.specs.declared.rule.Letters.the-variants as L
 use Rattle.record.specs.declared.rule.Rule.the-variants as R
-use Rattle.record.specs.Rule.{rules, ruleOf, isLetter, fitsText, fitsNumber, fitsDwords, fitsRule}
+use Rattle.record.specs.Rule.{rules, ruleOf, isLetter, fitsText, fitsNumber, fitsRule}
 
 -- a number that is at least n, and is not n
 pub next : (n : ℕ) {tag : ℕ} → n ≤ tag → (tag ≡ n → ⊥) → n + 1 ≤ tag

@@ -1,9 +1,9 @@
 -- Numbers 30 to 34 of a text, in the order of document 01: 30; field by field 31, 32, 34; then 33.
 -- Assumes nothing.
 use Prim.Native.Nat.{ℕ, _-_}
-use mathlib.Core.Bool.{Bool, true, false, cond, _&&_}
+use mathlib.Core.Bool.{Bool, false, cond, _&&_}
 use mathlib.Core.List.{List, [], _∷_}
-use lib.Dec.{ltb, leb, eqb}
+use lib.Dec.{ltb, eqb}
 use lib.ListN.{length}
 use Rattle.tlv.specs.declared.Step.{Step}
 use Rattle.tlv.specs.declared.Step.the-variants.{Field, Stray, Overrun, End}

@@ -8,7 +8,7 @@ use tlv::field_at;
 use tlv::four_at;
 use tlv::two_at;
 ghost use mathlib.Core.Path.{_≡_};
-ghost use Prim.Native.Nat.{_≤_, _<_, _+_};
+ghost use Prim.Native.Nat.{_≤_, _+_};
 ghost use lib.ListN.{length};
 ghost use Rattle.record.specs.Finding.{spanOf, isThere, placeOf, numberOf, byteOf, wordOf};
 

@@ -10,7 +10,6 @@ pub mod gather;
 pub mod judge;
 pub mod rule;
 
-use crate::find::Place;
 use crate::find::place_of;
 use crate::gather::entry_of;
 use crate::judge::refusal;

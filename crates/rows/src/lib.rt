@@ -3,7 +3,6 @@ use print::put::put;
 use print::put::put_decimal;
 ghost use Prim.Native.Nat.{_+_, _≤_};
 ghost use lib.ListN.{length};
-ghost use Rattle.text.specs.Decimal.{decimalText};
 ghost use Rattle.rows.specs.Rows.{Put, wordAndNumber, refusedRow, entryRow, totalsRow};
 
 // The row of a refused line: its place among the lines, and the number.

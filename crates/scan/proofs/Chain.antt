@@ -1,7 +1,7 @@
 -- The chain of numbers: an answer is the first number whose condition holds, or an entry where none does. Each stage hands on that no
 -- earlier number applies, and two laws carry every number: one for a test, one for something that must be there. Assumes nothing.
-use Prim.Native.Nat.{ℕ, zero, suc, _+_, _≤_, _<_}
-use mathlib.Core.Path.{_≡_, refl, sym, ap, _∙_}
+use Prim.Native.Nat.{ℕ, suc, _<_}
+use mathlib.Core.Path.{_≡_, refl}
 use mathlib.Core.Bool.{Bool, true, false, cond}
 use mathlib.Core.List.{List}
 use mathlib.Core.Option.{Option, some, none}

@@ -1,10 +1,10 @@
 -- The reading is the grammar's: each number is answered exactly where its condition holds and no earlier one does, and an entry exactly
 -- where none does, with what the line says. Each check's presence and absence come from that field's own soundness and completeness;
 -- the chain puts them in the order of the numbers. Assumes nothing.
-use Prim.Native.Nat.{ℕ, zero, suc, _+_, _-_, _^_, _≤_, _<_}
+use Prim.Native.Nat.{ℕ, _-_, _^_, _≤_, _<_}
 use mathlib.Core.Path.{_≡_, refl, sym, ap, _∙_}
 use mathlib.Core.Bool.{Bool, true, false, cond}
-use mathlib.Core.List.{List, [], _∷_, _++_}
+use mathlib.Core.List.{List, [], _∷_}
 use mathlib.Core.Option.{Option, some, none}
 use native.Mathlib.Omega.{arith}
 use lib.Dec.{ltb, leb, eqb}
@@ -17,12 +17,11 @@ use Rattle.text.specs.declared.number.HexAnswer.the-variants as X
 use Rattle.text.specs.declared.place.Found.{Found}
 use Rattle.text.specs.declared.place.Found.the-variants as P
 use Rattle.text.specs.Number.{numberValue, hexValue}
-use Rattle.text.specs.Place.{lastByte, isAt, firstPlace}
+use Rattle.text.specs.Place.{lastByte}
 use Rattle.text.specs.Quote.{bytes}
-use Rattle.text.specs.Run.{runEnd, stripped}
-use Rattle.text.proofs.Places.{by-order, clash, first-is, first-all, first-none, first-free, last-free}
+use Rattle.text.proofs.Places.{clash, first-is, first-free}
 use Rattle.entry.specs.declared.Entry.{Entry}
-use Rattle.entry.specs.Entry.{valueOf, wordValue, byteValue}
+use Rattle.entry.specs.Entry.{valueOf}
 use Rattle.entry.specs.Kind.{kindOf}
 use Rattle.header.specs.declared.stamp.Stamp.{Stamp}
 use Rattle.header.specs.declared.stamp.Stamp.the-variants as S
@@ -45,14 +44,13 @@ use Rattle.scan.specs.declared.body.Body.{Body}
 use Rattle.scan.specs.declared.body.BodyAnswer.the-variants as B
 use Rattle.scan.specs.declared.dwords.DataAnswer.the-variants as D
 use Rattle.scan.specs.declared.Answer.{Answer}
-use Rattle.scan.specs.declared.Answer.the-variants as A
-use Rattle.scan.specs.Need.{need, placeValue, Moment, stampValue}
+use Rattle.scan.specs.Need.{placeValue, Moment, stampValue}
 use Rattle.scan.specs.Frame.{Idle, High, Split, idle, firstHigh, frameColon, frameAscii, frameOf}
 use Rattle.scan.specs.Head.{headOf, head6, head7, head8, head9, headGot}
 use Rattle.scan.specs.Body.{textAt, hexByte, hexWord, decimalByte, decimalWord, droppedOf, optionalsOf, body11, body12, body13, body14, bodyOf}
-use Rattle.scan.specs.Dwords.{payloadData, data16, dataAnswer, orEmpty}
+use Rattle.scan.specs.Dwords.{payloadData, data16, dataAnswer}
 use Rattle.scan.specs.Parse.{headerOf, payloadOf, startOf, entryOf, withData, withBody, payloadAnswer, withHead, partedAnswer, withFrame, parseOf, dwordsBy, lineDwords}
-use Rattle.scan.specs.Line.{KeyText, KeyDecimal, KeyHex, Kind, Dwords, Line, Missing, Has, MoreThan, Stamped, Condition, Applies}
+use Rattle.scan.specs.Line.{KeyText, KeyDecimal, KeyHex, Dwords, Line, Missing, Has, MoreThan, Stamped, Condition}
 use Rattle.scan.proofs.Frames.{idle-empty, idle-comment, idle-one, idle-not, frame-passed, frame-colon}
 use Rattle.scan.proofs.Splits.{split-is, split-colon, one-header, one-payload}
 use Rattle.scan.proofs.Keys.{key-text-is, key-text-all, key-decimal-is, key-decimal-all, key-hex-is, key-hex-all}

@@ -2,11 +2,10 @@
 use Prim.Native.Nat.{ℕ, _≤_}
 use mathlib.Core.Path.{_≡_, refl, sym, ap, _∙_}
 use mathlib.Core.List.{List}
-use mathlib.Core.Option.{Option, some, none}
+use mathlib.Core.Option.{some}
 use native.Mathlib.Omega.{arith}
 use Rattle.text.specs.declared.number.Number.the-variants as N
 use Rattle.text.specs.declared.number.HexAnswer.the-variants as H
-use Rattle.text.specs.Number.{HexNumber, numberOf, hexOf}
 use Rattle.text.proofs.Numbers.{number-is, number-all, hex-is, hex-all}
 use Rattle.pairs.specs.declared.pair.Span.{Span}
 use Rattle.pairs.specs.declared.pair.Span.the-variants.{At, Nothing}

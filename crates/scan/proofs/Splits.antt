@@ -1,15 +1,13 @@
 -- The split: the last colon has one place, and what is left on its sides is stripped to one header and one payload. Assumes nothing.
-use Prim.Native.Nat.{ℕ, zero, suc, _+_, _-_, _≤_, _<_}
+use Prim.Native.Nat.{ℕ, suc, _+_, _-_, _≤_}
 use mathlib.Core.Path.{_≡_, refl, sym, ap, _∙_}
-use mathlib.Core.Bool.{Bool, true, false}
 use mathlib.Core.List.{List, [], _∷_, _++_}
 use native.Mathlib.Numerals.{add-one}
 use native.Mathlib.Omega.{arith}
-use lib.Dec.{eqb}
 use lib.ListN.{length, getD, take, drop, length-append, length-drop}
-use lib.Seq.{split-at, getD-drop, getD-append-seam, getD-append-add, take-at, drop-at}
+use lib.Seq.{split-at, getD-drop, getD-append-seam, getD-append-add, take-at}
 use borrow.Author.Tests.{eq-eqb, ne-eqb, eqb-true}
-use Rattle.text.specs.declared.place.Found.the-variants.{At, Nothing}
+use Rattle.text.specs.declared.place.Found.the-variants.{At}
 use Rattle.text.specs.Place.{Last, lastByte, isAt}
 use Rattle.text.specs.Run.{stripped}
 use Rattle.text.proofs.Places.{clash, last-is, last-all}

@@ -1,12 +1,11 @@
 -- The stages of the reading: at each way out the answer is the definition's, and the slots hold the dwords or are as found.
 -- Assumes nothing.
-use Prim.Native.Nat.{ℕ, min, _+_, _-_, _^_, _≤_, _<_}
+use Prim.Native.Nat.{ℕ, _+_, _-_, _^_, _≤_, _<_}
 use mathlib.Core.Path.{_≡_, refl, sym, ap, _∙_}
-use mathlib.Core.Bool.{cond}
-use mathlib.Core.List.{List, [], _∷_, _++_, append-assoc}
+use mathlib.Core.List.{List, _++_, append-assoc}
 use mathlib.Core.Option.{Option, some, none}
 use native.Mathlib.Omega.{arith}
-use lib.ListN.{length, take, drop, length-append, length-take, length-drop, take-append-drop}
+use lib.ListN.{length, take, drop, length-take, take-append-drop}
 use lib.Seq.{drop-append-le}
 use borrow.Author.Tests.{lt-ltb, le-ltb}
 use Rattle.text.specs.declared.place.Found.{Found}
@@ -16,10 +15,7 @@ use Rattle.header.specs.Dash.{taskOf, pidOf}
 use Rattle.header.specs.Cpu.{cpuOf}
 use Rattle.header.specs.Stamp.{stampOf}
 use Rattle.header.specs.Function.{functionOf}
-use Rattle.text.specs.Class.{isBlank}
-use Rattle.text.specs.Place.{lastByte}
 use Rattle.text.specs.Quote.{bytes}
-use Rattle.text.specs.Run.{runEnd, stripped}
 use Rattle.pairs.specs.declared.pair.Span.the-variants.{At, Nothing}
 use Rattle.pairs.specs.Pair.{part, lastPair}
 use Rattle.pairs.specs.Data.{insideOf, dataIn, dataOf, dwordsOf, filled, slotsAfter}
@@ -39,7 +35,7 @@ use Rattle.scan.specs.Need.{need, placeValue, stampValue}
 use Rattle.scan.specs.Frame.{frameOf}
 use Rattle.scan.specs.Head.{headOf, head6, head7, head8, head9, headGot}
 use Rattle.scan.specs.Body.{textAt, bodyOf}
-use Rattle.scan.specs.Dwords.{payloadData, dataAnswer, orEmpty, dataSlots, DataRead}
+use Rattle.scan.specs.Dwords.{payloadData, dataAnswer, dataSlots, DataRead}
 use Rattle.scan.specs.Parse.{headerOf, payloadOf, startOf, entryOf, withData, withBody, payloadAnswer, withHead, partedAnswer, withFrame, parseOf, dwordsBy, lineDwords, slotsBy, Parsed, PartedRead, PayloadRead}
 
 -- the dwords of a payload, as code finds them

@@ -1,27 +1,25 @@
 -- The promises of the line, as an auditor looks for them: given 256 slots, accepted exactly when it belongs to the grammar; each number exactly when it
 -- applies first, one reading, no second answer. All follow from `judge` and from each field having one value. Assumes nothing.
-use Prim.Native.Nat.{ℕ, zero, suc, _+_, _-_, _^_, _≤_, _<_}
+use Prim.Native.Nat.{ℕ, _+_, _-_, _^_, _≤_, _<_}
 use mathlib.Core.Path.{_≡_, refl, sym, ap, _∙_}
 use mathlib.Core.Bool.{Bool, true, false, cond}
-use mathlib.Core.List.{List, [], _++_}
+use mathlib.Core.List.{List, _++_}
 use mathlib.Core.Logic.{_↔_}
 use mathlib.Core.Option.{Option, some, none}
 use native.Mathlib.Omega.{arith}
 use lib.Dec.{eqb}
 use lib.ListN.{length, drop}
 use borrow.Author.Tests.{eqb-true}
-use Rattle.text.specs.Number.{Decimal, HexNumber}
 use Rattle.text.specs.Quote.{bytes}
 use Rattle.text.proofs.Places.{by-order}
 use Rattle.text.proofs.Numbers.{one-number, one-hex}
 use Rattle.entry.specs.declared.Entry.{Entry}
 use Rattle.entry.specs.Entry.{EntryValue, partOf, valueOf}
-use Rattle.entry.specs.Kind.{kindOf}
 use Rattle.header.proofs.Dashes.{one-task, one-pid}
 use Rattle.header.proofs.Cpus.{one-cpu}
 use Rattle.header.proofs.Stamps.{one-timestamp}
 use Rattle.header.proofs.Functions.{one-function}
-use Rattle.pairs.specs.Pair.{part, WithoutEquals}
+use Rattle.pairs.specs.Pair.{WithoutEquals}
 use Rattle.pairs.proofs.LastPairs.{one-last-pair}
 use Rattle.pairs.proofs.PairLists.{no-pair-without-equals}
 use Rattle.pairs.proofs.Slots.{one-data}
@@ -29,7 +27,7 @@ use Rattle.scan.specs.declared.Answer.{Answer}
 use Rattle.scan.specs.declared.Answer.the-variants as A
 use Rattle.scan.specs.Frame.{Split}
 use Rattle.scan.specs.Parse.{parseOf, lineDwords, slotsBy, Parsed, numberOfAnswer}
-use Rattle.scan.specs.Line.{KeyText, KeyDecimal, KeyHex, Optional, Dropped, Kind, Dwords, Line, Missing, Has, MoreThan, Condition, Applies}
+use Rattle.scan.specs.Line.{KeyText, KeyDecimal, KeyHex, Optional, Dropped, Dwords, Line, Has, MoreThan, Condition, Applies}
 use Rattle.scan.proofs.Splits.{split-colon, one-header, one-payload}
 use Rattle.scan.proofs.Values.{dwords-part, dwords-whole}
 use Rattle.scan.proofs.Chain.{Clear, Answered}

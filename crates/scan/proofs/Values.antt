@@ -1,15 +1,15 @@
 -- What an entry says: its task and function are parts of the stripped header wherever that lies in the line, and its optional fields are
 -- what the keys' last pairs read as. Assumes nothing.
-use Prim.Native.Nat.{ℕ, _+_, _-_, _^_, _≤_, _<_}
+use Prim.Native.Nat.{ℕ, _+_, _-_, _^_, _≤_}
 use mathlib.Core.Path.{_≡_, refl, sym, ap, _∙_}
 use mathlib.Core.Bool.{Bool, true, false}
-use mathlib.Core.List.{List, [], _∷_, _++_, append-assoc}
+use mathlib.Core.List.{List, _++_, append-assoc}
 use mathlib.Core.Option.{Option, some, none}
 use native.Mathlib.Omega.{arith}
 use lib.Dec.{eqb}
 use lib.ListN.{length, take, drop, length-append, length-take, length-drop, take-append-drop}
-use lib.Seq.{drop-at, drop-drop, drop-append-le, take-append-le, take-all, length-take-le, take-at}
-use borrow.Author.Tests.{eqb-true, eqb-false, eq-eqb}
+use lib.Seq.{drop-drop, drop-append-le, take-append-le, take-all, take-at}
+use borrow.Author.Tests.{eqb-true, eqb-false}
 use Rattle.text.specs.declared.number.Number.{Number}
 use Rattle.text.specs.declared.number.Number.the-variants as N
 use Rattle.text.specs.declared.number.HexAnswer.{HexAnswer}

@@ -6,7 +6,7 @@ use mathlib.Core.Bool.{Bool, true, false, cond}
 use mathlib.Core.List.{List}
 use mathlib.Core.Option.{Option, some, none}
 use lib.Dec.{eqb}
-use lib.ListN.{length, getD}
+use lib.ListN.{length}
 use Rattle.text.specs.Number.{Decimal, HexNumber}
 use Rattle.text.specs.Quote.{bytes}
 use Rattle.entry.specs.Entry.{EntryValue}

@@ -11,7 +11,6 @@ use libc::STDERR_FILENO;
 use libc::STDIN_FILENO;
 use lines::Fed;
 use lines::feed;
-ghost use mathlib.Core.Path.{_≡_};
 ghost use Prim.Native.Nat.{_≤_};
 ghost use lib.ListN.{length};
 

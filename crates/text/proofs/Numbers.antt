@@ -1,7 +1,7 @@
 -- Numbers of any base within any limit: digits only ever raise the value, so a reader that gives up once the limit is passed gives up
 -- exactly the numbers that are too large; and the answer is the relation's, for decimal and hex and every width at once. Assumes nothing.
 use Prim.Native.Nat.{ℕ, zero, suc, _+_, _-_, _*_, _/_, _≤_, _<_}
-use mathlib.Core.Path.{_≡_, refl, sym, ap, _∙_}
+use mathlib.Core.Path.{_≡_, refl, sym, _∙_}
 use mathlib.Core.Bool.{Bool, true, false, cond, _&&_}
 use mathlib.Core.List.{List, [], _∷_}
 use native.Mathlib.Numerals.{add-one}

@@ -1,6 +1,6 @@
 -- Longest runs: a run ends at the first place that does not pass, and one that ends the text starts behind the last such place, so every
 -- law of runs is one of places. Assumes nothing.
-use Prim.Native.Nat.{ℕ, zero, suc, max, _+_, _-_, _≤_, _<_}
+use Prim.Native.Nat.{ℕ, zero, suc, _+_, _-_, _≤_, _<_}
 use mathlib.Core.Path.{_≡_, refl, sym, ap, _∙_}
 use mathlib.Core.Bool.{Bool, true, false, not}
 use mathlib.Core.List.{List}
@@ -9,8 +9,8 @@ use lib.ListN.{length, getD}
 use borrow.Author.Tests.{not-true, not-false}
 use Rattle.text.specs.declared.place.Found.{Found}
 use Rattle.text.specs.declared.place.Found.the-variants.{At, Nothing}
-use Rattle.text.specs.Place.{Free, Last, firstIn, lastPlace}
-use Rattle.text.specs.Run.{Inside, Run, RunBack, EndsAt, StartsAt, failsAt, runEnd, behind, runStart}
+use Rattle.text.specs.Place.{lastPlace}
+use Rattle.text.specs.Run.{Run, RunBack, EndsAt, StartsAt, failsAt, runEnd, behind, runStart}
 use Rattle.text.proofs.Places.{by-order, Stops, first-stops, first-end, first-hit, first-miss, one-stop, last-hit-below, last-miss-below, last-zero, last-all, last-none, last-is, last-free}
 
 -- a test that fails is its negation's pass

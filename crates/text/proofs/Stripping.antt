@@ -1,16 +1,16 @@
 -- Stripping: the front is the run of blanks from the start, the back is the run of blanks that ends what is left, and both are longest
 -- runs, so there is one text to be left. Assumes nothing.
-use Prim.Native.Nat.{ℕ, zero, suc, _+_, _-_, _≤_, _<_}
+use Prim.Native.Nat.{ℕ, suc, _+_, _-_, _≤_, _<_}
 use mathlib.Core.Path.{_≡_, refl, sym, ap, _∙_}
-use mathlib.Core.Bool.{Bool, true, false}
+use mathlib.Core.Bool.{true, false}
 use mathlib.Core.List.{List, [], _∷_, _++_}
 use native.Mathlib.Omega.{arith}
 use lib.ListN.{length, getD, take, drop, length-append, length-drop, length-take, take-append-drop, List·getD-append}
 use lib.Seq.{take-all, take-at, drop-at, getD-append-add, getD-drop, getD-take, length-take-le, drop-length, take-nil}
 use Rattle.text.specs.Class.{isBlank}
-use Rattle.text.specs.Run.{Inside, Run, RunBack, Stripped, runEnd, runStart, stripped}
+use Rattle.text.specs.Run.{Run, RunBack, Stripped, runEnd, runStart, stripped}
 use Rattle.text.proofs.Places.{by-order}
-use Rattle.text.proofs.Runs.{run-is, run-within, run-all, run-over, back-is, back-all}
+use Rattle.text.proofs.Runs.{run-is, run-within, run-all, back-is, back-all}
 
 -- the part of a slice from a place to its end
 pub rest-is : (a : ℕ) (l : List ℕ) → take (length l - a) (drop a l) ≡ drop a l

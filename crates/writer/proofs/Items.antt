@@ -1,7 +1,7 @@
 -- The table of bodies: behind it there is none. Assumes nothing.
 use Prim.Native.Nat.{ℕ, _≤_}
 use mathlib.Core.Path.{_≡_, sym}
-use lib.ListN.{getD, List·getD-eq-default}
+use lib.ListN.{List·getD-eq-default}
 use Rattle.entry.specs.declared.Entry.{Entry}
 use Rattle.writer.specs.declared.item.Item.the-variants.{Nothing}
 use Rattle.writer.specs.Item.{items, itemOf}

@@ -1,11 +1,11 @@
 -- A run of bytes written piece by piece: what is still to be written from a place on shortens as the place moves, and all else stays. One law serves
 -- every loop and every call behind a call. Assumes nothing.
-use Prim.Native.Nat.{ℕ, zero, suc, _+_, _-_, _*_, _/_, _%_, _≤_, _<_}
+use Prim.Native.Nat.{ℕ, suc, _+_, _-_, _*_, _/_, _%_, _≤_, _<_}
 use mathlib.Core.Path.{_≡_, _∙_, sym, ap, refl}
 use mathlib.Core.List.{List, [], _∷_, _++_}
 use native.Mathlib.Numerals.{add-one}
 use native.Mathlib.Omega.{arith}
-use lib.ListN.{length, getD, take, drop, set, length-append}
+use lib.ListN.{length, getD, drop, set, length-append}
 use lib.Seq.{sets, length-sets, drop-cons, length-take-le}
 use lib.ListN.{length-drop}
 use Rattle.tlv.specs.Number.{numberBytes}
@@ -18,7 +18,7 @@ use Rattle.entry.proofs.Parts.{part-in}
 use Rattle.record.specs.Grammar.{dwordsBytes}
 use Rattle.record.proofs.Bodies.{dwords-bytes-length}
 use Rattle.writer.specs.declared.item.Item.{Item}
-use Rattle.writer.specs.declared.item.Item.the-variants.{Text, Number, Dwords, Nothing}
+use Rattle.writer.specs.declared.item.Item.the-variants.{Text, Number, Dwords}
 use Rattle.writer.specs.Put.{Put}
 use Rattle.writer.specs.Item.{itemOf, ItemLies, headBytes, itemBytes, fieldsFrom}
 

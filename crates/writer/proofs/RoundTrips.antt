@@ -1,28 +1,28 @@
 -- The promises of writing: number 37 is the ranges and the parts; what is written reads back to the same entry; every record is what writing its entry
 -- gives; a refusal changes nothing. Assumes nothing.
-use Prim.Native.Nat.{ℕ, zero, suc, _+_, _-_, _^_, _≤_, _<_}
+use Prim.Native.Nat.{ℕ, suc, _+_, _-_, _^_, _≤_, _<_}
 use mathlib.Core.Path.{_≡_, _∙_, sym, ap, refl}
-use mathlib.Core.Bool.{Bool, true, false, cond, _&&_}
-use mathlib.Core.List.{List, [], _∷_, _++_}
+use mathlib.Core.Bool.{Bool, true, false, cond}
+use mathlib.Core.List.{List, [], _∷_}
 use mathlib.Core.Logic.{_↔_}
 use native.Mathlib.Omega.{arith}
 use native.Mathlib.Decide.{decLt}
 use borrow.Author.Tests.{le-leb, leb-true}
 use lib.Dec.{leb}
-use lib.ListN.{length, getD, take, drop, length-drop, length-take, List·getD-eq-default}
-use lib.Seq.{take-append-seam, getD-take, getD-drop, length-take-le}
+use lib.ListN.{length, getD, take, drop, length-take, List·getD-eq-default}
+use lib.Seq.{take-append-seam, getD-take}
 use Rattle.text.specs.Class.{isWord}
 use Rattle.tlv.specs.Number.{Bytes as AreBytes}
 use Rattle.tlv.specs.Grammar.{All}
 use Rattle.tlv.specs.Reading.{between}
 use Rattle.tlv.proofs.Places.{between-is, bytes-take}
 use Rattle.entry.specs.declared.Entry.{Entry}
-use Rattle.entry.specs.Entry.{EntryValue, partOf, byteValue, wordValue, valueOf, Lies, SameEntry}
+use Rattle.entry.specs.Entry.{EntryValue, partOf, valueOf, Lies, SameEntry}
 use Rattle.entry.proofs.Parts.{part-in}
 use Rattle.record.specs.declared.Answer.the-variants as A
 use Rattle.record.specs.declared.rule.Letters.the-variants as L
-use Rattle.record.specs.Grammar.{recordBytes, TaskText, FunctionText, Ranged, IsRecord}
-use Rattle.record.specs.Rule.{isLetter, fitsText}
+use Rattle.record.specs.Grammar.{recordBytes, Ranged, IsRecord}
+use Rattle.record.specs.Rule.{isLetter}
 use Rattle.record.specs.Reading.{over, dwordsOf, readOf}
 use Rattle.record.proofs.Bodies.{fits-text-is, fits-text-all}
 use Rattle.record.proofs.Complete.{task-letter, function-letter}

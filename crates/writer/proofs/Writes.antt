@@ -2,7 +2,7 @@
 -- Assumes nothing.
 use Prim.Native.Nat.{ℕ, zero, suc, _+_, _-_, _≤_, _<_}
 use mathlib.Core.Path.{_≡_, _∙_, sym, ap, refl}
-use mathlib.Core.Bool.{Bool, true, false, cond, _&&_}
+use mathlib.Core.Bool.{true, false, cond, _&&_}
 use mathlib.Core.List.{List, [], _∷_, _++_}
 use mathlib.Core.Option.{Option, some, none, Option·map}
 use native.Mathlib.Omega.{arith}
@@ -25,12 +25,10 @@ use Rattle.entry.specs.Entry.{partOf, byteValue, wordValue, valueOf, Lies}
 use Rattle.record.specs.declared.rule.Letters.the-variants as L
 use Rattle.record.specs.Grammar.{Row, placed, present, rowsOf, recordBytes, dwordsBytes, flag}
 use Rattle.record.specs.Rule.{isLetter, fitsText}
-use Rattle.record.specs.Reading.{over}
-use Rattle.record.proofs.Rows.{rowsFrom, sizeOf, sizesOf, present-length}
+use Rattle.record.proofs.Rows.{rowsFrom, sizeOf, present-length}
 use Rattle.record.proofs.Slots.{sets-over}
-use Rattle.record.proofs.Bodies.{dwords-bytes-length}
 use Rattle.writer.specs.declared.item.Item.{Item}
-use Rattle.writer.specs.declared.item.Item.the-variants.{Text, Number, Dwords, Nothing}
+use Rattle.writer.specs.declared.item.Item.the-variants.{Nothing}
 use Rattle.writer.specs.declared.Written.the-variants.{Bytes, Refused}
 use Rattle.writer.specs.Put.{Put}
 use Rattle.writer.specs.Item.{

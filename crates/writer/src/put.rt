@@ -9,7 +9,7 @@ ghost use Rattle.tlv.specs.Number.{numberBytes};
 ghost use Rattle.tlv.specs.Grammar.{fieldBytes};
 ghost use Rattle.record.specs.Grammar.{dwordsBytes};
 ghost use Rattle.entry.specs.Entry.{partOf};
-ghost use Rattle.writer.specs.Item.{itemOf, ItemLies, itemBytes, headBytes, fieldsFrom, ItemsLie};
+ghost use Rattle.writer.specs.Item.{ItemLies, itemBytes, headBytes, fieldsFrom, ItemsLie};
 ghost use Rattle.writer.specs.Put.{Put};
 
 // The fields of an entry from a tag on, tag by tag, up to another.

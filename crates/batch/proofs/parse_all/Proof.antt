@@ -1,15 +1,9 @@
 -- `batch::parse_all` meets its contract: one check, then packet after packet. Assumes nothing.
 use Rattle.batch.proofs.Batches.{refused-batch, refused-20}
-use mathlib.Core.Path.{_≡_, refl, sym, ap, _∙_}
-use native.Mathlib.Omega.{arith}
+use mathlib.Core.Path.{sym, _∙_}
 use borrow.Author.Needs.{needs}
 use Rattle.batch.proofs.parse_all.Statement.{statement}
 use Rattle.batch.proofs.parse_all.Tie as tie
-use Rattle.batch.proofs.parse_all.Reads as reads
-use Rattle.batch.proofs.parse_all.Lts as lts
-use Rattle.batch.proofs.parse_each.Reads as parse-each-reads
-use Rattle.batch.proofs.refuse_each.Reads as refuse-each-reads
-use Rattle.book.proofs.check.Reads as check-reads
 
 check-requires : tie.Need-check-requires
 check-requires c κs = search needs

@@ -1,19 +1,13 @@
 -- `batch::parse_each` meets its contract: packet after packet, what is left to answer is the batch of the rest. Assumes nothing.
-use Rattle.batch.specs.Batch.{Batch, Cut}
+use Rattle.batch.specs.Batch.{Cut}
 use Rattle.batch.proofs.Batches.{Through, through-start, through-end, through-lent}
-use mathlib.Core.Path.{_≡_, refl, sym, ap, _∙_, subst}
+use mathlib.Core.Path.{_≡_, ap, _∙_, subst}
 use lib.ListN.{length}
-use Prim.Native.Nat.{ℕ, _-_, min}
+use Prim.Native.Nat.{_-_, min}
 use borrow.Author.Needs.{needs}
 use native.Mathlib.Omega.{arith}
 use Rattle.batch.proofs.parse_each.Statement.{statement}
 use Rattle.batch.proofs.parse_each.Tie as tie
-use Rattle.batch.proofs.parse_each.Reads as reads
-use Rattle.batch.proofs.parse_each.Lts as lts
-use Rattle.batch.proofs.cut.cut.Reads as cut-reads
-use Rattle.batch.proofs.cut.least.Reads as least-reads
-use Rattle.batch.proofs.cut.wide.Reads as wide-reads
-use Rattle.batch.proofs.parse_one.Reads as parse-one-reads
 
 abbrev Inv-loop : tie.InvT-loop
 Inv-loop book kinds counts dwords places₀ codes₀ n from₀ at₀ k₀ places codes from at k = (n ≡ min (length kinds) (min (length counts) (length codes₀))) × Through book kinds counts dwords places₀ codes₀ from at k places codes

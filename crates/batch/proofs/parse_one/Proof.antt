@@ -1,18 +1,13 @@
 -- `batch::parse_one` meets its contract: what the packet call answers, as one number. Assumes nothing.
 use Rattle.packet.proofs.Packets.{length-listed}
-use Rattle.batch.specs.Batch.{codeOf, startCode}
-use Rattle.packet.specs.Packet.{parseOf, placesOf, listBy}
+use Rattle.batch.specs.Batch.{codeOf}
+use Rattle.packet.specs.Packet.{placesOf, listBy}
 use Rattle.packet.specs.declared.Answer.{Answer}
-use mathlib.Core.Path.{_≡_, refl, sym, ap, _∙_}
+use mathlib.Core.Path.{sym, ap, _∙_}
 use lib.ListN.{length}
-use native.Mathlib.Omega.{arith}
 use borrow.Author.Needs.{needs}
 use Rattle.batch.proofs.parse_one.Statement.{statement}
 use Rattle.batch.proofs.parse_one.Tie as tie
-use Rattle.batch.proofs.parse_one.Reads as reads
-use Rattle.batch.proofs.parse_one.Lts as lts
-use Rattle.batch.proofs.start_code.Reads as start-code-reads
-use Rattle.packet.proofs.parse_checked.Reads as parse-checked-reads
 
 parse-checked-requires : tie.Need-parse-checked-requires
 parse-checked-requires c κs = search needs

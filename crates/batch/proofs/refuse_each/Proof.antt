@@ -1,15 +1,12 @@
 -- `batch::refuse_each` meets its contract: number 20 from the front. Assumes nothing.
 use Rattle.batch.proofs.Batches.{Refusing, refusing-next, refusing-end}
-use mathlib.Core.Path.{_≡_, refl, sym, ap, _∙_}
+use mathlib.Core.Path.{_≡_, refl, ap, _∙_}
 use lib.ListN.{length}
-use Prim.Native.Nat.{ℕ, _-_, _≤_, min}
+use Prim.Native.Nat.{_-_, _≤_, min}
 use borrow.Author.Needs.{needs}
 use native.Mathlib.Omega.{arith}
 use Rattle.batch.proofs.refuse_each.Statement.{statement}
 use Rattle.batch.proofs.refuse_each.Tie as tie
-use Rattle.batch.proofs.refuse_each.Reads as reads
-use Rattle.batch.proofs.refuse_each.Lts as lts
-use Rattle.batch.proofs.cut.least.Reads as least-reads
 
 abbrev Inv-loop : tie.InvT-loop
 Inv-loop kinds counts codes₀ n k₀ codes k = (n ≡ min kinds (min counts (length codes₀))) × (k ≤ n) × Refusing codes₀ codes k

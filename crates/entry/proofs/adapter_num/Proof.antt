@@ -1,7 +1,6 @@
 -- `adapter_num` meets its contract: each of the two codes by its own test. Assumes nothing.
 use Rattle.entry.specs.Entry.{adapterOf}
 use borrow.Author.Tests.{eq-eqb, ne-eqb}
-use native.Mathlib.Omega.{arith}
 use borrow.Author.Needs.{needs}
 use Rattle.entry.proofs.adapter_num.Statement.{statement}
 use Rattle.entry.proofs.adapter_num.Tie as tie

@@ -2,7 +2,6 @@
 use Rattle.entry.proofs.Parts.{part-in, part-out}
 use lib.Seq.{length-take-le}
 use mathlib.Core.Path.{sym}
-use Rattle.entry.specs.Entry.{partOf}
 use native.Mathlib.Omega.{arith}
 use borrow.Author.Needs.{needs}
 use Rattle.entry.proofs.data.Statement.{statement}

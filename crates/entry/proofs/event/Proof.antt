@@ -1,7 +1,5 @@
 -- `event` meets its contract: the code's event, by cases on whether there is a code. Assumes nothing.
 use Rattle.entry.specs.Entry.{eventOfCode}
-use mathlib.Core.Path.{_≡_, ap, _∙_}
-use native.Mathlib.Omega.{arith}
 use borrow.Author.Needs.{needs}
 use Rattle.entry.proofs.event.Statement.{statement}
 use Rattle.entry.proofs.event.Tie as tie

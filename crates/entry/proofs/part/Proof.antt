@@ -1,6 +1,5 @@
 -- `part` meets its contract: the two tests say whether the part lies within. Assumes nothing.
 use Rattle.entry.proofs.Parts.{part-out, part-between}
-use Rattle.entry.specs.Entry.{partOf}
 use native.Mathlib.Omega.{arith}
 use borrow.Author.Needs.{needs}
 use Rattle.entry.proofs.part.Statement.{statement}

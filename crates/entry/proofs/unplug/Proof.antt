@@ -1,6 +1,5 @@
 -- `unplug` meets its contract, by cases on whether there is a byte. Assumes nothing.
 use Rattle.entry.specs.Entry.{unplugOf}
-use native.Mathlib.Omega.{arith}
 use borrow.Author.Needs.{needs}
 use Rattle.entry.proofs.unplug.Statement.{statement}
 use Rattle.entry.proofs.unplug.Tie as tie

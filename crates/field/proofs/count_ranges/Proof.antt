@@ -7,10 +7,6 @@ use mathlib.Core.Path.{sym, ap, _∙_}
 use borrow.Author.Needs.{needs}
 use Rattle.field.proofs.count_ranges.Statement.{statement}
 use Rattle.field.proofs.count_ranges.Tie as tie
-use Rattle.field.proofs.count_ranges.Reads as reads
-use Rattle.field.proofs.count_ranges.Lts as lts
-use Rattle.book.proofs.find.count_entries.Reads as count-entries-reads
-use Rattle.field.proofs.entry_of.Reads as entry-of-reads
 
 entry-of-requires : tie.Need-entry-of-requires
 entry-of-requires c κs = search needs

@@ -5,10 +5,6 @@ use mathlib.Core.Path.{ap, _∙_}
 use borrow.Author.Needs.{needs}
 use Rattle.field.proofs.field_name.Statement.{statement}
 use Rattle.field.proofs.field_name.Tie as tie
-use Rattle.field.proofs.field_name.Reads as reads
-use Rattle.field.proofs.field_name.Lts as lts
-use Rattle.field.proofs.entry_of.Reads as entry-of-reads
-use Rattle.packet.proofs.field.name_in.Reads as name-in-reads
 
 entry-of-requires : tie.Need-entry-of-requires
 entry-of-requires c κs = search needs

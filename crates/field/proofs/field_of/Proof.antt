@@ -3,9 +3,6 @@ use Rattle.field.specs.Source.{fieldOf}
 use borrow.Author.Needs.{needs}
 use Rattle.field.proofs.field_of.Statement.{statement}
 use Rattle.field.proofs.field_of.Tie as tie
-use Rattle.field.proofs.field_of.Reads as reads
-use Rattle.field.proofs.field_of.Lts as lts
-use Rattle.field.proofs.source_of.Reads as source-of-reads
 
 source-of-requires : tie.Need-source-of-requires
 source-of-requires c κs = search needs

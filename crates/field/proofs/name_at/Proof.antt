@@ -1,14 +1,9 @@
 -- `field::name_at` meets its contract: no name, a value's, or another's, each behind what stands before it. Assumes nothing.
 use Rattle.field.proofs.Naming.{no-name, value-fits, value-named, other-fits, other-named}
-use mathlib.Core.Path.{sym}
 use native.Mathlib.Omega.{arith}
 use borrow.Author.Needs.{needs}
 use Rattle.field.proofs.name_at.Statement.{statement}
 use Rattle.field.proofs.name_at.Tie as tie
-use Rattle.field.proofs.name_at.Reads as reads
-use Rattle.field.proofs.name_at.Lts as lts
-use Rattle.packet.proofs.field.name_in.Reads as name-in-reads
-use Rattle.tlv.proofs.byte_at.Reads as byte-at-reads
 
 name-in-requires : tie.Need-name-in-requires
 name-in-requires c κs = search needs

@@ -9,11 +9,6 @@ use mathlib.Core.Path.{sym, ap, _∙_}
 use borrow.Author.Needs.{needs}
 use Rattle.field.proofs.nth_range.Statement.{statement}
 use Rattle.field.proofs.nth_range.Tie as tie
-use Rattle.field.proofs.nth_range.Reads as reads
-use Rattle.field.proofs.nth_range.Lts as lts
-use Rattle.book.proofs.find.nth_range.Reads as nth-range-reads
-use Rattle.field.proofs.entry_of.Reads as entry-of-reads
-use Rattle.field.proofs.range_at.Reads as range-at-reads
 
 entry-of-requires : tie.Need-entry-of-requires
 entry-of-requires c κs = search needs

@@ -3,11 +3,6 @@ use Rattle.field.proofs.Sources.{no-range, range-at}
 use borrow.Author.Needs.{needs}
 use Rattle.field.proofs.range_at.Statement.{statement}
 use Rattle.field.proofs.range_at.Tie as tie
-use Rattle.field.proofs.range_at.Reads as reads
-use Rattle.field.proofs.range_at.Lts as lts
-use Rattle.book.proofs.find.high_of.Reads as high-of-reads
-use Rattle.book.proofs.find.low_of.Reads as low-of-reads
-use Rattle.packet.proofs.field.value_in.Reads as value-in-reads
 
 returns : tie.Need-returns
 returns c = no-range (c .before .before .args .book .now) (c .before .before .args .dword) (c .before .before .args .place) (c .if1 .taken)

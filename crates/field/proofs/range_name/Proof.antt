@@ -3,9 +3,6 @@ use Rattle.field.specs.Ranges.{rangeName}
 use borrow.Author.Needs.{needs}
 use Rattle.field.proofs.range_name.Statement.{statement}
 use Rattle.field.proofs.range_name.Tie as tie
-use Rattle.field.proofs.range_name.Reads as reads
-use Rattle.field.proofs.range_name.Lts as lts
-use Rattle.packet.proofs.field.name_in.Reads as name-in-reads
 
 name-in-requires : tie.Need-name-in-requires
 name-in-requires c κs = search needs

@@ -6,11 +6,6 @@ use mathlib.Core.Path.{ap, _∙_}
 use borrow.Author.Needs.{needs}
 use Rattle.field.proofs.range_named.Statement.{statement}
 use Rattle.field.proofs.range_named.Tie as tie
-use Rattle.field.proofs.range_named.Reads as reads
-use Rattle.field.proofs.range_named.Lts as lts
-use Rattle.field.proofs.entry_of.Reads as entry-of-reads
-use Rattle.field.proofs.range_at.Reads as range-at-reads
-use Rattle.packet.proofs.field.range_in.Reads as range-in-reads
 
 entry-of-requires : tie.Need-entry-of-requires
 entry-of-requires c κs = search needs

@@ -4,10 +4,6 @@ use mathlib.Core.Path.{sym, _∙_}
 use borrow.Author.Needs.{needs}
 use Rattle.field.proofs.source_of.Statement.{statement}
 use Rattle.field.proofs.source_of.Tie as tie
-use Rattle.field.proofs.source_of.Reads as reads
-use Rattle.field.proofs.source_of.Lts as lts
-use Rattle.field.proofs.table.is_in_control.Reads as is-in-control-reads
-use Rattle.field.proofs.table.is_in_header.Reads as is-in-header-reads
 
 returns : tie.Need-returns
 returns c = bare-source (c .before .before .args .kind) (c .before .before .args .book .now) (c .before .before .args .entry) (c .if1 .taken)

@@ -6,9 +6,6 @@ use mathlib.Core.Path.{sym, _∙_}
 use borrow.Author.Needs.{needs}
 use Rattle.field.proofs.value_at.Statement.{statement}
 use Rattle.field.proofs.value_at.Tie as tie
-use Rattle.field.proofs.value_at.Reads as reads
-use Rattle.field.proofs.value_at.Lts as lts
-use Rattle.book.proofs.find.value_of_number.Reads as value-of-number-reads
 
 returns : tie.Need-returns
 unfolding valueIn

@@ -5,10 +5,6 @@ use mathlib.Core.Path.{ap, _∙_}
 use borrow.Author.Needs.{needs}
 use Rattle.field.proofs.value_name.Statement.{statement}
 use Rattle.field.proofs.value_name.Tie as tie
-use Rattle.field.proofs.value_name.Reads as reads
-use Rattle.field.proofs.value_name.Lts as lts
-use Rattle.field.proofs.value_at.Reads as value-at-reads
-use Rattle.packet.proofs.field.name_in.Reads as name-in-reads
 
 value-at-requires : tie.Need-value-at-requires
 value-at-requires c κs = search needs

@@ -1,7 +1,6 @@
 -- `read` meets its contract: the first byte decides. Assumes nothing.
 use Rattle.intake.proofs.Taking.{taken-record, taken-line}
-use mathlib.Core.Path.{_≡_, sym, _∙_}
-use native.Mathlib.Omega.{arith}
+use mathlib.Core.Path.{sym, _∙_}
 use borrow.Author.Needs.{needs}
 use Rattle.intake.proofs.read.Statement.{statement}
 use Rattle.intake.proofs.read.Tie as tie

@@ -1,7 +1,5 @@
 -- `read_record` meets its contract: the record's answer handed on. Assumes nothing.
 use Rattle.intake.proofs.Taking.{record-entry, record-refused}
-use mathlib.Core.Path.{_≡_}
-use native.Mathlib.Omega.{arith}
 use borrow.Author.Needs.{needs}
 use Rattle.intake.proofs.read_record.Statement.{statement}
 use Rattle.intake.proofs.read_record.Tie as tie

@@ -1,6 +1,5 @@
 -- `feed` meets its contract: the part that fits is put behind what is held. Assumes nothing.
 use Rattle.lines.proofs.Feeding.{fed}
-use native.Mathlib.Omega.{arith}
 use borrow.Author.Needs.{needs}
 use Rattle.lines.proofs.feed.Statement.{statement}
 use Rattle.lines.proofs.feed.Tie as tie

@@ -1,6 +1,6 @@
 -- `line_end` meets its contract, by cases on whether a newline was found. Assumes nothing.
 use Rattle.lines.proofs.Feeding.{newline-within, ends-found, ends-none}
-use mathlib.Core.Path.{_≡_, sym, _∙_}
+use mathlib.Core.Path.{sym, _∙_}
 use native.Mathlib.Omega.{arith}
 use borrow.Author.Needs.{needs}
 use Rattle.lines.proofs.line_end.Statement.{statement}

@@ -1,14 +1,9 @@
 -- `packet::parse` meets its contract: 20, or what the checked form says. Assumes nothing.
 use Rattle.packet.proofs.Packets.{parsed-20}
-use mathlib.Core.Path.{_≡_, sym, ap, _∙_, refl}
-use native.Mathlib.Omega.{arith}
+use mathlib.Core.Path.{sym, _∙_}
 use borrow.Author.Needs.{needs}
 use Rattle.packet.proofs.parse.Statement.{statement}
 use Rattle.packet.proofs.parse.Tie as tie
-use Rattle.packet.proofs.parse.Reads as reads
-use Rattle.packet.proofs.parse.Lts as lts
-use Rattle.book.proofs.check.Reads as check-reads
-use Rattle.packet.proofs.parse_checked.Reads as parse-checked-reads
 
 check-requires : tie.Need-check-requires
 check-requires c κs = search needs

@@ -1,12 +1,8 @@
 -- `packet::parse_checked` meets its contract: over a checked book it makes no difference that the check was made before. Assumes nothing.
 use Rattle.packet.proofs.Packets.{over-is-parsed}
-use native.Mathlib.Omega.{arith}
 use borrow.Author.Needs.{needs}
 use Rattle.packet.proofs.parse_checked.Statement.{statement}
 use Rattle.packet.proofs.parse_checked.Tie as tie
-use Rattle.packet.proofs.parse_checked.Reads as reads
-use Rattle.packet.proofs.parse_checked.Lts as lts
-use Rattle.packet.proofs.parse_over.Reads as parse-over-reads
 
 parse-over-requires : tie.Need-parse-over-requires
 parse-over-requires c κs = search needs

@@ -1,17 +1,12 @@
 -- `packet::parse_over` meets its contract: 20 for a book too long, a number, or the packet of the tables. Assumes nothing.
 use Rattle.packet.proofs.Packets.{over-packet, over-number, over-20, length-over, opened-tables}
-use Prim.Native.Nat.{_≤_}
-use mathlib.Core.Path.{_≡_, sym, ap, _∙_, refl}
+use mathlib.Core.Path.{sym, _∙_, refl}
 use lib.ListN.{length}
 use lib.Seq.{length-take-le}
 use native.Mathlib.Omega.{arith}
 use borrow.Author.Needs.{needs}
 use Rattle.packet.proofs.parse_over.Statement.{statement}
 use Rattle.packet.proofs.parse_over.Tie as tie
-use Rattle.packet.proofs.parse_over.Reads as reads
-use Rattle.packet.proofs.parse_over.Lts as lts
-use Rattle.packet.proofs.make.Reads as make-reads
-use Rattle.packet.proofs.numbers.open.Reads as open-reads
 
 returns : tie.Need-returns
 returns c = over-20 (c .before .before .before .before .args .kind) (c .before .before .before .before .args .book .now) (c .before .before .before .before .args .dwords .now) (c .before .before .before .before .args .places .now) (c .if1 .taken)

@@ -12,10 +12,6 @@ use lib.ListN.{length}
 use borrow.Author.Needs.{needs}
 use Rattle.questions.proofs.adapter_num.Statement.{statement}
 use Rattle.questions.proofs.adapter_num.Tie as tie
-use Rattle.questions.proofs.adapter_num.Reads as reads
-use Rattle.questions.proofs.adapter_num.Lts as lts
-use Rattle.packet.proofs.parse.Reads as parse-reads
-use Rattle.questions.proofs.described.adapter_in.Reads as adapter-in-reads
 
 slice-aggregate-parse : tie.Need-slice-aggregate-parse
 slice-aggregate-parse c = search needs

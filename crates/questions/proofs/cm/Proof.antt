@@ -6,10 +6,6 @@ use Rattle.questions.specs.Described.{routeIn, topBit}
 use borrow.Author.Needs.{needs}
 use Rattle.questions.proofs.cm.Statement.{statement}
 use Rattle.questions.proofs.cm.Tie as tie
-use Rattle.questions.proofs.cm.Reads as reads
-use Rattle.questions.proofs.cm.Lts as lts
-use Rattle.questions.proofs.described.cm_in.Reads as cm-in-reads
-use Rattle.questions.proofs.kept.number_of.Reads as number-of-reads
 
 number-of-requires : tie.Need-number-of-requires
 number-of-requires c κs = search needs

@@ -8,9 +8,6 @@ use native.Mathlib.Omega.{arith}
 use borrow.Author.Needs.{needs}
 use Rattle.questions.proofs.data.Statement.{statement}
 use Rattle.questions.proofs.data.Tie as tie
-use Rattle.questions.proofs.data.Reads as reads
-use Rattle.questions.proofs.data.Lts as lts
-use Rattle.questions.proofs.data_start.Reads as data-start-reads
 
 data-start-requires : tie.Need-data-start-requires
 data-start-requires c κs = search needs

@@ -12,10 +12,6 @@ use lib.ListN.{length}
 use borrow.Author.Needs.{needs}
 use Rattle.questions.proofs.data_address.Statement.{statement}
 use Rattle.questions.proofs.data_address.Tie as tie
-use Rattle.questions.proofs.data_address.Reads as reads
-use Rattle.questions.proofs.data_address.Lts as lts
-use Rattle.packet.proofs.parse.Reads as parse-reads
-use Rattle.questions.proofs.described.address_in.Reads as address-in-reads
 
 slice-aggregate-parse : tie.Need-slice-aggregate-parse
 slice-aggregate-parse c = search needs

@@ -12,10 +12,6 @@ use lib.ListN.{length}
 use borrow.Author.Needs.{needs}
 use Rattle.questions.proofs.data_size.Statement.{statement}
 use Rattle.questions.proofs.data_size.Tie as tie
-use Rattle.questions.proofs.data_size.Reads as reads
-use Rattle.questions.proofs.data_size.Lts as lts
-use Rattle.packet.proofs.parse.Reads as parse-reads
-use Rattle.questions.proofs.described.size_in.Reads as size-in-reads
 
 slice-aggregate-parse : tie.Need-slice-aggregate-parse
 slice-aggregate-parse c = search needs

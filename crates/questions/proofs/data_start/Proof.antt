@@ -9,10 +9,6 @@ use Rattle.packet.specs.declared.Packet.{Packet}
 use borrow.Author.Needs.{needs}
 use Rattle.questions.proofs.data_start.Statement.{statement}
 use Rattle.questions.proofs.data_start.Tie as tie
-use Rattle.questions.proofs.data_start.Reads as reads
-use Rattle.questions.proofs.data_start.Lts as lts
-use Rattle.packet.proofs.parse.Reads as parse-reads
-use Rattle.questions.proofs.kept.start_in.Reads as start-in-reads
 
 slice-aggregate-parse : tie.Need-slice-aggregate-parse
 slice-aggregate-parse c = search needs

@@ -12,10 +12,6 @@ use lib.ListN.{length}
 use borrow.Author.Needs.{needs}
 use Rattle.questions.proofs.field_asked.Statement.{statement}
 use Rattle.questions.proofs.field_asked.Tie as tie
-use Rattle.questions.proofs.field_asked.Reads as reads
-use Rattle.questions.proofs.field_asked.Lts as lts
-use Rattle.packet.proofs.parse.Reads as parse-reads
-use Rattle.questions.proofs.described.field_with.Reads as field-with-reads
 
 slice-aggregate-parse : tie.Need-slice-aggregate-parse
 slice-aggregate-parse c = search needs

@@ -12,10 +12,6 @@ use lib.ListN.{length}
 use borrow.Author.Needs.{needs}
 use Rattle.questions.proofs.field_by_offset.Statement.{statement}
 use Rattle.questions.proofs.field_by_offset.Tie as tie
-use Rattle.questions.proofs.field_by_offset.Reads as reads
-use Rattle.questions.proofs.field_by_offset.Lts as lts
-use Rattle.packet.proofs.parse.Reads as parse-reads
-use Rattle.questions.proofs.described.field_at.Reads as field-at-reads
 
 slice-aggregate-parse : tie.Need-slice-aggregate-parse
 slice-aggregate-parse c = search needs

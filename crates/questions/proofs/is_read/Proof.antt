@@ -7,10 +7,6 @@ use Rattle.questions.specs.Answers.{is}
 use borrow.Author.Needs.{needs}
 use Rattle.questions.proofs.is_read.Statement.{statement}
 use Rattle.questions.proofs.is_read.Tie as tie
-use Rattle.questions.proofs.is_read.Reads as reads
-use Rattle.questions.proofs.is_read.Lts as lts
-use Rattle.questions.proofs.kept.number_of.Reads as number-of-reads
-use Rattle.questions.proofs.kinds.is_reading.Reads as is-reading-reads
 
 number-of-requires : tie.Need-number-of-requires
 number-of-requires c κs = search needs

@@ -7,10 +7,6 @@ use Rattle.packet.specs.Packet.{crosses}
 use borrow.Author.Needs.{needs}
 use Rattle.questions.proofs.is_xdomain.Statement.{statement}
 use Rattle.questions.proofs.is_xdomain.Tie as tie
-use Rattle.questions.proofs.is_xdomain.Reads as reads
-use Rattle.questions.proofs.is_xdomain.Lts as lts
-use Rattle.packet.proofs.numbers.is_crossing.Reads as is-crossing-reads
-use Rattle.questions.proofs.kept.number_of.Reads as number-of-reads
 
 number-of-requires : tie.Need-number-of-requires
 number-of-requires c κs = search needs

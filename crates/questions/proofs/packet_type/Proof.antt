@@ -12,10 +12,6 @@ use lib.ListN.{length}
 use borrow.Author.Needs.{needs}
 use Rattle.questions.proofs.packet_type.Statement.{statement}
 use Rattle.questions.proofs.packet_type.Tie as tie
-use Rattle.questions.proofs.packet_type.Reads as reads
-use Rattle.questions.proofs.packet_type.Lts as lts
-use Rattle.packet.proofs.parse.Reads as parse-reads
-use Rattle.questions.proofs.described.type_in.Reads as type-in-reads
 
 slice-aggregate-parse : tie.Need-slice-aggregate-parse
 slice-aggregate-parse c = search needs

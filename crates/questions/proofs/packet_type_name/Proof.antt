@@ -6,10 +6,6 @@ use Rattle.questions.specs.Questions.{nameBy, typeName}
 use borrow.Author.Needs.{needs}
 use Rattle.questions.proofs.packet_type_name.Statement.{statement}
 use Rattle.questions.proofs.packet_type_name.Tie as tie
-use Rattle.questions.proofs.packet_type_name.Reads as reads
-use Rattle.questions.proofs.packet_type_name.Lts as lts
-use Rattle.packet.proofs.field.name_in.Reads as name-in-reads
-use Rattle.questions.proofs.packet_type.Reads as packet-type-reads
 
 packet-type-requires : tie.Need-packet-type-requires
 packet-type-requires c κs = search needs

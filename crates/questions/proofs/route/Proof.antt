@@ -6,10 +6,6 @@ use Rattle.questions.specs.Described.{routeIn}
 use borrow.Author.Needs.{needs}
 use Rattle.questions.proofs.route.Statement.{statement}
 use Rattle.questions.proofs.route.Tie as tie
-use Rattle.questions.proofs.route.Reads as reads
-use Rattle.questions.proofs.route.Lts as lts
-use Rattle.questions.proofs.described.route_in.Reads as route-in-reads
-use Rattle.questions.proofs.kept.number_of.Reads as number-of-reads
 
 number-of-requires : tie.Need-number-of-requires
 number-of-requires c κs = search needs

@@ -9,10 +9,6 @@ use Rattle.packet.specs.declared.Packet.{Packet}
 use borrow.Author.Needs.{needs}
 use Rattle.questions.proofs.uuid.Statement.{statement}
 use Rattle.questions.proofs.uuid.Tie as tie
-use Rattle.questions.proofs.uuid.Reads as reads
-use Rattle.questions.proofs.uuid.Lts as lts
-use Rattle.packet.proofs.parse.Reads as parse-reads
-use Rattle.questions.proofs.kept.uuid_kept.Reads as uuid-kept-reads
 
 slice-aggregate-parse : tie.Need-slice-aggregate-parse
 slice-aggregate-parse c = search needs

@@ -12,10 +12,6 @@ use lib.ListN.{length}
 use borrow.Author.Needs.{needs}
 use Rattle.questions.proofs.uuid_by_name.Statement.{statement}
 use Rattle.questions.proofs.uuid_by_name.Tie as tie
-use Rattle.questions.proofs.uuid_by_name.Reads as reads
-use Rattle.questions.proofs.uuid_by_name.Lts as lts
-use Rattle.packet.proofs.parse.Reads as parse-reads
-use Rattle.questions.proofs.described.uuid_in.Reads as uuid-in-reads
 
 slice-aggregate-parse : tie.Need-slice-aggregate-parse
 slice-aggregate-parse c = search needs

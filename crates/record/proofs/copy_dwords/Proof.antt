@@ -1,9 +1,7 @@
 -- `copy_dwords` meets its contract: the dwords so far are `Copied`. Assumes nothing.
 use Prim.Native.Nat.{_-_}
-use mathlib.Core.Path.{_≡_, sym, ap, _∙_}
 use Rattle.record.proofs.Slots.{Copied, copying-starts, copying-steps, copying-ends}
 use borrow.Author.Needs.{needs}
-use native.Mathlib.Omega.{arith}
 use Rattle.record.proofs.copy_dwords.Statement.{statement}
 use Rattle.record.proofs.copy_dwords.Tie as tie
 

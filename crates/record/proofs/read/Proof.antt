@@ -1,7 +1,5 @@
 -- `read` meets its contract: each way out is one of the ways to an answer. Assumes nothing.
-use mathlib.Core.Path.{_≡_, sym, ap, _∙_}
 use Rattle.record.proofs.Answers.{refused, too-few, accepted}
-use native.Mathlib.Omega.{arith}
 use borrow.Author.Needs.{needs}
 use Rattle.record.proofs.read.Statement.{statement}
 use Rattle.record.proofs.read.Tie as tie

@@ -3,7 +3,6 @@ use Prim.Native.Nat.{_≤_}
 use lib.ListN.{length}
 use mathlib.Core.Path.{_≡_}
 use borrow.Author.Needs.{needs}
-use native.Mathlib.Omega.{arith}
 use Rattle.replay.proofs.answer_frames.Statement.{statement}
 use Rattle.replay.proofs.answer_frames.Tie as tie
 

@@ -1,9 +1,8 @@
 -- `read_dwords` meets its contract: the invariant keeps the length, and as many dwords are read as both have room for. Assumes nothing.
-use Prim.Native.Nat.{_-_, _*_, _≤_}
+use Prim.Native.Nat.{_-_, _≤_}
 use lib.ListN.{length}
 use mathlib.Core.Path.{_≡_}
 use borrow.Author.Needs.{needs}
-use native.Mathlib.Omega.{arith}
 use Rattle.replay_packets.proofs.read_dwords.Statement.{statement}
 use Rattle.replay_packets.proofs.read_dwords.Tie as tie
 

@@ -1,6 +1,5 @@
 -- `put_number` meets its contract: the word, and the number behind it. Assumes nothing.
 use Rattle.rows.proofs.Putting.{word-number}
-use native.Mathlib.Omega.{arith}
 use borrow.Author.Needs.{needs}
 use Rattle.rows.proofs.put_number.Statement.{statement}
 use Rattle.rows.proofs.put_number.Tie as tie

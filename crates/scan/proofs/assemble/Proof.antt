@@ -1,7 +1,6 @@
 -- `assemble` meets its contract: each field is the definition's. Assumes nothing.
 use Rattle.scan.specs.Parse.{entryOf}
-use mathlib.Core.Path.{_≡_, refl}
-use native.Mathlib.Omega.{arith}
+use mathlib.Core.Path.{refl}
 use borrow.Author.Needs.{needs}
 use Rattle.scan.proofs.assemble.Statement.{statement}
 use Rattle.scan.proofs.assemble.Tie as tie

@@ -1,8 +1,7 @@
 -- `parse` meets its contract: a line is parted at its last colon, or its frame refuses it. Assumes nothing.
 use Rattle.scan.proofs.Frames.{frame-colon-within}
 use Rattle.scan.proofs.Stages.{line-refused, line-read}
-use mathlib.Core.Path.{_≡_, sym, _∙_}
-use native.Mathlib.Omega.{arith}
+use mathlib.Core.Path.{sym, _∙_}
 use borrow.Author.Needs.{needs}
 use Rattle.scan.proofs.parse.Statement.{statement}
 use Rattle.scan.proofs.parse.Tie as tie

@@ -6,7 +6,7 @@ use Rattle.text.specs.Run.{stripped}
 use Rattle.text.specs.Class.{inClass}
 use Prim.Native.Nat.{_+_}
 use lib.Seq.{length-take-le}
-use mathlib.Core.Path.{_≡_, sym, ap, _∙_}
+use mathlib.Core.Path.{sym, ap, _∙_}
 use native.Mathlib.Omega.{arith}
 use borrow.Author.Needs.{needs}
 use Rattle.scan.proofs.parse_parted.Statement.{statement}

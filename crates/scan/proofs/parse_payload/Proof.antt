@@ -2,8 +2,7 @@
 use Rattle.scan.proofs.Stages.{payload-refused, data-refused, payload-read}
 use Rattle.scan.specs.Body.{bodyOf}
 use Rattle.text.proofs.Stripping.{rest-is}
-use mathlib.Core.Path.{_≡_, sym, ap, _∙_}
-use native.Mathlib.Omega.{arith}
+use mathlib.Core.Path.{sym, ap, _∙_}
 use borrow.Author.Needs.{needs}
 use Rattle.scan.proofs.parse_payload.Statement.{statement}
 use Rattle.scan.proofs.parse_payload.Tie as tie

@@ -3,7 +3,6 @@ use Prim.Native.Nat.{_-_, _≤_}
 use lib.ListN.{length}
 use mathlib.Core.Path.{_≡_}
 use borrow.Author.Needs.{needs}
-use native.Mathlib.Omega.{arith}
 use Rattle.answers.proofs.fields.put_dwords.Statement.{statement}
 use Rattle.answers.proofs.fields.put_dwords.Tie as tie
 

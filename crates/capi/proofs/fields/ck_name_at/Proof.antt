@@ -1,13 +1,9 @@
 -- `capi::fields::ck_name_at` meets its contract: the part that `field::name_at` tells. Assumes nothing.
 use Rattle.capi.specs.Told.{nameBy}
 use mathlib.Core.Path.{ap}
-use native.Mathlib.Omega.{arith}
 use borrow.Author.Needs.{needs}
 use Rattle.capi.proofs.fields.ck_name_at.Statement.{statement}
 use Rattle.capi.proofs.fields.ck_name_at.Tie as tie
-use Rattle.capi.proofs.fields.ck_name_at.Reads as reads
-use Rattle.capi.proofs.fields.ck_name_at.Lts as lts
-use Rattle.field.proofs.name_at.Reads as name-at-reads
 
 name-at-requires : tie.Need-name-at-requires
 name-at-requires c κs = search needs

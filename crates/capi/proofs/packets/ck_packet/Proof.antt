@@ -1,14 +1,9 @@
 -- `capi::packets::ck_packet` meets its contract: what the packet call answers. Assumes nothing.
 use Rattle.capi.proofs.Calling.{described-call}
 use Rattle.packet.specs.Packet.{placesOf}
-use native.Mathlib.Omega.{arith}
 use borrow.Author.Needs.{needs}
 use Rattle.capi.proofs.packets.ck_packet.Statement.{statement}
 use Rattle.capi.proofs.packets.ck_packet.Tie as tie
-use Rattle.capi.proofs.packets.ck_packet.Reads as reads
-use Rattle.capi.proofs.packets.ck_packet.Lts as lts
-use Rattle.capi.proofs.packets.packet_answer.Reads as packet-answer-reads
-use Rattle.packet.proofs.parse.Reads as parse-reads
 
 parse-requires : tie.Need-parse-requires
 parse-requires c κs = search needs

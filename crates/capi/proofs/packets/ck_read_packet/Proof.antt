@@ -4,15 +4,10 @@ use Rattle.packet.specs.Packet.{placesOf, listBy}
 use Rattle.packet.specs.declared.Answer.{Answer}
 use Rattle.intake.specs.Intake.{takenDwords}
 use Rattle.intake.specs.Packets.{kindIn}
-use mathlib.Core.Path.{_≡_, sym, ap, _∙_}
-use native.Mathlib.Omega.{arith}
+use mathlib.Core.Path.{ap, _∙_}
 use borrow.Author.Needs.{needs}
 use Rattle.capi.proofs.packets.ck_read_packet.Statement.{statement}
 use Rattle.capi.proofs.packets.ck_read_packet.Tie as tie
-use Rattle.capi.proofs.packets.ck_read_packet.Reads as reads
-use Rattle.capi.proofs.packets.ck_read_packet.Lts as lts
-use Rattle.capi.proofs.packets.text_packet.Reads as text-packet-reads
-use Rattle.intake.proofs.packet.Reads as packet-reads
 
 packet-requires : tie.Need-packet-requires
 packet-requires c κs = search needs

@@ -1,12 +1,8 @@
 -- `capi::packets::made` meets its contract. Assumes nothing.
 use Rattle.capi.specs.Packets.{madeBy}
-use native.Mathlib.Omega.{arith}
 use borrow.Author.Needs.{needs}
 use Rattle.capi.proofs.packets.made.Statement.{statement}
 use Rattle.capi.proofs.packets.made.Tie as tie
-use Rattle.capi.proofs.packets.made.Reads as reads
-use Rattle.capi.proofs.packets.made.Lts as lts
-use Rattle.capi.proofs.packets.with_uuid.Reads as with-uuid-reads
 
 with-uuid-requires : tie.Need-with-uuid-requires
 with-uuid-requires c κs = search needs

@@ -1,12 +1,8 @@
 -- `capi::packets::of_packet` meets its contract. Assumes nothing.
 use Rattle.capi.specs.Packets.{ofPacket}
-use native.Mathlib.Omega.{arith}
 use borrow.Author.Needs.{needs}
 use Rattle.capi.proofs.packets.of_packet.Statement.{statement}
 use Rattle.capi.proofs.packets.of_packet.Tie as tie
-use Rattle.capi.proofs.packets.of_packet.Reads as reads
-use Rattle.capi.proofs.packets.of_packet.Lts as lts
-use Rattle.capi.proofs.packets.made.Reads as made-reads
 
 made-requires : tie.Need-made-requires
 made-requires c κs = search needs

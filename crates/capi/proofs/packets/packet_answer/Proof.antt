@@ -1,14 +1,9 @@
 -- `capi::packets::packet_answer` meets its contract: the packet, or its number alone. Assumes nothing.
 use Rattle.capi.specs.Packets.{packetBy}
-use mathlib.Core.Path.{_≡_, sym, ap, _∙_}
-use native.Mathlib.Omega.{arith}
+use mathlib.Core.Path.{sym, ap, _∙_}
 use borrow.Author.Needs.{needs}
 use Rattle.capi.proofs.packets.packet_answer.Statement.{statement}
 use Rattle.capi.proofs.packets.packet_answer.Tie as tie
-use Rattle.capi.proofs.packets.packet_answer.Reads as reads
-use Rattle.capi.proofs.packets.packet_answer.Lts as lts
-use Rattle.capi.proofs.packets.made.Reads as made-reads
-use Rattle.capi.proofs.packets.with_uuid.Reads as with-uuid-reads
 
 enum-known-answer : tie.Need-enum-known-answer
 enum-known-answer c = search needs

@@ -1,14 +1,9 @@
 -- `capi::packets::text_packet` meets its contract: the packet, or its number alone. Assumes nothing.
 use Rattle.capi.specs.Packets.{textBy}
-use mathlib.Core.Path.{_≡_, sym, ap, _∙_}
-use native.Mathlib.Omega.{arith}
+use mathlib.Core.Path.{sym, ap, _∙_}
 use borrow.Author.Needs.{needs}
 use Rattle.capi.proofs.packets.text_packet.Statement.{statement}
 use Rattle.capi.proofs.packets.text_packet.Tie as tie
-use Rattle.capi.proofs.packets.text_packet.Reads as reads
-use Rattle.capi.proofs.packets.text_packet.Lts as lts
-use Rattle.capi.proofs.packets.of_packet.Reads as of-packet-reads
-use Rattle.capi.proofs.packets.packet_answer.Reads as packet-answer-reads
 
 enum-known-answer : tie.Need-enum-known-answer
 enum-known-answer c = search needs

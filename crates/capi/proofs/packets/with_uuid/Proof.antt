@@ -1,13 +1,8 @@
 -- `capi::packets::with_uuid` meets its contract, with a UUID and without. Assumes nothing.
-use mathlib.Core.Path.{_≡_, sym, ap, _∙_}
-use native.Mathlib.Omega.{arith}
+use mathlib.Core.Path.{_∙_}
 use borrow.Author.Needs.{needs}
 use Rattle.capi.proofs.packets.with_uuid.Statement.{statement}
 use Rattle.capi.proofs.packets.with_uuid.Tie as tie
-use Rattle.capi.proofs.packets.with_uuid.Reads as reads
-use Rattle.capi.proofs.packets.with_uuid.Lts as lts
-use Rattle.capi.proofs.packets.whole.Reads as whole-reads
-use Rattle.flat.proofs.flat_word.Reads as flat-word-reads
 
 enum-known-uuid : tie.Need-enum-known-uuid
 enum-known-uuid c = search needs

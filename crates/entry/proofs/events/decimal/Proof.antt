@@ -1,7 +1,7 @@
 -- `events::decimal` meets its contract: a code has one, two or three digits. Assumes nothing.
 use Rattle.entry.proofs.Codes.{one-digit, two-digits, three-digits}
 use Rattle.entry.specs.Event.{padded}
-use mathlib.Core.Path.{_≡_, sym, ap, _∙_}
+use mathlib.Core.Path.{ap, _∙_}
 use native.Mathlib.Omega.{arith}
 use borrow.Author.Needs.{needs}
 use Rattle.entry.proofs.events.decimal.Statement.{statement}

@@ -2,9 +2,7 @@
 use Rattle.entry.specs.declared.events.Event.the-variants.{Unknown}
 use Rattle.entry.specs.Event.{eventOf}
 use borrow.Author.Tests.{ne-eqb}
-use mathlib.Core.Path.{_≡_, sym, _∙_}
-use borrow.Author.Needs.{needs}
-use native.Mathlib.Omega.{arith}
+use mathlib.Core.Path.{_≡_}
 use Rattle.entry.proofs.events.from_code.Statement.{statement}
 use Rattle.entry.proofs.events.from_code.Tie as tie
 

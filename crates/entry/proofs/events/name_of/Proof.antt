@@ -1,7 +1,5 @@
 -- `events::name_of` meets its contract: each arm pads the name that the definition gives. Assumes nothing.
 use Rattle.entry.specs.Event.{nameOf}
-use mathlib.Core.Path.{_≡_}
-use native.Mathlib.Omega.{arith}
 use borrow.Author.Needs.{needs}
 use Rattle.entry.proofs.events.name_of.Statement.{statement}
 use Rattle.entry.proofs.events.name_of.Tie as tie

@@ -1,10 +1,8 @@
 -- `events::pad` meets its contract: the bytes so far are a `Padding`. Assumes nothing.
 use Rattle.entry.proofs.Pads.{Padding, padding-starts, padding-steps, padding-ends}
-use lib.ListN.{length, length-set}
-use mathlib.Core.Path.{_≡_}
-use Prim.Native.Nat.{_-_, _≤_}
+use lib.ListN.{length}
+use Prim.Native.Nat.{_-_}
 use borrow.Author.Needs.{needs}
-use native.Mathlib.Omega.{arith}
 use Rattle.entry.proofs.events.pad.Statement.{statement}
 use Rattle.entry.proofs.events.pad.Tie as tie
 

@@ -1,7 +1,6 @@
 -- `kind::by_direction` meets its contract: one test a function. Assumes nothing.
-use mathlib.Core.Path.{_≡_, sym, _∙_}
+use mathlib.Core.Path.{sym, _∙_}
 use Rattle.entry.specs.Kind.{byDirection}
-use native.Mathlib.Omega.{arith}
 use borrow.Author.Needs.{needs}
 use Rattle.entry.proofs.kind.by_direction.Statement.{statement}
 use Rattle.entry.proofs.kind.by_direction.Tie as tie

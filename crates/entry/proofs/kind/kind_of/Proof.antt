@@ -1,7 +1,6 @@
 -- `kind::kind_of` meets its contract: reads and writes go by the function, the rest by its own call. Assumes nothing.
 use Rattle.entry.specs.Kind.{kindOf}
-use mathlib.Core.Path.{_≡_, sym, _∙_}
-use native.Mathlib.Omega.{arith}
+use mathlib.Core.Path.{sym, _∙_}
 use borrow.Author.Needs.{needs}
 use Rattle.entry.proofs.kind.kind_of.Statement.{statement}
 use Rattle.entry.proofs.kind.kind_of.Tie as tie

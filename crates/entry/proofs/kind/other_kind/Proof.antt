@@ -1,7 +1,6 @@
 -- `kind::other_kind` meets its contract: one test a name, in the order of the definition. Assumes nothing.
 use Rattle.entry.specs.Kind.{otherKind}
-use mathlib.Core.Path.{_≡_, sym, _∙_}
-use native.Mathlib.Omega.{arith}
+use mathlib.Core.Path.{sym, _∙_}
 use borrow.Author.Needs.{needs}
 use Rattle.entry.proofs.kind.other_kind.Statement.{statement}
 use Rattle.entry.proofs.kind.other_kind.Tie as tie

@@ -5,9 +5,6 @@ use mathlib.Core.Path.{sym, subst, _∙_}
 use borrow.Author.Needs.{needs}
 use Rattle.field.proofs.table.is_in.Statement.{statement}
 use Rattle.field.proofs.table.is_in.Tie as tie
-use Rattle.field.proofs.table.is_in.Reads as reads
-use Rattle.field.proofs.table.is_in.Lts as lts
-use Rattle.tlv.proofs.field_at.Reads as field-at-reads
 
 enum-known-table : tie.Need-enum-known-table
 enum-known-table c = search needs

@@ -5,10 +5,6 @@ use Rattle.field.specs.Source.{standsIn}
 use borrow.Author.Needs.{needs}
 use Rattle.field.proofs.table.is_in_control.Statement.{statement}
 use Rattle.field.proofs.table.is_in_control.Tie as tie
-use Rattle.field.proofs.table.is_in_control.Reads as reads
-use Rattle.field.proofs.table.is_in_control.Lts as lts
-use Rattle.book.proofs.find.control_table.Reads as control-table-reads
-use Rattle.field.proofs.table.is_in.Reads as is-in-reads
 
 control-table-requires : tie.Need-control-table-requires
 control-table-requires c κs = search needs

@@ -5,10 +5,6 @@ use Rattle.field.specs.Source.{standsIn}
 use borrow.Author.Needs.{needs}
 use Rattle.field.proofs.table.is_in_header.Statement.{statement}
 use Rattle.field.proofs.table.is_in_header.Tie as tie
-use Rattle.field.proofs.table.is_in_header.Reads as reads
-use Rattle.field.proofs.table.is_in_header.Lts as lts
-use Rattle.book.proofs.find.uuid_table.Reads as uuid-table-reads
-use Rattle.field.proofs.table.is_in.Reads as is-in-reads
 
 uuid-table-requires : tie.Need-uuid-table-requires
 uuid-table-requires c κs = search needs

@@ -3,10 +3,8 @@ use Rattle.header.proofs.Cpus.{no-open, no-first, no-second, no-third, 
 use Rattle.text.specs.Class.{isDigit}
 use lib.Dec.{eqb}
 use Prim.Native.Nat.{ℕ}
-use lib.ListN.{getD}
 use borrow.Author.Tests.{not-true, not-false}
-use mathlib.Core.Path.{_≡_, sym, ap, _∙_}
-use native.Mathlib.Omega.{arith}
+use mathlib.Core.Path.{sym, ap, _∙_}
 use borrow.Author.Needs.{needs}
 use Rattle.header.proofs.cpu.is_cpu.Statement.{statement}
 use Rattle.header.proofs.cpu.is_cpu.Tie as tie

@@ -6,7 +6,7 @@ use Rattle.text.proofs.Places.{place-hit, place-miss, place-end}
 use Rattle.text.specs.Place.{firstPlace}
 use lib.ListN.{length}
 use Prim.Native.Nat.{_-_, _<_}
-use mathlib.Core.Path.{_≡_, sym, ap, _∙_}
+use mathlib.Core.Path.{_≡_, sym, _∙_}
 use borrow.Author.Needs.{needs}
 use native.Mathlib.Omega.{arith}
 use Rattle.header.proofs.cpu.parse_cpu.Statement.{statement}

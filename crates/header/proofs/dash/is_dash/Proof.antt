@@ -1,6 +1,6 @@
 -- `dash::is_dash` meets its contract, one law a way out. Assumes nothing.
 use Rattle.header.proofs.Dashes.{dash-first, dash-other, dash-numbered, dash-plain}
-use mathlib.Core.Path.{_≡_, sym, _∙_}
+use mathlib.Core.Path.{sym, _∙_}
 use native.Mathlib.Omega.{arith}
 use borrow.Author.Needs.{needs}
 use Rattle.header.proofs.dash.is_dash.Statement.{statement}

@@ -8,7 +8,7 @@ use lib.ListN.{length, take, drop}
 use Prim.Native.Nat.{ℕ, _<_, _+_, _-_, _^_}
 use Rattle.text.specs.Number.{numberOf}
 use mathlib.Core.Bool.{true}
-use mathlib.Core.Path.{_≡_, sym, ap, _∙_}
+use mathlib.Core.Path.{sym, ap, _∙_}
 use native.Mathlib.Omega.{arith}
 use borrow.Author.Needs.{needs}
 use Rattle.header.proofs.dash.parse_pid.Statement.{statement}

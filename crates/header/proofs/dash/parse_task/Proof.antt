@@ -1,9 +1,7 @@
 -- `dash::parse_task` meets its contract: the last dash of the first run. Assumes nothing.
-use Rattle.header.specs.Dash.{dashAt, firstRun, taskOf}
+use Rattle.header.specs.Dash.{firstRun, taskOf}
 use Rattle.text.specs.Place.{lastPlace}
-use Rattle.text.specs.Class.{inClass}
-use mathlib.Core.Path.{_≡_, ap, _∙_}
-use native.Mathlib.Omega.{arith}
+use mathlib.Core.Path.{ap, _∙_}
 use borrow.Author.Needs.{needs}
 use Rattle.header.proofs.dash.parse_task.Statement.{statement}
 use Rattle.header.proofs.dash.parse_task.Tie as tie

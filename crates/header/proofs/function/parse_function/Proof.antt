@@ -2,7 +2,7 @@
 use Rattle.header.proofs.Functions.{no-word, no-blank, no-colon, all-there}
 use Rattle.text.specs.Class.{inClass}
 use lib.Seq.{length-take-le}
-use mathlib.Core.Path.{_≡_, sym, ap, _∙_}
+use mathlib.Core.Path.{sym, _∙_}
 use native.Mathlib.Omega.{arith}
 use borrow.Author.Needs.{needs}
 use Rattle.header.proofs.function.parse_function.Statement.{statement}

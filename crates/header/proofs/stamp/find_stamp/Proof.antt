@@ -3,7 +3,7 @@ use Rattle.header.proofs.Stamps.{Seeking, seeking-starts, seeking-hits,
 use Rattle.text.specs.Class.{inClass}
 use lib.ListN.{length}
 use Prim.Native.Nat.{_-_}
-use mathlib.Core.Path.{_≡_, sym, ap, _∙_}
+use mathlib.Core.Path.{sym, _∙_}
 use borrow.Author.Needs.{needs}
 use native.Mathlib.Omega.{arith}
 use Rattle.header.proofs.stamp.find_stamp.Statement.{statement}

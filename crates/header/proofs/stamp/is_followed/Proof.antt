@@ -2,7 +2,7 @@
 use Rattle.text.specs.Class.{inClass}
 use Rattle.header.proofs.Stamps.{no-dot, no-digits, no-colon, by-blank}
 use Rattle.text.specs.Class.{isBlank}
-use mathlib.Core.Path.{_≡_, sym, ap, _∙_}
+use mathlib.Core.Path.{sym, ap, _∙_}
 use native.Mathlib.Omega.{arith}
 use borrow.Author.Needs.{needs}
 use Rattle.header.proofs.stamp.is_followed.Statement.{statement}

@@ -1,6 +1,5 @@
 -- `stamp::is_stamp` meets its contract: an empty run is followed by nothing that counts. Assumes nothing.
 use borrow.Author.Tests.{lt-ltb, le-ltb}
-use native.Mathlib.Omega.{arith}
 use borrow.Author.Needs.{needs}
 use Rattle.header.proofs.stamp.is_stamp.Statement.{statement}
 use Rattle.header.proofs.stamp.is_stamp.Tie as tie

@@ -1,8 +1,7 @@
 -- `stamp::parse_timestamp` meets its contract: what stands at the first place, read. Assumes nothing.
 use Rattle.header.proofs.Stamps.{stamp-some, stamp-none}
 use Rattle.text.proofs.Places.{first-is}
-use mathlib.Core.Path.{_≡_, sym, ap, _∙_}
-use native.Mathlib.Omega.{arith}
+use mathlib.Core.Path.{sym, _∙_}
 use borrow.Author.Needs.{needs}
 use Rattle.header.proofs.stamp.parse_timestamp.Statement.{statement}
 use Rattle.header.proofs.stamp.parse_timestamp.Tie as tie

@@ -1,7 +1,7 @@
 -- `stamp::read_stamp` meets its contract: the two runs are those of the definition, and each way out is one law. Assumes nothing.
 use Rattle.header.proofs.Stamps.{read-none, read-half, read-short, read-both}
 use Rattle.text.specs.Class.{inClass}
-use mathlib.Core.Path.{_≡_, sym, ap, _∙_}
+use mathlib.Core.Path.{sym, _∙_}
 use native.Mathlib.Omega.{arith}
 use borrow.Author.Needs.{needs}
 use Rattle.header.proofs.stamp.read_stamp.Statement.{statement}

@@ -3,15 +3,10 @@ use lib.Dec.{eqb}
 use mathlib.Core.Bool.{not}
 use Prim.Native.Nat.{ℕ}
 use Rattle.packet.specs.Field.{asks}
-use mathlib.Core.Path.{sym, _∙_, ap}
-use native.Mathlib.Omega.{arith}
+use mathlib.Core.Path.{ap}
 use borrow.Author.Needs.{needs}
 use Rattle.packet.proofs.field.is_asked.Statement.{statement}
 use Rattle.packet.proofs.field.is_asked.Tie as tie
-use Rattle.packet.proofs.field.is_asked.Reads as reads
-use Rattle.packet.proofs.field.is_asked.Lts as lts
-use Rattle.packet.proofs.field.is_named.Reads as is-named-reads
-use Rattle.packet.proofs.field.range_in.Reads as range-in-reads
 
 enum-told : tie.Need-enum-told
 enum-told c = search needs

@@ -2,17 +2,12 @@
 use Rattle.packet.specs.Field.{asks}
 use Rattle.packet.proofs.Fields.{no-byte, some-byte}
 use Rattle.text.specs.Same.{sameText}
-use mathlib.Core.Path.{sym, _∙_, ap}
+use mathlib.Core.Path.{_∙_, ap}
 use Prim.Native.Nat.{ℕ}
 use mathlib.Core.List.{List}
-use native.Mathlib.Omega.{arith}
 use borrow.Author.Needs.{needs}
 use Rattle.packet.proofs.field.is_named.Statement.{statement}
 use Rattle.packet.proofs.field.is_named.Tie as tie
-use Rattle.packet.proofs.field.is_named.Reads as reads
-use Rattle.packet.proofs.field.is_named.Lts as lts
-use Rattle.packet.proofs.field.name_in.Reads as name-in-reads
-use Rattle.text.proofs.same.same.Reads as same-reads
 
 returns : tie.Need-returns
 unfolding asks

@@ -1,13 +1,9 @@
 -- `packet::field::name_in` meets its contract: no name at no place. Assumes nothing.
 use Rattle.packet.proofs.Fields.{name-none, name-some}
 use mathlib.Core.Path.{sym, _∙_}
-use native.Mathlib.Omega.{arith}
 use borrow.Author.Needs.{needs}
 use Rattle.packet.proofs.field.name_in.Statement.{statement}
 use Rattle.packet.proofs.field.name_in.Tie as tie
-use Rattle.packet.proofs.field.name_in.Reads as reads
-use Rattle.packet.proofs.field.name_in.Lts as lts
-use Rattle.book.proofs.find.name_of.Reads as name-of-reads
 
 slice-aggregate-result : tie.Need-slice-aggregate-result
 slice-aggregate-result c = search needs

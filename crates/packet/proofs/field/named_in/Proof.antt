@@ -7,10 +7,6 @@ use native.Mathlib.Omega.{arith}
 use borrow.Author.Needs.{needs}
 use Rattle.packet.proofs.field.named_in.Statement.{statement}
 use Rattle.packet.proofs.field.named_in.Tie as tie
-use Rattle.packet.proofs.field.named_in.Reads as reads
-use Rattle.packet.proofs.field.named_in.Lts as lts
-use Rattle.book.proofs.find.value_of_number.Reads as value-of-number-reads
-use Rattle.packet.proofs.field.value_in.Reads as value-in-reads
 
 returns : tie.Need-returns
 unfolding namedIn

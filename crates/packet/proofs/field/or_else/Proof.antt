@@ -1,12 +1,8 @@
 -- `packet::field::or_else` meets its contract: a place is 0 or it is one. Assumes nothing.
 use Rattle.packet.proofs.Fields.{none-else, some-else}
 use mathlib.Core.Path.{sym}
-use native.Mathlib.Omega.{arith}
-use borrow.Author.Needs.{needs}
 use Rattle.packet.proofs.field.or_else.Statement.{statement}
 use Rattle.packet.proofs.field.or_else.Tie as tie
-use Rattle.packet.proofs.field.or_else.Reads as reads
-use Rattle.packet.proofs.field.or_else.Lts as lts
 
 returns : tie.Need-returns
 returns c = sym (none-else (c .before .args .q) (c .before .args .p) (c .if1 .taken))

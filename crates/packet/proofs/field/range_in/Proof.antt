@@ -7,9 +7,6 @@ use native.Mathlib.Omega.{arith}
 use borrow.Author.Needs.{needs}
 use Rattle.packet.proofs.field.range_in.Statement.{statement}
 use Rattle.packet.proofs.field.range_in.Tie as tie
-use Rattle.packet.proofs.field.range_in.Reads as reads
-use Rattle.packet.proofs.field.range_in.Lts as lts
-use Rattle.book.proofs.find.range_of_name.Reads as range-of-name-reads
 
 returns : tie.Need-returns
 unfolding rangeIn

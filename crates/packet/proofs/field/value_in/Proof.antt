@@ -1,16 +1,10 @@
 -- `packet::field::value_in` meets its contract: low bit, high bit, and the range between them. Assumes nothing.
 use Rattle.packet.specs.Field.{valueIn}
-use mathlib.Core.Path.{sym, _∙_, ap₂}
+use mathlib.Core.Path.{_∙_, ap₂}
 use Rattle.bits.specs.Range.{rangeOf}
-use native.Mathlib.Omega.{arith}
 use borrow.Author.Needs.{needs}
 use Rattle.packet.proofs.field.value_in.Statement.{statement}
 use Rattle.packet.proofs.field.value_in.Tie as tie
-use Rattle.packet.proofs.field.value_in.Reads as reads
-use Rattle.packet.proofs.field.value_in.Lts as lts
-use Rattle.bits.proofs.range.Reads as range-reads
-use Rattle.book.proofs.find.high_of.Reads as high-of-reads
-use Rattle.book.proofs.find.low_of.Reads as low-of-reads
 
 low-of-requires : tie.Need-low-of-requires
 low-of-requires c κs = search needs

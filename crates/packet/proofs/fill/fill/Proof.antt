@@ -4,18 +4,13 @@ use Rattle.book.proofs.Steps.{Bare, bare}
 use Rattle.book.proofs.Answers.{inner-up}
 use Rattle.tlv.proofs.Places.{stands-cut}
 use Rattle.tlv.proofs.Fields.{field-found}
-use Rattle.tlv.specs.Reading.{Part, Stands, fieldAt}
-use lib.ListN.{length, take, length-take}
-use mathlib.Core.Path.{_≡_, sym, ap, subst, _∙_, refl}
+use Rattle.tlv.specs.Reading.{Part, Stands}
+use lib.ListN.{take, length-take}
+use mathlib.Core.Path.{sym, subst, _∙_}
 use native.Mathlib.Omega.{arith}
 use borrow.Author.Needs.{needs}
 use Rattle.packet.proofs.fill.fill.Statement.{statement}
 use Rattle.packet.proofs.fill.fill.Tie as tie
-use Rattle.packet.proofs.fill.fill.Reads as reads
-use Rattle.packet.proofs.fill.fill.Lts as lts
-use Rattle.book.proofs.find.inner.Reads as inner-reads
-use Rattle.packet.proofs.fill.fill_from.Reads as fill-from-reads
-use Rattle.tlv.proofs.field_at.Reads as field-at-reads
 
 field-at-requires : tie.Need-field-at-requires
 field-at-requires c κs = search needs

@@ -6,17 +6,13 @@ use Rattle.tlv.specs.Reading.{Part, Stands}
 use Rattle.packet.proofs.Filling.{fill-field, fill-end, length-with}
 use Rattle.packet.specs.Inner.{entryFrom}
 use Rattle.packet.specs.Steps.{filled}
-use lib.ListN.{length, drop}
+use lib.ListN.{length}
 use mathlib.Core.Path.{_≡_, sym, ap, _∙_, refl, subst}
-use Prim.Native.Nat.{ℕ, _≤_, _<_, _-_}
+use Prim.Native.Nat.{_<_, _-_}
 use borrow.Author.Needs.{needs}
 use native.Mathlib.Omega.{arith}
 use Rattle.packet.proofs.fill.fill_from.Statement.{statement}
 use Rattle.packet.proofs.fill.fill_from.Tie as tie
-use Rattle.packet.proofs.fill.fill_from.Reads as reads
-use Rattle.packet.proofs.fill.fill_from.Lts as lts
-use Rattle.packet.proofs.fill.put_entry.Reads as put-entry-reads
-use Rattle.tlv.proofs.field_at.Reads as field-at-reads
 
 abbrev Inv-loop : tie.InvT-loop
 Inv-loop s start pick name places₀ at₀ places at = (0 < at) × (length places ≡ length places₀) × (filled (entryFrom pick name s start) places₀ ≡ filled (entryFrom pick name s at) places)

@@ -2,15 +2,10 @@
 use Rattle.text.specs.Same.{sameText}
 use Prim.Native.Nat.{ℕ}
 use mathlib.Core.List.{List}
-use mathlib.Core.Path.{sym, _∙_, ap}
-use native.Mathlib.Omega.{arith}
+use mathlib.Core.Path.{_∙_, ap}
 use borrow.Author.Needs.{needs}
 use Rattle.packet.proofs.fill.is_picked.Statement.{statement}
 use Rattle.packet.proofs.fill.is_picked.Tie as tie
-use Rattle.packet.proofs.fill.is_picked.Reads as reads
-use Rattle.packet.proofs.fill.is_picked.Lts as lts
-use Rattle.book.proofs.find.type_of.Reads as type-of-reads
-use Rattle.text.proofs.same.same.Reads as same-reads
 
 enum-told : tie.Need-enum-told
 enum-told c = search needs

@@ -1,15 +1,10 @@
 -- `packet::fill::put_entry` meets its contract, way by way. Assumes nothing.
 use Rattle.packet.proofs.Filling.{with-other, with-far, with-full, with-not, with-entry}
 use borrow.Author.Tests.{not-true, not-false}
-use mathlib.Core.Path.{sym, _∙_, ap, refl}
-use native.Mathlib.Omega.{arith}
+use mathlib.Core.Path.{sym, _∙_, refl}
 use borrow.Author.Needs.{needs}
 use Rattle.packet.proofs.fill.put_entry.Statement.{statement}
 use Rattle.packet.proofs.fill.put_entry.Tie as tie
-use Rattle.packet.proofs.fill.put_entry.Reads as reads
-use Rattle.packet.proofs.fill.put_entry.Lts as lts
-use Rattle.packet.proofs.fill.is_picked.Reads as is-picked-reads
-use Rattle.tlv.proofs.two_at.Reads as two-at-reads
 
 returns : tie.Need-returns
 returns c = with-other (c .before .before .before .before .args .pick) (c .before .before .before .before .args .name .now) (c .before .before .before .before .args .s .now) (c .before .before .before .before .args .tag) (c .before .before .before .before .args .at) (c .before .before .before .before .args .from) (c .before .before .before .before .args .places .now) _ refl (c .if1 .taken)

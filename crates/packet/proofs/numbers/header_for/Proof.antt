@@ -1,17 +1,12 @@
 -- `packet::numbers::header_for` meets its contract: sought for the kinds that ask for it. Assumes nothing.
 use mathlib.Core.Bool.{true, false}
-use Rattle.packet.specs.Packet.{viewed, crosses}
-use Rattle.packet.specs.Inner.{headerFor, headerOf}
+use Rattle.packet.specs.Packet.{crosses}
+use Rattle.packet.specs.Inner.{headerFor}
 use borrow.Author.Tests.{not-true, not-false}
-use mathlib.Core.Path.{sym, _∙_, ap, _≡_}
-use native.Mathlib.Omega.{arith}
+use mathlib.Core.Path.{sym, _∙_, _≡_}
 use borrow.Author.Needs.{needs}
 use Rattle.packet.proofs.numbers.header_for.Statement.{statement}
 use Rattle.packet.proofs.numbers.header_for.Tie as tie
-use Rattle.packet.proofs.numbers.header_for.Reads as reads
-use Rattle.packet.proofs.numbers.header_for.Lts as lts
-use Rattle.book.proofs.find.uuid_table.Reads as uuid-table-reads
-use Rattle.packet.proofs.numbers.is_crossing.Reads as is-crossing-reads
 
 is-crossing-requires : tie.Need-is-crossing-requires
 is-crossing-requires c κs = search needs

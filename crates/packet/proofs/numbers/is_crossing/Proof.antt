@@ -1,12 +1,8 @@
 -- `packet::numbers::is_crossing` meets its contract: 8 or 9. Assumes nothing.
 use Rattle.packet.specs.Packet.{crosses}
 use borrow.Author.Tests.{eq-eqb, ne-eqb}
-use borrow.Author.Needs.{needs}
-use native.Mathlib.Omega.{arith}
 use Rattle.packet.proofs.numbers.is_crossing.Statement.{statement}
 use Rattle.packet.proofs.numbers.is_crossing.Tie as tie
-use Rattle.packet.proofs.numbers.is_crossing.Reads as reads
-use Rattle.packet.proofs.numbers.is_crossing.Lts as lts
 
 returns : tie.Need-returns
 unfolding crosses

@@ -1,17 +1,12 @@
 -- `packet::numbers::is_short` meets its contract: only a kind with a data view can be. Assumes nothing.
 use mathlib.Core.Bool.{true, false}
-use Rattle.packet.specs.Packet.{viewed, crosses}
+use Rattle.packet.specs.Packet.{viewed}
 use borrow.Author.Tests.{not-true, not-false}
 use mathlib.Core.Path.{sym, _∙_, ap, _≡_}
 use lib.Dec.{ltb}
-use native.Mathlib.Omega.{arith}
 use borrow.Author.Needs.{needs}
 use Rattle.packet.proofs.numbers.is_short.Statement.{statement}
 use Rattle.packet.proofs.numbers.is_short.Tie as tie
-use Rattle.packet.proofs.numbers.is_short.Reads as reads
-use Rattle.packet.proofs.numbers.is_short.Lts as lts
-use Rattle.book.proofs.find.count_entries.Reads as count-entries-reads
-use Rattle.packet.proofs.numbers.is_viewed.Reads as is-viewed-reads
 
 is-viewed-requires : tie.Need-is-viewed-requires
 is-viewed-requires c κs = search needs

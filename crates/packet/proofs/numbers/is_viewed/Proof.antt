@@ -1,12 +1,8 @@
 -- `packet::numbers::is_viewed` meets its contract: 2 or 3. Assumes nothing.
 use Rattle.packet.specs.Packet.{viewed}
 use borrow.Author.Tests.{eq-eqb, ne-eqb}
-use borrow.Author.Needs.{needs}
-use native.Mathlib.Omega.{arith}
 use Rattle.packet.proofs.numbers.is_viewed.Statement.{statement}
 use Rattle.packet.proofs.numbers.is_viewed.Tie as tie
-use Rattle.packet.proofs.numbers.is_viewed.Reads as reads
-use Rattle.packet.proofs.numbers.is_viewed.Lts as lts
 
 returns : tie.Need-returns
 unfolding viewed

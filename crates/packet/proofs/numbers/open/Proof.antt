@@ -1,17 +1,10 @@
 -- `packet::numbers::open` meets its contract, number by number. Assumes nothing.
 use Rattle.packet.proofs.Opening.{open-21, open-22, open-23, open-24, open-25, open-26, open-tables}
 use Rattle.packet.specs.Inner.{isMissing}
-use mathlib.Core.Path.{_≡_, sym, ap, _∙_, refl}
-use native.Mathlib.Omega.{arith}
+use mathlib.Core.Path.{sym, ap, _∙_}
 use borrow.Author.Needs.{needs}
 use Rattle.packet.proofs.numbers.open.Statement.{statement}
 use Rattle.packet.proofs.numbers.open.Tie as tie
-use Rattle.packet.proofs.numbers.open.Reads as reads
-use Rattle.packet.proofs.numbers.open.Lts as lts
-use Rattle.book.proofs.find.control_table.Reads as control-table-reads
-use Rattle.packet.proofs.numbers.header_for.Reads as header-for-reads
-use Rattle.packet.proofs.numbers.is_missing.Reads as is-missing-reads
-use Rattle.packet.proofs.numbers.is_short.Reads as is-short-reads
 
 returns : tie.Need-returns
 returns c = open-21 (c .before .before .args .kind) (c .before .before .args .book .now) (c .before .before .args .count) (c .before .before .args .room) (c .if1 .taken)

@@ -6,17 +6,10 @@ use Rattle.text.specs.Quote.{bytes}
 use Rattle.packet.proofs.Opening.{start-viewed, start-other, start-behind, start-none}
 use Rattle.book.specs.Finders.{entryCount}
 use borrow.Author.Tests.{not-true, not-false}
-use mathlib.Core.Path.{_≡_, sym, ap, _∙_, refl}
-use native.Mathlib.Omega.{arith}
+use mathlib.Core.Path.{sym, ap, _∙_}
 use borrow.Author.Needs.{needs}
 use Rattle.packet.proofs.numbers.start_of.Statement.{statement}
 use Rattle.packet.proofs.numbers.start_of.Tie as tie
-use Rattle.packet.proofs.numbers.start_of.Reads as reads
-use Rattle.packet.proofs.numbers.start_of.Lts as lts
-use Rattle.book.proofs.find.count_entries.Reads as count-entries-reads
-use Rattle.packet.proofs.numbers.is_crossing.Reads as is-crossing-reads
-use Rattle.packet.proofs.numbers.is_viewed.Reads as is-viewed-reads
-use Rattle.packet.proofs.seek.first_asked.Reads as first-asked-reads
 
 is-viewed-requires : tie.Need-is-viewed-requires
 is-viewed-requires c κs = search needs

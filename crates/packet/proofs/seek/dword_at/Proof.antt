@@ -1,12 +1,9 @@
 -- `packet::seek::dword_at` meets its contract: past the end there is nothing. Assumes nothing.
 use lib.ListN.{List·getD-eq-default}
-use mathlib.Core.Path.{_≡_, sym, refl}
-use native.Mathlib.Omega.{arith}
+use mathlib.Core.Path.{sym, refl}
 use borrow.Author.Needs.{needs}
 use Rattle.packet.proofs.seek.dword_at.Statement.{statement}
 use Rattle.packet.proofs.seek.dword_at.Tie as tie
-use Rattle.packet.proofs.seek.dword_at.Reads as reads
-use Rattle.packet.proofs.seek.dword_at.Lts as lts
 
 mul-result : tie.Need-mul-result
 mul-result c = search needs

@@ -4,15 +4,10 @@ use Rattle.packet.specs.Packet.{firstFrom}
 use Rattle.packet.specs.Field.{asks}
 use lib.ListN.{length, drop}
 use mathlib.Core.Path.{_≡_, sym, ap, _∙_, refl}
-use Prim.Native.Nat.{ℕ, _≤_, _-_}
+use Prim.Native.Nat.{_-_}
 use borrow.Author.Needs.{needs}
-use native.Mathlib.Omega.{arith}
 use Rattle.packet.proofs.seek.first_asked.Statement.{statement}
 use Rattle.packet.proofs.seek.first_asked.Tie as tie
-use Rattle.packet.proofs.seek.first_asked.Reads as reads
-use Rattle.packet.proofs.seek.first_asked.Lts as lts
-use Rattle.packet.proofs.field.is_asked.Reads as is-asked-reads
-use Rattle.packet.proofs.field.wide.Reads as wide-reads
 
 abbrev Inv-loop : tie.InvT-loop
 Inv-loop book ask name places start i₀ i = firstFrom (asks ask book name) start (drop start places) ≡ firstFrom (asks ask book name) i (drop i places)

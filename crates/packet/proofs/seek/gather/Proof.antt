@@ -1,16 +1,10 @@
 -- `packet::seek::gather` meets its contract: four are found, and no fifth. Assumes nothing.
 use Rattle.packet.proofs.Gathering.{gathers-none, gathers-one, gathers-two, gathers-three, gathers-four, gathers-more}
 use Rattle.packet.specs.declared.MaybeUuid.the-variants.{Is}
-use mathlib.Core.Path.{_≡_, sym, ap, _∙_, refl}
-use native.Mathlib.Omega.{arith}
+use mathlib.Core.Path.{sym, _∙_}
 use borrow.Author.Needs.{needs}
 use Rattle.packet.proofs.seek.gather.Statement.{statement}
 use Rattle.packet.proofs.seek.gather.Tie as tie
-use Rattle.packet.proofs.seek.gather.Reads as reads
-use Rattle.packet.proofs.seek.gather.Lts as lts
-use Rattle.packet.proofs.seek.dword_at.Reads as dword-at-reads
-use Rattle.packet.proofs.seek.first_asked.Reads as first-asked-reads
-use Rattle.packet.proofs.seek.next_named.Reads as next-named-reads
 
 first-asked-requires : tie.Need-first-asked-requires
 first-asked-requires c κs = search needs

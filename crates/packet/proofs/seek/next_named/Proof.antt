@@ -1,16 +1,13 @@
 -- `packet::seek::next_named` meets its contract: behind the last index there is none. Assumes nothing.
 use Rattle.packet.proofs.Gathering.{first-over}
 use Prim.Native.Nat.{_+_}
-use mathlib.Core.Path.{_≡_, sym, ap, _∙_, refl}
+use mathlib.Core.Path.{sym}
 use Rattle.packet.specs.declared.field.Ask.the-variants.{Named}
 use Rattle.packet.specs.Field.{asks}
 use native.Mathlib.Omega.{arith}
 use borrow.Author.Needs.{needs}
 use Rattle.packet.proofs.seek.next_named.Statement.{statement}
 use Rattle.packet.proofs.seek.next_named.Tie as tie
-use Rattle.packet.proofs.seek.next_named.Reads as reads
-use Rattle.packet.proofs.seek.next_named.Lts as lts
-use Rattle.packet.proofs.seek.first_asked.Reads as first-asked-reads
 
 returns : tie.Need-returns
 returns c = sym (first-over (asks Named (c .before .before .before .before .args .book .now) (c .before .before .before .before .args .name .now)) (c .before .before .before .before .args .places .now) (c .before .before .before .before .args .i + 1) (omega (arith, c .if1 .taken)))

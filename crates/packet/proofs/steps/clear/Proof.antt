@@ -1,15 +1,13 @@
 -- `packet::steps::clear` meets its contract: zeros, then what is left. Assumes nothing.
 use Rattle.packet.proofs.Clearing.{cleared, cleared-next, cleared-all}
 use lib.ListN.{length, set, length-set}
-use mathlib.Core.Path.{_≡_, sym, ap, _∙_, refl}
+use mathlib.Core.Path.{_≡_, ap, _∙_, refl}
 use Prim.Native.Nat.{ℕ, _≤_, _-_}
 use mathlib.Core.List.{List}
 use borrow.Author.Needs.{needs}
 use native.Mathlib.Omega.{arith}
 use Rattle.packet.proofs.steps.clear.Statement.{statement}
 use Rattle.packet.proofs.steps.clear.Tie as tie
-use Rattle.packet.proofs.steps.clear.Reads as reads
-use Rattle.packet.proofs.steps.clear.Lts as lts
 
 abbrev Inv-loop : tie.InvT-loop
 Inv-loop places₀ i₀ places i = (i ≤ length places₀) × (length places ≡ length places₀) × (places ≡ cleared places₀ i)

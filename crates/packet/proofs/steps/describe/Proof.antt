@@ -3,16 +3,10 @@ use Rattle.packet.specs.Steps.{entryOf, filled}
 use Rattle.packet.specs.declared.fill.Pick.the-variants.{Any}
 use mathlib.Core.List.{[]}
 use Rattle.packet.proofs.Packets.{control-filled, described-at, described-missing, described-unasked}
-use mathlib.Core.Path.{_≡_, sym, ap, _∙_, refl}
-use native.Mathlib.Omega.{arith}
+use mathlib.Core.Path.{ap, _∙_}
 use borrow.Author.Needs.{needs}
 use Rattle.packet.proofs.steps.describe.Statement.{statement}
 use Rattle.packet.proofs.steps.describe.Tie as tie
-use Rattle.packet.proofs.steps.describe.Reads as reads
-use Rattle.packet.proofs.steps.describe.Lts as lts
-use Rattle.packet.proofs.fill.fill.Reads as fill-reads
-use Rattle.packet.proofs.steps.clear.Reads as clear-reads
-use Rattle.packet.proofs.steps.describe_crossing.Reads as describe-crossing-reads
 
 clear-requires : tie.Need-clear-requires
 clear-requires c κs = search needs

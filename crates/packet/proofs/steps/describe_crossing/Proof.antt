@@ -1,16 +1,9 @@
 -- `packet::steps::describe_crossing` meets its contract: header table, UUID, protocol table. Assumes nothing.
 use Rattle.packet.proofs.Packets.{described-on}
-use Rattle.packet.specs.Steps.{headerPlaces, uuidPlaces, placesBy}
-use mathlib.Core.Path.{_≡_, sym, ap, _∙_, refl}
-use native.Mathlib.Omega.{arith}
+use Rattle.packet.specs.Steps.{headerPlaces}
 use borrow.Author.Needs.{needs}
 use Rattle.packet.proofs.steps.describe_crossing.Statement.{statement}
 use Rattle.packet.proofs.steps.describe_crossing.Tie as tie
-use Rattle.packet.proofs.steps.describe_crossing.Reads as reads
-use Rattle.packet.proofs.steps.describe_crossing.Lts as lts
-use Rattle.packet.proofs.fill.fill.Reads as fill-reads
-use Rattle.packet.proofs.seek.gather.Reads as gather-reads
-use Rattle.packet.proofs.steps.describe_protocol.Reads as describe-protocol-reads
 
 slice-aggregate-fill : tie.Need-slice-aggregate-fill
 slice-aggregate-fill c = search needs

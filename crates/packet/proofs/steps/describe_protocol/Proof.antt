@@ -1,13 +1,7 @@
 -- `packet::steps::describe_protocol` meets its contract: no UUID, no table, or the table's entries. Assumes nothing.
-use mathlib.Core.Path.{_≡_, sym, ap, _∙_, refl}
-use native.Mathlib.Omega.{arith}
 use borrow.Author.Needs.{needs}
 use Rattle.packet.proofs.steps.describe_protocol.Statement.{statement}
 use Rattle.packet.proofs.steps.describe_protocol.Tie as tie
-use Rattle.packet.proofs.steps.describe_protocol.Reads as reads
-use Rattle.packet.proofs.steps.describe_protocol.Lts as lts
-use Rattle.book.proofs.find.uuid_table.Reads as uuid-table-reads
-use Rattle.packet.proofs.steps.latch_through.Reads as latch-through-reads
 
 enum-known-uuid : tie.Need-enum-known-uuid
 enum-known-uuid c = search needs

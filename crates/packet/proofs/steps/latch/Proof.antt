@@ -2,18 +2,12 @@
 use Rattle.packet.proofs.Latching.{latched-stays, none-found, none-named, newly-latched}
 use Rattle.packet.specs.Steps.{filled, entryOf}
 use Rattle.packet.specs.declared.fill.Pick.the-variants.{Typed}
-use mathlib.Core.Path.{_≡_, sym, ap, _∙_, refl}
+use mathlib.Core.Path.{ap, _∙_}
 use Prim.Native.Nat.{ℕ}
 use mathlib.Core.List.{List}
-use native.Mathlib.Omega.{arith}
 use borrow.Author.Needs.{needs}
 use Rattle.packet.proofs.steps.latch.Statement.{statement}
 use Rattle.packet.proofs.steps.latch.Tie as tie
-use Rattle.packet.proofs.steps.latch.Reads as reads
-use Rattle.packet.proofs.steps.latch.Lts as lts
-use Rattle.packet.proofs.field.name_in.Reads as name-in-reads
-use Rattle.packet.proofs.fill.fill.Reads as fill-reads
-use Rattle.packet.proofs.steps.type_in.Reads as type-in-reads
 
 returns : tie.Need-returns
 returns c = latched-stays (c .before .before .before .args .book .now) (c .before .before .before .args .table) (c .before .before .before .args .found) (c .before .before .before .args .entry) (c .before .before .before .args .dword) (c .before .before .before .args .typed .now) (c .before .before .before .args .latched) (c .if1 .taken)

@@ -4,17 +4,12 @@ use Rattle.packet.specs.Steps.{entryOf}
 use Rattle.packet.specs.declared.fill.Pick.the-variants.{Typed}
 use mathlib.Core.List.{[]}
 use Rattle.packet.proofs.Latching.{Through, through-start, through-next, through-end}
-use mathlib.Core.Path.{_≡_, sym, ap, _∙_, refl}
+use mathlib.Core.Path.{sym, ap, _∙_}
 use lib.ListN.{length, replicate, length-replicate}
-use Prim.Native.Nat.{ℕ, _≤_, _-_}
+use Prim.Native.Nat.{_-_}
 use borrow.Author.Needs.{needs}
-use native.Mathlib.Omega.{arith}
 use Rattle.packet.proofs.steps.latch_over.Statement.{statement}
 use Rattle.packet.proofs.steps.latch_over.Tie as tie
-use Rattle.packet.proofs.steps.latch_over.Reads as reads
-use Rattle.packet.proofs.steps.latch_over.Lts as lts
-use Rattle.packet.proofs.field.or_else.Reads as or-else-reads
-use Rattle.packet.proofs.steps.latch.Reads as latch-reads
 
 abbrev Inv-loop : tie.InvT-loop
 Inv-loop book table dwords places₀ plain typed₀ latched₀ i₀ places typed latched i = Through book table dwords places₀ plain typed latched i places

@@ -3,16 +3,11 @@ use Rattle.packet.proofs.Latching.{laid-room, laid-lent, spread}
 use lib.Seq.{length-take-le}
 use Prim.Native.Nat.{ℕ}
 use mathlib.Core.List.{List}
-use mathlib.Core.Path.{_≡_, sym, ap, _∙_, refl}
+use mathlib.Core.Path.{sym}
 use lib.ListN.{length, replicate}
-use native.Mathlib.Omega.{arith}
 use borrow.Author.Needs.{needs}
 use Rattle.packet.proofs.steps.latch_through.Statement.{statement}
 use Rattle.packet.proofs.steps.latch_through.Tie as tie
-use Rattle.packet.proofs.steps.latch_through.Reads as reads
-use Rattle.packet.proofs.steps.latch_through.Lts as lts
-use Rattle.packet.proofs.fill.fill.Reads as fill-reads
-use Rattle.packet.proofs.steps.latch_over.Reads as latch-over-reads
 
 slice-aggregate-fill : tie.Need-slice-aggregate-fill
 slice-aggregate-fill c = search needs

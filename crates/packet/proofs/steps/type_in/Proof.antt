@@ -1,16 +1,11 @@
 -- `packet::steps::type_in` meets its contract: the range, then the value. Assumes nothing.
 use Rattle.packet.specs.Steps.{typeIn}
 use Rattle.packet.specs.Field.{namedIn}
-use mathlib.Core.Path.{sym, _∙_, ap}
+use mathlib.Core.Path.{_∙_, ap}
 use Prim.Native.Nat.{ℕ}
-use native.Mathlib.Omega.{arith}
 use borrow.Author.Needs.{needs}
 use Rattle.packet.proofs.steps.type_in.Statement.{statement}
 use Rattle.packet.proofs.steps.type_in.Tie as tie
-use Rattle.packet.proofs.steps.type_in.Reads as reads
-use Rattle.packet.proofs.steps.type_in.Lts as lts
-use Rattle.packet.proofs.field.named_in.Reads as named-in-reads
-use Rattle.packet.proofs.field.range_in.Reads as range-in-reads
 
 slice-aggregate-range-in : tie.Need-slice-aggregate-range-in
 slice-aggregate-range-in c = search needs

@@ -3,7 +3,6 @@ use Prim.Native.Nat.{_-_, _≤_}
 use lib.ListN.{length}
 use mathlib.Core.Path.{_≡_}
 use borrow.Author.Needs.{needs}
-use native.Mathlib.Omega.{arith}
 use Rattle.packet_answers.proofs.asked.put_all.Statement.{statement}
 use Rattle.packet_answers.proofs.asked.put_all.Tie as tie
 

@@ -5,7 +5,6 @@ use lib.ListN.{length}
 use Rattle.pairs.specs.Data.{pieceEnd}
 use Rattle.pairs.proofs.Cuts.{piece-over, piece-stop, piece-step, ends-piece}
 use borrow.Author.Needs.{needs}
-use native.Mathlib.Omega.{arith}
 use Rattle.pairs.proofs.dwords.piece_end.Statement.{statement}
 use Rattle.pairs.proofs.dwords.piece_end.Tie as tie
 

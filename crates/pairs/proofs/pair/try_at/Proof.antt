@@ -1,7 +1,6 @@
 -- `pair::try_at` meets its contract, one law a way out. Assumes nothing.
 use mathlib.Core.Path.{sym, _∙_}
 use Rattle.pairs.proofs.Tries.{try-empty, try-unequal, try-hits, try-misses}
-use native.Mathlib.Omega.{arith}
 use borrow.Author.Needs.{needs}
 use Rattle.pairs.proofs.pair.try_at.Statement.{statement}
 use Rattle.pairs.proofs.pair.try_at.Tie as tie

@@ -2,7 +2,6 @@
 use mathlib.Core.Path.{sym, _∙_}
 use Rattle.text.specs.Class.{inClass}
 use Rattle.pairs.proofs.Tries.{value-word, value-bracket, bracket-behind}
-use native.Mathlib.Omega.{arith}
 use borrow.Author.Needs.{needs}
 use Rattle.pairs.proofs.pair.value_end.Statement.{statement}
 use Rattle.pairs.proofs.pair.value_end.Tie as tie

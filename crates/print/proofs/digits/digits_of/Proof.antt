@@ -1,6 +1,5 @@
 -- `digits::digits_of` meets its contract: the digits so far are a `Counted`. Assumes nothing.
 use Rattle.print.proofs.Counting.{Counted, counted-starts, counted-goes-on, counted-steps, counted-ends}
-use Prim.Native.Nat.{ℕ, _+_, _^_, _<_}
 use borrow.Author.Needs.{needs}
 use native.Mathlib.Omega.{arith}
 use Rattle.print.proofs.digits.digits_of.Statement.{statement}

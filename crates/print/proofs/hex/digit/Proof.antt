@@ -1,6 +1,5 @@
 -- `hex::digit` meets its contract: the digits below ten and the others. Assumes nothing.
 use Rattle.print.proofs.Hexing.{digit-low, digit-high}
-use native.Mathlib.Omega.{arith}
 use borrow.Author.Needs.{needs}
 use Rattle.print.proofs.hex.digit.Statement.{statement}
 use Rattle.print.proofs.hex.digit.Tie as tie

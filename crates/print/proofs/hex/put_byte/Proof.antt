@@ -1,7 +1,6 @@
 -- `hex::put_byte` meets its contract: its two digits are put. Assumes nothing.
 use Rattle.print.proofs.Hexing.{two-same}
 use Rattle.print.proofs.Copying.{placed-same}
-use native.Mathlib.Omega.{arith}
 use borrow.Author.Needs.{needs}
 use Rattle.print.proofs.hex.put_byte.Statement.{statement}
 use Rattle.print.proofs.hex.put_byte.Tie as tie

@@ -1,7 +1,6 @@
 -- `hex::put_dword` meets its contract: its eight digits are put. Assumes nothing.
 use Rattle.print.proofs.Hexing.{eight-same}
 use Rattle.print.proofs.Copying.{placed-same}
-use native.Mathlib.Omega.{arith}
 use borrow.Author.Needs.{needs}
 use Rattle.print.proofs.hex.put_dword.Statement.{statement}
 use Rattle.print.proofs.hex.put_dword.Tie as tie

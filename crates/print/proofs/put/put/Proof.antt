@@ -1,8 +1,7 @@
 -- `put::put` meets its contract: the bytes so far are a `Copied`. Assumes nothing.
 use Rattle.print.proofs.Copying.{Copied, no-room, copied-starts, copied-steps, copied-length, copied-ends}
 use lib.ListN.{length}
-use mathlib.Core.Path.{_≡_}
-use Prim.Native.Nat.{_+_, _-_, _≤_}
+use Prim.Native.Nat.{_-_}
 use borrow.Author.Needs.{needs}
 use native.Mathlib.Omega.{arith}
 use Rattle.print.proofs.put.put.Statement.{statement}

@@ -2,11 +2,8 @@
 use lib.ListN.{take, drop}
 use Prim.Native.Nat.{ℕ, _-_}
 use Rattle.print.proofs.Copying.{placed-same}
-use Rattle.print.specs.Put.{Placed}
 use Rattle.text.proofs.Stripping.{rest-is}
-use Rattle.text.specs.Decimal.{decimalText}
-use lib.ListN.{length}
-use mathlib.Core.Path.{_≡_, sym, ap, _∙_}
+use mathlib.Core.Path.{sym, ap, _∙_}
 use native.Mathlib.Omega.{arith}
 use borrow.Author.Needs.{needs}
 use Rattle.print.proofs.put.put_decimal.Statement.{statement}

@@ -5,9 +5,6 @@ use Rattle.questions.specs.Described.{cut, adapterIn}
 use borrow.Author.Needs.{needs}
 use Rattle.questions.proofs.described.adapter_in.Statement.{statement}
 use Rattle.questions.proofs.described.adapter_in.Tie as tie
-use Rattle.questions.proofs.described.adapter_in.Reads as reads
-use Rattle.questions.proofs.described.adapter_in.Lts as lts
-use Rattle.questions.proofs.described.value_asked.Reads as value-asked-reads
 
 slice-aggregate-value-asked : tie.Need-slice-aggregate-value-asked
 slice-aggregate-value-asked c = search needs

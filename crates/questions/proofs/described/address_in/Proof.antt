@@ -4,10 +4,6 @@ use Rattle.questions.specs.Described.{addressIn}
 use borrow.Author.Needs.{needs}
 use Rattle.questions.proofs.described.address_in.Statement.{statement}
 use Rattle.questions.proofs.described.address_in.Tie as tie
-use Rattle.questions.proofs.described.address_in.Reads as reads
-use Rattle.questions.proofs.described.address_in.Lts as lts
-use Rattle.packet.proofs.numbers.is_crossing.Reads as is-crossing-reads
-use Rattle.questions.proofs.described.word_asked.Reads as word-asked-reads
 
 is-crossing-requires : tie.Need-is-crossing-requires
 is-crossing-requires c κs = search needs

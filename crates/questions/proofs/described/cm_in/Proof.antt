@@ -6,9 +6,6 @@ use Rattle.bits.specs.Range.{bit}
 use borrow.Author.Needs.{needs}
 use Rattle.questions.proofs.described.cm_in.Statement.{statement}
 use Rattle.questions.proofs.described.cm_in.Tie as tie
-use Rattle.questions.proofs.described.cm_in.Reads as reads
-use Rattle.questions.proofs.described.cm_in.Lts as lts
-use Rattle.questions.proofs.described.route_in.Reads as route-in-reads
 
 route-in-requires : tie.Need-route-in-requires
 route-in-requires c κs = search needs

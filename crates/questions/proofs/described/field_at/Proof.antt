@@ -7,9 +7,6 @@ use lib.ListN.{length}
 use borrow.Author.Needs.{needs}
 use Rattle.questions.proofs.described.field_at.Statement.{statement}
 use Rattle.questions.proofs.described.field_at.Tie as tie
-use Rattle.questions.proofs.described.field_at.Reads as reads
-use Rattle.questions.proofs.described.field_at.Lts as lts
-use Rattle.questions.proofs.described.field_in.Reads as field-in-reads
 
 returns : tie.Need-returns
 unfolding fieldAt

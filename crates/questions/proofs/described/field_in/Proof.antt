@@ -6,11 +6,6 @@ use Prim.Native.Nat.{_%_}
 use borrow.Author.Needs.{needs}
 use Rattle.questions.proofs.described.field_in.Statement.{statement}
 use Rattle.questions.proofs.described.field_in.Tie as tie
-use Rattle.questions.proofs.described.field_in.Reads as reads
-use Rattle.questions.proofs.described.field_in.Lts as lts
-use Rattle.field.proofs.field_of.Reads as field-of-reads
-use Rattle.packet.proofs.field.wide.Reads as wide-reads
-use Rattle.packet.proofs.seek.dword_at.Reads as dword-at-reads
 
 cast-offset : tie.Need-cast-offset
 cast-offset c = search needs

@@ -4,10 +4,6 @@ use Rattle.questions.proofs.Asking.{field-none, field-found}
 use borrow.Author.Needs.{needs}
 use Rattle.questions.proofs.described.field_with.Statement.{statement}
 use Rattle.questions.proofs.described.field_with.Tie as tie
-use Rattle.questions.proofs.described.field_with.Reads as reads
-use Rattle.questions.proofs.described.field_with.Lts as lts
-use Rattle.packet.proofs.seek.first_asked.Reads as first-asked-reads
-use Rattle.questions.proofs.described.field_in.Reads as field-in-reads
 
 first-asked-requires : tie.Need-first-asked-requires
 first-asked-requires c κs = search needs

@@ -3,9 +3,6 @@ use Rattle.questions.proofs.Asking.{route-short, route-joined}
 use borrow.Author.Needs.{needs}
 use Rattle.questions.proofs.described.route_in.Statement.{statement}
 use Rattle.questions.proofs.described.route_in.Tie as tie
-use Rattle.questions.proofs.described.route_in.Reads as reads
-use Rattle.questions.proofs.described.route_in.Lts as lts
-use Rattle.questions.proofs.described.join.Reads as join-reads
 
 returns : tie.Need-returns
 returns c = route-short (c .before .before .args .dwords .now) (c .if1 .taken)

@@ -4,12 +4,6 @@ use Rattle.questions.specs.Described.{sizeIn}
 use borrow.Author.Needs.{needs}
 use Rattle.questions.proofs.described.size_in.Statement.{statement}
 use Rattle.questions.proofs.described.size_in.Tie as tie
-use Rattle.questions.proofs.described.size_in.Reads as reads
-use Rattle.questions.proofs.described.size_in.Lts as lts
-use Rattle.packet.proofs.numbers.is_crossing.Reads as is-crossing-reads
-use Rattle.questions.proofs.described.word_asked.Reads as word-asked-reads
-use Rattle.questions.proofs.kinds.is_reading.Reads as is-reading-reads
-use Rattle.questions.proofs.kinds.is_writing.Reads as is-writing-reads
 
 is-reading-requires : tie.Need-is-reading-requires
 is-reading-requires c κs = search needs

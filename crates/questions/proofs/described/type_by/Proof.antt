@@ -6,10 +6,6 @@ use Rattle.questions.specs.Described.{named}
 use borrow.Author.Needs.{needs}
 use Rattle.questions.proofs.described.type_by.Statement.{statement}
 use Rattle.questions.proofs.described.type_by.Tie as tie
-use Rattle.questions.proofs.described.type_by.Reads as reads
-use Rattle.questions.proofs.described.type_by.Lts as lts
-use Rattle.packet.proofs.field.named_in.Reads as named-in-reads
-use Rattle.packet.proofs.field.value_in.Reads as value-in-reads
 
 named-in-requires : tie.Need-named-in-requires
 named-in-requires c κs = search needs

@@ -6,13 +6,6 @@ use Rattle.text.specs.Quote.{bytes}
 use borrow.Author.Needs.{needs}
 use Rattle.questions.proofs.described.type_in.Statement.{statement}
 use Rattle.questions.proofs.described.type_in.Tie as tie
-use Rattle.questions.proofs.described.type_in.Reads as reads
-use Rattle.questions.proofs.described.type_in.Lts as lts
-use Rattle.packet.proofs.field.range_in.Reads as range-in-reads
-use Rattle.packet.proofs.field.wide.Reads as wide-reads
-use Rattle.packet.proofs.seek.dword_at.Reads as dword-at-reads
-use Rattle.packet.proofs.seek.first_asked.Reads as first-asked-reads
-use Rattle.questions.proofs.described.type_by.Reads as type-by-reads
 
 slice-aggregate-first-asked : tie.Need-slice-aggregate-first-asked
 slice-aggregate-first-asked c = search needs

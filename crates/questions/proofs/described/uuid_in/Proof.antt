@@ -9,10 +9,6 @@ use native.Mathlib.Omega.{arith}
 use borrow.Author.Needs.{needs}
 use Rattle.questions.proofs.described.uuid_in.Statement.{statement}
 use Rattle.questions.proofs.described.uuid_in.Tie as tie
-use Rattle.questions.proofs.described.uuid_in.Reads as reads
-use Rattle.questions.proofs.described.uuid_in.Lts as lts
-use Rattle.packet.proofs.seek.gather.Reads as gather-reads
-use Rattle.questions.proofs.kept.uuid_kept.Reads as uuid-kept-reads
 
 slice-aggregate-gather : tie.Need-slice-aggregate-gather
 slice-aggregate-gather c = sym (length-take-le (length (c .before .before .before .before .before .before .args .dwords .now)) (c .before .before .before .before .before .before .args .places .now) (omega (arith, c .before .if1 .taken)))

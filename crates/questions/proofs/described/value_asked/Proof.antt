@@ -5,13 +5,6 @@ use Rattle.packet.specs.Field.{rangeIn}
 use borrow.Author.Needs.{needs}
 use Rattle.questions.proofs.described.value_asked.Statement.{statement}
 use Rattle.questions.proofs.described.value_asked.Tie as tie
-use Rattle.questions.proofs.described.value_asked.Reads as reads
-use Rattle.questions.proofs.described.value_asked.Lts as lts
-use Rattle.packet.proofs.field.range_in.Reads as range-in-reads
-use Rattle.packet.proofs.field.value_in.Reads as value-in-reads
-use Rattle.packet.proofs.field.wide.Reads as wide-reads
-use Rattle.packet.proofs.seek.dword_at.Reads as dword-at-reads
-use Rattle.packet.proofs.seek.first_asked.Reads as first-asked-reads
 
 first-asked-requires : tie.Need-first-asked-requires
 first-asked-requires c κs = search needs

@@ -5,9 +5,6 @@ use Rattle.questions.specs.Described.{cut}
 use borrow.Author.Needs.{needs}
 use Rattle.questions.proofs.described.word_asked.Statement.{statement}
 use Rattle.questions.proofs.described.word_asked.Tie as tie
-use Rattle.questions.proofs.described.word_asked.Reads as reads
-use Rattle.questions.proofs.described.word_asked.Lts as lts
-use Rattle.questions.proofs.described.value_asked.Reads as value-asked-reads
 
 value-asked-requires : tie.Need-value-asked-requires
 value-asked-requires c κs = search needs

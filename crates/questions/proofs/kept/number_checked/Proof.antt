@@ -4,9 +4,6 @@ use Rattle.packet.proofs.Packets.{opened-tables, opened-refused}
 use borrow.Author.Needs.{needs}
 use Rattle.questions.proofs.kept.number_checked.Statement.{statement}
 use Rattle.questions.proofs.kept.number_checked.Tie as tie
-use Rattle.questions.proofs.kept.number_checked.Reads as reads
-use Rattle.questions.proofs.kept.number_checked.Lts as lts
-use Rattle.packet.proofs.numbers.open.Reads as open-reads
 
 open-requires : tie.Need-open-requires
 open-requires c κs = search needs

@@ -4,10 +4,6 @@ use Rattle.questions.proofs.Over.{refusal-20, refusal-checked}
 use borrow.Author.Needs.{needs}
 use Rattle.questions.proofs.kept.number_of.Statement.{statement}
 use Rattle.questions.proofs.kept.number_of.Tie as tie
-use Rattle.questions.proofs.kept.number_of.Reads as reads
-use Rattle.questions.proofs.kept.number_of.Lts as lts
-use Rattle.book.proofs.check.Reads as check-reads
-use Rattle.questions.proofs.kept.number_checked.Reads as number-checked-reads
 
 check-requires : tie.Need-check-requires
 check-requires c κs = search needs

@@ -4,8 +4,6 @@ use Rattle.questions.specs.Answers.{maybeWord}
 use borrow.Author.Needs.{needs}
 use Rattle.questions.proofs.kept.start_in.Statement.{statement}
 use Rattle.questions.proofs.kept.start_in.Tie as tie
-use Rattle.questions.proofs.kept.start_in.Reads as reads
-use Rattle.questions.proofs.kept.start_in.Lts as lts
 
 enum-known-start : tie.Need-enum-known-start
 enum-known-start c = search needs

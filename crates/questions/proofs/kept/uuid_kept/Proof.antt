@@ -4,8 +4,6 @@ use Rattle.questions.specs.Answers.{maybeUuid}
 use borrow.Author.Needs.{needs}
 use Rattle.questions.proofs.kept.uuid_kept.Statement.{statement}
 use Rattle.questions.proofs.kept.uuid_kept.Tie as tie
-use Rattle.questions.proofs.kept.uuid_kept.Reads as reads
-use Rattle.questions.proofs.kept.uuid_kept.Lts as lts
 
 enum-known-uuid : tie.Need-enum-known-uuid
 enum-known-uuid c = search needs

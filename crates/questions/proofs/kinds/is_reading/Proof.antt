@@ -3,8 +3,6 @@ use Rattle.questions.specs.Described.{isRead}
 use borrow.Author.Tests.{eq-eqb, ne-eqb}
 use Rattle.questions.proofs.kinds.is_reading.Statement.{statement}
 use Rattle.questions.proofs.kinds.is_reading.Tie as tie
-use Rattle.questions.proofs.kinds.is_reading.Reads as reads
-use Rattle.questions.proofs.kinds.is_reading.Lts as lts
 
 returns : tie.Need-returns
 unfolding isRead

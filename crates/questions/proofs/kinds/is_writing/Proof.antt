@@ -3,8 +3,6 @@ use Rattle.questions.specs.Described.{isWrite}
 use borrow.Author.Tests.{eq-eqb, ne-eqb}
 use Rattle.questions.proofs.kinds.is_writing.Statement.{statement}
 use Rattle.questions.proofs.kinds.is_writing.Tie as tie
-use Rattle.questions.proofs.kinds.is_writing.Reads as reads
-use Rattle.questions.proofs.kinds.is_writing.Lts as lts
 
 returns : tie.Need-returns
 unfolding isWrite

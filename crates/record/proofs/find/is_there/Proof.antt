@@ -1,6 +1,5 @@
 -- `find::is_there` meets its contract. Assumes nothing.
 use borrow.Author.Needs.{needs}
-use native.Mathlib.Omega.{arith}
 use Rattle.record.proofs.find.is_there.Statement.{statement}
 use Rattle.record.proofs.find.is_there.Tie as tie
 

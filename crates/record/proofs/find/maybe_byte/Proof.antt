@@ -1,7 +1,6 @@
 -- `find::maybe_byte` meets its contract. Assumes nothing.
 use Rattle.tlv.proofs.Numbers.{number-one}
 use Rattle.record.specs.Finding.{byteOf, maybeOf}
-use native.Mathlib.Omega.{arith}
 use borrow.Author.Needs.{needs}
 use Rattle.record.proofs.find.maybe_byte.Statement.{statement}
 use Rattle.record.proofs.find.maybe_byte.Tie as tie

@@ -1,6 +1,5 @@
 -- `find::maybe_word` meets its contract. Assumes nothing.
 use Rattle.record.specs.Finding.{wordOf, maybeOf}
-use native.Mathlib.Omega.{arith}
 use borrow.Author.Needs.{needs}
 use Rattle.record.proofs.find.maybe_word.Statement.{statement}
 use Rattle.record.proofs.find.maybe_word.Tie as tie

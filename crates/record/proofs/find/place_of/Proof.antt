@@ -1,5 +1,5 @@
 -- `find::place_of` meets its contract: a field that is found lies within the text. Assumes nothing.
-use mathlib.Core.Path.{_≡_, sym, ap, _∙_}
+use mathlib.Core.Path.{sym, _∙_}
 use Rattle.record.proofs.Finding.{span-moves}
 use Rattle.record.specs.Finding.{placeOf}
 use native.Mathlib.Omega.{arith}

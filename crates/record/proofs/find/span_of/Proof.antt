@@ -1,7 +1,7 @@
 -- `find::span_of` meets its contract: the field sought is the one `Sought` from the loop's place on. Assumes nothing.
 use Prim.Native.Nat.{_-_}
 use lib.ListN.{length}
-use mathlib.Core.Path.{_≡_, sym, ap, _∙_}
+use mathlib.Core.Path.{sym, ap, _∙_}
 use Rattle.tlv.specs.Reading.{refusalOf}
 use Rattle.record.proofs.Finding.{Sought, Moves, field-moves, seeking-starts, sought-end, sought-cut, sought-hit, sought-miss}
 use borrow.Author.Needs.{needs}

@@ -1,7 +1,5 @@
 -- `find::two_of` meets its contract. Assumes nothing.
-use Rattle.tlv.proofs.Numbers.{number-one}
 use Rattle.record.specs.Finding.{numberOf, maybeOf}
-use native.Mathlib.Omega.{arith}
 use borrow.Author.Needs.{needs}
 use Rattle.record.proofs.find.two_of.Statement.{statement}
 use Rattle.record.proofs.find.two_of.Tie as tie

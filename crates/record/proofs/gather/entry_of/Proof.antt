@@ -1,6 +1,5 @@
 -- `gather::entry_of` meets its contract, group by group. Assumes nothing.
 use Rattle.record.specs.Gathering.{gathered, entryOf}
-use native.Mathlib.Omega.{arith}
 use borrow.Author.Needs.{needs}
 use Rattle.record.proofs.gather.entry_of.Statement.{statement}
 use Rattle.record.proofs.gather.entry_of.Tie as tie

@@ -1,6 +1,5 @@
 -- `gather::read_noted` meets its contract, field by field. Assumes nothing.
 use Rattle.record.specs.Gathering.{notedOf}
-use native.Mathlib.Omega.{arith}
 use borrow.Author.Needs.{needs}
 use Rattle.record.proofs.gather.read_noted.Statement.{statement}
 use Rattle.record.proofs.gather.read_noted.Tie as tie

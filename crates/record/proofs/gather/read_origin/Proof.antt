@@ -1,6 +1,5 @@
 -- `gather::read_origin` meets its contract, field by field. Assumes nothing.
 use Rattle.record.specs.Gathering.{originOf}
-use native.Mathlib.Omega.{arith}
 use borrow.Author.Needs.{needs}
 use Rattle.record.proofs.gather.read_origin.Statement.{statement}
 use Rattle.record.proofs.gather.read_origin.Tie as tie

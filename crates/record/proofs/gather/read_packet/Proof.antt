@@ -1,7 +1,6 @@
 -- `gather::read_packet` meets its contract, field by field. Assumes nothing.
 use lib.Dec.{eqb}
 use Rattle.record.specs.Gathering.{packetOf}
-use native.Mathlib.Omega.{arith}
 use borrow.Author.Needs.{needs}
 use Rattle.record.proofs.gather.read_packet.Statement.{statement}
 use Rattle.record.proofs.gather.read_packet.Tie as tie

@@ -1,10 +1,9 @@
 -- `judge::has_required` meets its contract: the tags so far are `Checked`. Assumes nothing.
 use Prim.Native.Nat.{_-_}
 use borrow.Author.Tests.{not-true, not-false}
-use mathlib.Core.Path.{_≡_, sym, ap, _∙_}
+use mathlib.Core.Path.{sym, _∙_}
 use Rattle.record.proofs.Judging.{Checked, checking-starts, checking-stops, checking-steps, checking-ends}
 use borrow.Author.Needs.{needs}
-use native.Mathlib.Omega.{arith}
 use Rattle.record.proofs.judge.has_required.Statement.{statement}
 use Rattle.record.proofs.judge.has_required.Tie as tie
 

@@ -1,8 +1,6 @@
 -- `judge::is_framed` meets its contract: the answer goes by what stands at the start. Assumes nothing.
 use borrow.Author.Tests.{eq-eqb, ne-eqb}
-use mathlib.Core.Path.{_≡_, sym, ap, _∙_}
-use Rattle.record.specs.Judging.{framed, framedBy}
-use native.Mathlib.Omega.{arith}
+use Rattle.record.specs.Judging.{framed}
 use borrow.Author.Needs.{needs}
 use Rattle.record.proofs.judge.is_framed.Statement.{statement}
 use Rattle.record.proofs.judge.is_framed.Tie as tie

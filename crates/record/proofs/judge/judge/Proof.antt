@@ -1,7 +1,7 @@
 -- `judge::judge` meets its contract: the number so far is `SoFar`. Assumes nothing.
 use Prim.Native.Nat.{_-_}
 use lib.ListN.{length}
-use mathlib.Core.Path.{_≡_, sym, ap, _∙_}
+use mathlib.Core.Path.{sym, ap, _∙_}
 use Rattle.tlv.specs.Reading.{refusalOf}
 use Rattle.record.proofs.Judging.{SoFar, judging-starts, judging-ends, judging-cut, judging-stops, judging-steps}
 use Rattle.record.proofs.Finding.{Moves, field-moves}

@@ -1,12 +1,9 @@
 -- `judge::judge_field` meets its contract: each way out is one of the ways to a field's number. Assumes nothing.
 use borrow.Author.Tests.{not-true, not-false}
-use mathlib.Core.Bool.{Bool, true, false}
-use mathlib.Core.Path.{_≡_, sym, ap, ap₂, _∙_}
-use Rattle.tlv.specs.Reading.{between}
+use mathlib.Core.Path.{sym, ap, _∙_}
 use Rattle.record.proofs.Judging.{tag-low, tag-unknown, body-good, body-bad}
-use Rattle.record.specs.Rule.{isKnown, fitsRule}
+use Rattle.record.specs.Rule.{isKnown}
 use borrow.Author.Needs.{needs}
-use native.Mathlib.Omega.{arith}
 use Rattle.record.proofs.judge.judge_field.Statement.{statement}
 use Rattle.record.proofs.judge.judge_field.Tie as tie
 

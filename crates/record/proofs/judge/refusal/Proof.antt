@@ -1,8 +1,7 @@
 -- `judge::refusal` meets its contract: each way out is one of the ways to a text's number. Assumes nothing.
 use borrow.Author.Tests.{not-true, not-false}
-use mathlib.Core.Path.{_≡_, sym, ap, _∙_}
+use mathlib.Core.Path.{sym, _∙_}
 use Rattle.record.proofs.Judging.{not-framed, field-refused, tag-missing, nothing-refused}
-use native.Mathlib.Omega.{arith}
 use borrow.Author.Needs.{needs}
 use Rattle.record.proofs.judge.refusal.Statement.{statement}
 use Rattle.record.proofs.judge.refusal.Tie as tie

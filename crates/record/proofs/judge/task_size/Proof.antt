@@ -1,8 +1,8 @@
 -- `judge::task_size` meets its contract: the answer goes by what stands at place 3. Assumes nothing.
 use borrow.Author.Tests.{eq-eqb, ne-eqb}
-use mathlib.Core.Path.{_≡_, sym, ap, _∙_}
+use mathlib.Core.Path.{sym, _∙_}
 use Rattle.record.proofs.Finding.{Moves, field-moves}
-use Rattle.record.specs.Judging.{taskSize, taskIn}
+use Rattle.record.specs.Judging.{taskSize}
 use native.Mathlib.Omega.{arith}
 use borrow.Author.Needs.{needs}
 use Rattle.record.proofs.judge.task_size.Statement.{statement}

@@ -1,5 +1,5 @@
 -- `rule::fits` meets its contract, rule by rule. Assumes nothing.
-use mathlib.Core.Path.{_≡_, sym, ap, _∙_}
+use mathlib.Core.Path.{sym, ap, _∙_}
 use Rattle.tlv.proofs.Places.{between-length}
 use Rattle.record.proofs.Texts.{function-long, function-short}
 use Rattle.record.specs.Rule.{fitsRule, fitsDwords}

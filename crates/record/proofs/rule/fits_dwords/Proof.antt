@@ -1,7 +1,6 @@
 -- `rule::fits_dwords` meets its contract. Assumes nothing.
 use borrow.Author.Tests.{eq-eqb, ne-eqb}
 use Rattle.record.specs.Rule.{fitsDwords}
-use native.Mathlib.Omega.{arith}
 use borrow.Author.Needs.{needs}
 use Rattle.record.proofs.rule.fits_dwords.Statement.{statement}
 use Rattle.record.proofs.rule.fits_dwords.Tie as tie

@@ -1,8 +1,6 @@
 -- `rule::fits_number` meets its contract. Assumes nothing.
-use lib.Dec.{leb}
-use mathlib.Core.Path.{_≡_, sym, ap, _∙_}
+use mathlib.Core.Path.{sym, _∙_}
 use Rattle.record.proofs.Texts.{number-other, number-same}
-use native.Mathlib.Omega.{arith}
 use borrow.Author.Needs.{needs}
 use Rattle.record.proofs.rule.fits_number.Statement.{statement}
 use Rattle.record.proofs.rule.fits_number.Tie as tie

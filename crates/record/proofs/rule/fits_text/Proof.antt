@@ -5,7 +5,6 @@ use Prim.Native.Nat.{_-_}
 use Rattle.record.proofs.Texts.{Passed, text-empty, passed-starts, passed-stops, passed-steps, passed-ends}
 use Rattle.record.specs.Rule.{isLetter}
 use borrow.Author.Needs.{needs}
-use native.Mathlib.Omega.{arith}
 use Rattle.record.proofs.rule.fits_text.Statement.{statement}
 use Rattle.record.proofs.rule.fits_text.Tie as tie
 

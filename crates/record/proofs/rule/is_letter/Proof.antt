@@ -1,7 +1,6 @@
 -- `rule::is_letter` meets its contract, letter by letter. Assumes nothing.
 use borrow.Author.Tests.{eq-eqb, ne-eqb}
 use Rattle.record.specs.Rule.{isLetter}
-use native.Mathlib.Omega.{arith}
 use borrow.Author.Needs.{needs}
 use Rattle.record.proofs.rule.is_letter.Statement.{statement}
 use Rattle.record.proofs.rule.is_letter.Tie as tie

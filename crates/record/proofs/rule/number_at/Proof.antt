@@ -1,7 +1,5 @@
 -- `rule::number_at` meets its contract: the read of each width. Assumes nothing.
 use Rattle.tlv.proofs.Numbers.{number-one}
-use mathlib.Core.Path.{_≡_, sym, _∙_}
-use native.Mathlib.Omega.{arith}
 use borrow.Author.Needs.{needs}
 use Rattle.record.proofs.rule.number_at.Statement.{statement}
 use Rattle.record.proofs.rule.number_at.Tie as tie

@@ -1,7 +1,6 @@
 -- `rule::rule_of` meets its contract: each arm names the rule that the table has at its tag, and behind the table there is none. Assumes nothing.
 use Rattle.record.proofs.Texts.{next, unknown-behind}
 use Rattle.record.specs.Rule.{ruleOf}
-use borrow.Author.Needs.{needs}
 use native.Mathlib.Omega.{arith}
 use Rattle.record.proofs.rule.rule_of.Statement.{statement}
 use Rattle.record.proofs.rule.rule_of.Tie as tie

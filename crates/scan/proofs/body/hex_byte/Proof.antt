@@ -3,7 +3,7 @@ use Rattle.scan.proofs.Keys.{hex-key-fits}
 use Rattle.scan.specs.Body.{hexByte, asByte}
 use Rattle.text.specs.Number.{hexValue}
 use Prim.Native.Nat.{_^_, _-_}
-use mathlib.Core.Path.{_≡_, sym, _∙_}
+use mathlib.Core.Path.{sym, _∙_}
 use native.Mathlib.Omega.{arith}
 use borrow.Author.Needs.{needs}
 use Rattle.scan.proofs.body.hex_byte.Statement.{statement}

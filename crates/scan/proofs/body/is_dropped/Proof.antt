@@ -1,7 +1,6 @@
 -- `body::is_dropped` meets its contract, by cases on what was read. Assumes nothing.
 use Rattle.scan.specs.Body.{droppedOf, isOne}
-use mathlib.Core.Path.{_≡_, sym, _∙_}
-use native.Mathlib.Omega.{arith}
+use mathlib.Core.Path.{sym, _∙_}
 use borrow.Author.Needs.{needs}
 use Rattle.scan.proofs.body.is_dropped.Statement.{statement}
 use Rattle.scan.proofs.body.is_dropped.Tie as tie

@@ -1,7 +1,5 @@
 -- `body::read_optionals` meets its contract: one call a field. Assumes nothing.
 use Rattle.scan.specs.Body.{optionalsOf}
-use mathlib.Core.Path.{_≡_}
-use native.Mathlib.Omega.{arith}
 use borrow.Author.Needs.{needs}
 use Rattle.scan.proofs.body.read_optionals.Statement.{statement}
 use Rattle.scan.proofs.body.read_optionals.Tie as tie

@@ -2,11 +2,11 @@
 use Rattle.pairs.specs.Data.{dwordsOf}
 use Rattle.pairs.specs.Pair.{part}
 use Rattle.scan.proofs.Stages.{data-missing, data-unbracketed, data-there, data-many, data-crowded, data-got, part-kept, part-filled}
-use Rattle.pairs.specs.Data.{dwordsOf, filled}
-use lib.ListN.{length, take, drop, length-append, length-take, length-drop}
-use Prim.Native.Nat.{ℕ, _≤_, _<_}
+use Rattle.pairs.specs.Data.{dwordsOf}
+use lib.ListN.{drop, length-append, length-take, length-drop}
+use Prim.Native.Nat.{ℕ}
 use mathlib.Core.List.{List, _++_}
-use mathlib.Core.Path.{_≡_, sym, ap, _∙_}
+use mathlib.Core.Path.{sym, ap, _∙_}
 use native.Mathlib.Omega.{arith}
 use borrow.Author.Needs.{needs}
 use Rattle.scan.proofs.dwords.read_data.Statement.{statement}

@@ -8,7 +8,6 @@ use lib.Dec.{leb}
 use Prim.Native.Nat.{ℕ, _-_}
 use mathlib.Core.Path.{_≡_, sym, _∙_}
 use borrow.Author.Needs.{needs}
-use native.Mathlib.Omega.{arith}
 use Rattle.scan.proofs.frame.first_high.Statement.{statement}
 use Rattle.scan.proofs.frame.first_high.Tie as tie
 

@@ -2,8 +2,7 @@
 use Rattle.scan.proofs.Frames.{idle-empty, idle-comment, idle-one, idle-not}
 use lib.Dec.{eqb}
 use Prim.Native.Nat.{ℕ}
-use mathlib.Core.Path.{_≡_, sym, ap, _∙_}
-use native.Mathlib.Omega.{arith}
+use mathlib.Core.Path.{sym, ap, _∙_}
 use borrow.Author.Needs.{needs}
 use Rattle.scan.proofs.frame.is_idle.Statement.{statement}
 use Rattle.scan.proofs.frame.is_idle.Tie as tie

@@ -1,7 +1,6 @@
 -- `frame::read_frame` meets its contract, one law a way out. Assumes nothing.
 use Rattle.scan.proofs.Frames.{frame-idle, frame-long, frame-high, frame-colon, frame-none}
-use mathlib.Core.Path.{_≡_, sym, ap, _∙_}
-use native.Mathlib.Omega.{arith}
+use mathlib.Core.Path.{sym, _∙_}
 use borrow.Author.Needs.{needs}
 use Rattle.scan.proofs.frame.read_frame.Statement.{statement}
 use Rattle.scan.proofs.frame.read_frame.Tie as tie

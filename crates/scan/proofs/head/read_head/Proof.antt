@@ -3,9 +3,8 @@ use Rattle.scan.specs.Head.{headOf}
 use Rattle.scan.specs.Need.{placeValue, stampValue}
 use Rattle.header.proofs.Cpus.{cpu-is}
 use Rattle.header.proofs.Dashes.{pid-is}
-use Rattle.text.proofs.Numbers.{number-is}
 use Rattle.text.specs.Number.{numberValue}
-use mathlib.Core.Path.{_≡_, sym, _∙_}
+use mathlib.Core.Path.{sym, _∙_}
 use native.Mathlib.Omega.{arith}
 use borrow.Author.Needs.{needs}
 use Rattle.scan.proofs.head.read_head.Statement.{statement}

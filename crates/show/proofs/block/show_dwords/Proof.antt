@@ -2,7 +2,6 @@
 use Prim.Native.Nat.{_≤_, _-_}
 use lib.ListN.{length}
 use borrow.Author.Needs.{needs}
-use native.Mathlib.Omega.{arith}
 use Rattle.show.proofs.block.show_dwords.Statement.{statement}
 use Rattle.show.proofs.block.show_dwords.Tie as tie
 

@@ -1,7 +1,6 @@
 -- `show_ranges` ends: the ranges still to show fall. Assumes nothing.
 use Prim.Native.Nat.{_≤_, _-_}
 use borrow.Author.Needs.{needs}
-use native.Mathlib.Omega.{arith}
 use Rattle.show.proofs.block.show_ranges.Statement.{statement}
 use Rattle.show.proofs.block.show_ranges.Tie as tie
 

@@ -1,7 +1,5 @@
 -- `class::has` meets its contract: one case for each class. Assumes nothing.
 use Rattle.text.specs.Class.{inClass}
-use mathlib.Core.Path.{_≡_}
-use native.Mathlib.Omega.{arith}
 use borrow.Author.Needs.{needs}
 use Rattle.text.proofs.class.has.Statement.{statement}
 use Rattle.text.proofs.class.has.Tie as tie

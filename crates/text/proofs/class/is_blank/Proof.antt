@@ -1,7 +1,6 @@
 -- `class::is_blank` meets its contract: byte 32 by the test, bytes 9 to 13 by the call. Assumes nothing.
 use Rattle.text.specs.Class.{isBlank}
 use borrow.Author.Tests.{eq-eqb, ne-eqb}
-use native.Mathlib.Omega.{arith}
 use borrow.Author.Needs.{needs}
 use Rattle.text.proofs.class.is_blank.Statement.{statement}
 use Rattle.text.proofs.class.is_blank.Tie as tie

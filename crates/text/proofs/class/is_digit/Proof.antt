@@ -1,6 +1,5 @@
 -- `class::is_digit` meets its contract, which is the call's. Assumes nothing.
 use Rattle.text.specs.Class.{isDigit}
-use native.Mathlib.Omega.{arith}
 use borrow.Author.Needs.{needs}
 use Rattle.text.proofs.class.is_digit.Statement.{statement}
 use Rattle.text.proofs.class.is_digit.Tie as tie

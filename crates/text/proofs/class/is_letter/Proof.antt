@@ -1,7 +1,5 @@
 -- `class::is_letter` meets its contract: one call for each half. Assumes nothing.
 use Rattle.text.specs.Class.{isLetter}
-use mathlib.Core.Path.{sym, _∙_}
-use native.Mathlib.Omega.{arith}
 use borrow.Author.Needs.{needs}
 use Rattle.text.proofs.class.is_letter.Statement.{statement}
 use Rattle.text.proofs.class.is_letter.Tie as tie

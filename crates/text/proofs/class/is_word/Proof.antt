@@ -1,6 +1,5 @@
 -- `class::is_word` meets its contract: letter, digit and underscore, each by its own test. Assumes nothing.
 use Rattle.text.specs.Class.{isWord}
-use native.Mathlib.Omega.{arith}
 use borrow.Author.Needs.{needs}
 use Rattle.text.proofs.class.is_word.Statement.{statement}
 use Rattle.text.proofs.class.is_word.Tie as tie

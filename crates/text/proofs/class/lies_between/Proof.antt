@@ -1,8 +1,6 @@
 -- `class::lies_between` meets its contract: each test is one half of `between`. Assumes nothing.
 use Rattle.text.specs.Class.{between}
 use borrow.Author.Tests.{lt-leb, le-leb}
-use borrow.Author.Needs.{needs}
-use native.Mathlib.Omega.{arith}
 use Rattle.text.proofs.class.lies_between.Statement.{statement}
 use Rattle.text.proofs.class.lies_between.Tie as tie
 

@@ -1,11 +1,7 @@
 -- `number::bare` meets its contract: a text too short for `0x` has no such bytes at its start. Assumes nothing.
 use Rattle.text.proofs.Numbers.{bare-short, bare-first, bare-second, bare-both}
 use Rattle.text.proofs.Stripping.{rest-is}
-use Rattle.text.specs.Number.{bareOf}
-use borrow.Author.Tests.{eq-eqb, ne-eqb}
-use lib.ListN.{length, getD, List·getD-eq-default}
-use mathlib.Core.Path.{_≡_, _∙_}
-use native.Mathlib.Omega.{arith}
+use mathlib.Core.Path.{_∙_}
 use borrow.Author.Needs.{needs}
 use Rattle.text.proofs.number.bare.Statement.{statement}
 use Rattle.text.proofs.number.bare.Tie as tie

@@ -1,8 +1,8 @@
 -- `number::digit` meets its contract: each range of digits by its own test. Assumes nothing.
 use Rattle.text.proofs.Numbers.{at-least}
-use Rattle.text.specs.Class.{between, isDigit}
+use Rattle.text.specs.Class.{isDigit}
 use Rattle.text.specs.Number.{digitOf}
-use mathlib.Core.Path.{_≡_, sym, _∙_}
+use mathlib.Core.Path.{sym, _∙_}
 use native.Mathlib.Omega.{arith}
 use borrow.Author.Needs.{needs}
 use Rattle.text.proofs.number.digit.Statement.{statement}

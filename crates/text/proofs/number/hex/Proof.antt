@@ -1,8 +1,6 @@
 -- `number::hex` meets its contract: the number behind a `0x` that may stand there. Assumes nothing.
 use Rattle.text.proofs.Numbers.{hex-value, hex-none}
-use mathlib.Core.Path.{_≡_, sym, ap, _∙_}
-use Rattle.text.specs.Number.{hexOf, asHex}
-use native.Mathlib.Omega.{arith}
+use mathlib.Core.Path.{sym, _∙_}
 use borrow.Author.Needs.{needs}
 use Rattle.text.proofs.number.hex.Statement.{statement}
 use Rattle.text.proofs.number.hex.Tie as tie

@@ -1,9 +1,8 @@
 -- `number::read` meets its contract: what is read so far is a `Reading`, and each way out is one of its laws. Assumes nothing.
 use Rattle.text.proofs.Numbers.{Reading, reading-starts, reading-steps, none-empty, none-digit, none-wide, whole-number, passes, fails}
-use Rattle.text.specs.Number.{numberOf}
 use lib.ListN.{length}
 use Prim.Native.Nat.{_-_}
-use mathlib.Core.Path.{_≡_, sym, _∙_}
+use mathlib.Core.Path.{sym}
 use mathlib.Core.List.{[]}
 use borrow.Author.Needs.{needs}
 use native.Mathlib.Omega.{arith}

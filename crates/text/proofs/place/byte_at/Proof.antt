@@ -1,7 +1,6 @@
 -- `place::byte_at` meets its contract: past the end a list has its default. Assumes nothing.
 use lib.ListN.{List·getD-eq-default}
 use mathlib.Core.Path.{sym}
-use native.Mathlib.Omega.{arith}
 use borrow.Author.Needs.{needs}
 use Rattle.text.proofs.place.byte_at.Statement.{statement}
 use Rattle.text.proofs.place.byte_at.Tie as tie

@@ -1,6 +1,5 @@
 -- `place::byte_before` meets its contract, by cases on whether there is a byte before. Assumes nothing.
 use Rattle.text.proofs.Places.{before-none, before-some}
-use Rattle.text.specs.Place.{byteBefore}
 use mathlib.Core.Path.{sym, _∙_}
 use native.Mathlib.Omega.{arith}
 use borrow.Author.Needs.{needs}

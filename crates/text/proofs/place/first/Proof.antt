@@ -6,7 +6,6 @@ use lib.ListN.{length}
 use Prim.Native.Nat.{_-_}
 use mathlib.Core.Path.{_≡_, sym, _∙_}
 use borrow.Author.Needs.{needs}
-use native.Mathlib.Omega.{arith}
 use Rattle.text.proofs.place.first.Statement.{statement}
 use Rattle.text.proofs.place.first.Tie as tie
 

@@ -7,7 +7,6 @@ use lib.ListN.{length}
 use Prim.Native.Nat.{_-_}
 use mathlib.Core.Path.{_≡_, sym, _∙_}
 use borrow.Author.Needs.{needs}
-use native.Mathlib.Omega.{arith}
 use Rattle.text.proofs.run.run_end.Statement.{statement}
 use Rattle.text.proofs.run.run_end.Tie as tie
 

@@ -2,7 +2,7 @@
 use Rattle.text.proofs.Runs.{Back, back-start, back-step, back-stop, back-over, starts-at}
 use Rattle.text.specs.Class.{inClass}
 use borrow.Author.Tests.{not-true, not-false}
-use mathlib.Core.Path.{_≡_, sym, _∙_}
+use mathlib.Core.Path.{sym, _∙_}
 use borrow.Author.Needs.{needs}
 use native.Mathlib.Omega.{arith}
 use Rattle.text.proofs.run.run_start.Statement.{statement}

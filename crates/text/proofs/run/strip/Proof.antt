@@ -1,8 +1,6 @@
 -- `run::strip` meets its contract: the two runs are those of `stripped`. Assumes nothing.
 use Rattle.text.proofs.Stripping.{rest-is, part-length, stripped-by}
 use Rattle.text.specs.Class.{inClass}
-use mathlib.Core.Path.{_≡_, sym, ap, _∙_}
-use native.Mathlib.Omega.{arith}
 use borrow.Author.Needs.{needs}
 use Rattle.text.proofs.run.strip.Statement.{statement}
 use Rattle.text.proofs.run.strip.Tie as tie

@@ -2,7 +2,7 @@
 use Rattle.text.proofs.Texts.{same-length, same-step, same-stop, same-over}
 use Rattle.text.specs.Same.{sameText}
 use lib.ListN.{length, drop}
-use Prim.Native.Nat.{_≤_, _-_}
+use Prim.Native.Nat.{_-_}
 use mathlib.Core.Path.{_≡_, sym, _∙_}
 use borrow.Author.Needs.{needs}
 use native.Mathlib.Omega.{arith}

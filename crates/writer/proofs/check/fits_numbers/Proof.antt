@@ -1,8 +1,6 @@
 -- `check::fits_numbers` meets its contract, range by range. Assumes nothing.
 use borrow.Author.Tests.{le-leb, lt-leb}
 use Rattle.writer.specs.Ranges.{fitsNumbers}
-use borrow.Author.Needs.{needs}
-use native.Mathlib.Omega.{arith}
 use Rattle.writer.proofs.check.fits_numbers.Statement.{statement}
 use Rattle.writer.proofs.check.fits_numbers.Tie as tie
 

@@ -1,7 +1,7 @@
 -- `check::fits_texts` meets its contract. Assumes nothing.
-use Prim.Native.Nat.{_+_, _<_, _≤_}
-use mathlib.Core.Path.{_≡_, sym, ap, _∙_}
-use borrow.Author.Tests.{le-leb, lt-leb, not-true, not-false}
+use Prim.Native.Nat.{_+_, _<_}
+use mathlib.Core.Path.{sym, _∙_}
+use borrow.Author.Tests.{lt-leb, not-true, not-false}
 use Rattle.writer.proofs.Checks.{together-same}
 use Rattle.writer.specs.Ranges.{fitsTexts}
 use native.Mathlib.Omega.{arith}

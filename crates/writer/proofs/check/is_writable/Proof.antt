@@ -1,8 +1,7 @@
 -- `check::is_writable` meets its contract. Assumes nothing.
-use mathlib.Core.Path.{_≡_, sym, _∙_}
+use mathlib.Core.Path.{sym, _∙_}
 use borrow.Author.Tests.{le-leb, lt-leb, not-true, not-false}
 use Rattle.writer.specs.Ranges.{writable}
-use native.Mathlib.Omega.{arith}
 use borrow.Author.Needs.{needs}
 use Rattle.writer.proofs.check.is_writable.Statement.{statement}
 use Rattle.writer.proofs.check.is_writable.Tie as tie

@@ -1,8 +1,7 @@
 -- `item::byte` meets its contract. Assumes nothing.
-use mathlib.Core.Path.{_≡_, ap, _∙_}
+use mathlib.Core.Path.{ap, _∙_}
 use Rattle.writer.specs.Item.{byteItem}
 use Rattle.writer.specs.declared.item.Item.the-variants.{Number}
-use native.Mathlib.Omega.{arith}
 use borrow.Author.Needs.{needs}
 use Rattle.writer.proofs.item.byte.Statement.{statement}
 use Rattle.writer.proofs.item.byte.Tie as tie

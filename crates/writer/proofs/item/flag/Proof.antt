@@ -1,6 +1,5 @@
 -- `item::flag` meets its contract. Assumes nothing.
 use Rattle.writer.specs.Item.{flagItem}
-use native.Mathlib.Omega.{arith}
 use borrow.Author.Needs.{needs}
 use Rattle.writer.proofs.item.flag.Statement.{statement}
 use Rattle.writer.proofs.item.flag.Tie as tie

@@ -1,5 +1,5 @@
 -- `item::item_of` meets its contract: each arm names the body that the table has at its tag, and behind the table there is none. Assumes nothing.
-use mathlib.Core.Path.{_≡_, ap, _∙_}
+use mathlib.Core.Path.{ap, _∙_}
 use Rattle.record.proofs.Texts.{next}
 use Rattle.writer.proofs.Items.{nothing-behind}
 use Rattle.writer.specs.Item.{itemOf}

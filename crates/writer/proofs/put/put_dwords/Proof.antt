@@ -1,9 +1,5 @@
 -- `put::put_dwords` meets its contract: what is still to come are the bytes of the rest of the dwords. Assumes nothing.
-use Prim.Native.Nat.{_+_, _-_, _≤_}
-use mathlib.Core.Path.{_≡_, refl, sym, ap, _∙_}
-use Rattle.tlv.specs.Number.{numberBytes}
-use lib.ListN.{length-append}
-use Rattle.tlv.proofs.Numbers.{number-bytes-length}
+use Prim.Native.Nat.{_-_, _≤_}
 use Rattle.entry.specs.Entry.{partOf}
 use Rattle.record.specs.Grammar.{dwordsBytes}
 use Rattle.writer.proofs.Puts.{Filling, filling-starts, filling-steps, filling-ends, dword-first, dword-none, dwords-start, dword-room}

@@ -1,8 +1,7 @@
 -- `put::put_item` meets its contract, kind by kind. Assumes nothing.
-use mathlib.Core.Path.{_≡_, refl, sym, _∙_}
+use mathlib.Core.Path.{refl}
 use Rattle.writer.proofs.Puts.{put-length, text-asks, number-asks, dwords-ask}
 use Rattle.writer.specs.Item.{itemBytes}
-use Rattle.writer.specs.Put.{Put}
 use native.Mathlib.Omega.{arith}
 use borrow.Author.Needs.{needs}
 use Rattle.writer.proofs.put.put_item.Statement.{statement}

@@ -1,7 +1,5 @@
 -- `put::put_number` meets its contract: what is still to come are the bytes of what is left of the number. Assumes nothing.
 use Prim.Native.Nat.{_+_, _-_, _≤_}
-use mathlib.Core.Path.{_≡_, refl, sym, ap, _∙_}
-use Rattle.tlv.proofs.Numbers.{number-bytes-length}
 use Rattle.tlv.specs.Number.{numberBytes}
 use Rattle.writer.proofs.Puts.{Filling, filling-begins, filling-on, filling-stops, number-start, number-first, number-none}
 use borrow.Author.Needs.{needs}

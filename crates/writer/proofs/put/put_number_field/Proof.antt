@@ -1,8 +1,7 @@
 -- `put::put_number_field` meets its contract: the head, and the body behind it. Assumes nothing.
-use mathlib.Core.Path.{_≡_, sym, _∙_}
+use mathlib.Core.Path.{_∙_}
 use Rattle.tlv.proofs.Numbers.{number-bytes-length}
 use Rattle.writer.proofs.Puts.{put-then, put-length, room-behind, field-head}
-use native.Mathlib.Omega.{arith}
 use borrow.Author.Needs.{needs}
 use Rattle.writer.proofs.put.put_number_field.Statement.{statement}
 use Rattle.writer.proofs.put.put_number_field.Tie as tie

@@ -1,6 +1,5 @@
 -- `put::put_text` meets its contract: what is still to come is the rest of the part. Assumes nothing.
 use Prim.Native.Nat.{_+_, _-_, _≤_}
-use mathlib.Core.Path.{_≡_, refl, sym, ap, _∙_}
 use Rattle.entry.specs.Entry.{partOf}
 use Rattle.writer.proofs.Puts.{Filling, filling-begins, filling-on, filling-stops, part-first, part-none, part-start}
 use borrow.Author.Needs.{needs}

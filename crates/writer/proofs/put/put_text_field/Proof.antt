@@ -1,7 +1,6 @@
 -- `put::put_text_field` meets its contract: the head, and the body behind it. Assumes nothing.
-use mathlib.Core.Path.{_≡_, sym, _∙_}
+use mathlib.Core.Path.{_∙_}
 use Rattle.writer.proofs.Puts.{put-then, put-length, room-behind, field-head, part-length}
-use native.Mathlib.Omega.{arith}
 use borrow.Author.Needs.{needs}
 use Rattle.writer.proofs.put.put_text_field.Statement.{statement}
 use Rattle.writer.proofs.put.put_text_field.Tie as tie

@@ -1,10 +1,12 @@
 /* Chomkadieu: USB4 trace lines and records as entries, entries as records, and packets described by a book of fields.
  *
- * Build the archive with `rt staticlib capi` (target/staticlib/libcapi.a, x86-64 Linux) and link it; it needs nothing else.
+ * Build the archive with `rt staticlib capi` (target/staticlib/libcapi.a, x86-64 Linux) and link it; of its surroundings it asks for memcpy and
+ * memset alone.
  *
  * Every call takes any input. It keeps no memory, makes none, and writes only what is lent to it for writing. A slice is a pointer and the
  * number of its elements; the pointer is valid for that many, also for none (not NULL), and what is lent for writing overlaps nothing else that
- * is lent. Within that, each call is proved to answer as said here: the contracts stand in crates/capi/src, their definitions in
+ * is lent. Slots, places, codes and bytes are written from the first on, as many as the answer says, and no others.
+ * Within that, each call is proved to answer as said here: the contracts stand in crates/capi/src, their definitions in
  * crates/capi/specs and crates/flat/specs/Flat.antt.
  */
 #ifndef CHOMKADIEU_H
@@ -59,7 +61,7 @@ enum {
 /* What an optional field says if it is absent, and a question if it has no answer. */
 #define CK_NONE UINT32_C(0xffffffff)
 
-/* No line or record has more dwords, no record more bytes. With that much lent, 17, 35 and 36 do not occur. */
+/* No line, record or packet has more dwords, no record more bytes. With that much lent, 17, 26, 35 and 36 do not occur. */
 enum { CK_MOST_DWORDS = 256, CK_MOST_BYTES = 5227 };
 
 /* An entry. Its task and function are parts of the text that it was read from, its dwords the first of the slots that were lent. */
@@ -90,20 +92,20 @@ typedef struct ck_entry {
 
 /* Number 0 and an entry; or another number and a blank entry, all 0 and each optional field CK_NONE. */
 typedef struct ck_entry_answer {
-    uint8_t number;
-    ck_entry entry;
+    uint8_t number;        /* 0, or the number that refuses */
+    ck_entry entry;        /* the entry, or a blank one */
 } ck_entry_answer;
 
 /* Number 0 and how many bytes were written; or another number and 0. */
 typedef struct ck_write_answer {
-    uint8_t number;
-    size_t bytes;
+    uint8_t number;        /* 0, 36 or 37 */
+    size_t bytes;          /* how many bytes the record has, 0 if there is none */
 } ck_write_answer;
 
 /* The first `len` bytes are the name, zeros stand behind it. */
 typedef struct ck_event_text {
-    uint8_t bytes[14];
-    size_t len;
+    uint8_t bytes[14];     /* the name, and zeros */
+    size_t len;            /* how many bytes of it are the name */
 } ck_event_text;
 
 /* The entry of a line of trace, its newline lent or not. Numbers 1 to 17. */
@@ -145,7 +147,7 @@ typedef struct ck_packet_answer {
 ck_packet_answer ck_packet(uint8_t kind, const uint8_t *book, size_t book_len, const uint32_t *dwords, size_t dwords_len, uint32_t *places,
                            size_t places_len);
 
-/* The same over a book that ck_book_check accepted, without a second check: a twentieth of the time. Any other book is taken too, and no memory
+/* The same over a book that ck_book_check accepted, without a second check. Any other book is taken too, and no memory
  * but the places is written; then the answer is what its fields say as far as they can be read, or 20 if it has more than 65,535 bytes. */
 ck_packet_answer ck_checked_packet(uint8_t kind, const uint8_t *book, size_t book_len, const uint32_t *dwords, size_t dwords_len, uint32_t *places,
                                    size_t places_len);
@@ -163,7 +165,7 @@ ck_text_packet ck_read_packet(const uint8_t *text, size_t text_len, const uint8_
                               uint32_t *places, size_t places_len);
 
 /* Many packets over one book, which is checked once. Packet k has kind kinds[k] and the next counts[k] dwords, as far as they go; its places
- * stand where its dwords do. codes[k] becomes where its data view starts; 65,536 if it has none; 65,536 and the number if it is refused, and
+ * stand where its dwords do. codes[k] becomes where its data view starts; 65,536 if it has none; 65,536 plus the number if it is refused, and
  * then its places are as found. The answer is how many packets there were: the least of kinds_len, counts_len and codes_len. */
 size_t ck_packet_all(const uint8_t *book, size_t book_len, const uint8_t *kinds, size_t kinds_len, const uint32_t *counts, size_t counts_len,
                      const uint32_t *dwords, size_t dwords_len, uint32_t *places, size_t places_len, uint32_t *codes, size_t codes_len);
@@ -173,33 +175,34 @@ size_t ck_packet_all(const uint8_t *book, size_t book_len, const uint8_t *kinds,
  * Number 0 and `present` 1 with the answer; 0 and 0 where there is none, which is no refusal; or the number that refuses, with `present` 0. What
  * is not there is 0. Calls with `packet` in their name take a kind, a book and dwords, and check the book each time: numbers 20 to 25 come
  * before any answer. Calls with `described` in their name take the dwords and the places that ck_packet filled, check nothing, and answer the
- * same; whoever has many questions asks those. A name that is asked for is a slice as any other, with no zero behind it. */
+ * same; whoever has many questions asks those. They take as many places as dwords: a place behind them would be asked too. A name that is asked
+ * for is a slice as any other, with no zero behind it. */
 
 /* A number; yes is 1 and no is 0. */
 typedef struct ck_value {
-    uint8_t number;
-    uint8_t present;
-    uint64_t value;
+    uint8_t number;        /* 0, or the number that refuses */
+    uint8_t present;       /* 1 if there is an answer, else 0 */
+    uint64_t value;        /* the answer, 0 if there is none */
 } ck_value;
 
 /* Four dwords. */
 typedef struct ck_uuid {
-    uint8_t number;
+    uint8_t number;        /* as in ck_value */
     uint8_t present;
-    uint32_t dwords[4];
+    uint32_t dwords[4];    /* the first is that of the lowest offset */
 } ck_uuid;
 
 /* A packet type. */
 typedef struct ck_type {
-    uint8_t number;        /* 28 where the value has no name */
+    uint8_t number;        /* as in ck_value; 28 where the value has no name */
     uint8_t present;
-    uint32_t value;
+    uint32_t value;        /* the value of the first `Packet Type` */
     size_t name;           /* the place in the book of the value that names it, for ck_name */
 } ck_type;
 
 /* A dword of the packet. */
 typedef struct ck_field_answer {
-    uint8_t number;
+    uint8_t number;        /* as in ck_value */
     uint8_t present;
     uint16_t offset;       /* which dword it is, from 0 */
     uint32_t value;        /* the dword */
@@ -209,7 +212,7 @@ typedef struct ck_field_answer {
 
 /* A bit range of an entry; there is one or there is none. */
 typedef struct ck_range_answer {
-    uint8_t present;
+    uint8_t present;       /* 1 if there is one, else 0, and then all else is 0 */
     uint8_t low;           /* its lowest bit */
     uint8_t high;          /* its highest bit */
     uint32_t value;        /* the value of these bits in the dword */
@@ -252,14 +255,14 @@ ck_value ck_packet_is_write(uint8_t kind, const uint8_t *book, size_t book_len, 
 /* Whether the kind is 8 or 9. */
 ck_value ck_packet_is_xdomain(uint8_t kind, const uint8_t *book, size_t book_len, const uint32_t *dwords, size_t dwords_len);
 
-/* The UUID that chose the packet's protocol table, as ck_packet answers it. */
+/* The UUID that the packet's `UUID` fields make if they are exactly four, as ck_packet answers it; it chooses the protocol table. */
 ck_uuid ck_packet_uuid(uint8_t kind, const uint8_t *book, size_t book_len, const uint32_t *dwords, size_t dwords_len);
 
 /* The values of the fields of that name, if there are exactly four. */
 ck_uuid ck_packet_uuid_by_name(uint8_t kind, const uint8_t *book, size_t book_len, const uint32_t *dwords, size_t dwords_len, const uint8_t *name,
                                size_t name_len);
 
-/* The value of the first `Packet Type`, and where its name stands; 28 if it has none. */
+/* The value of the first `Packet Type`, and the place of the value that names it; 28 if none does. */
 ck_type ck_packet_type(uint8_t kind, const uint8_t *book, size_t book_len, const uint32_t *dwords, size_t dwords_len);
 
 /* The name of the packet type into the first bytes lent, if all of it fits, else none changes. The answer is its length, 0 for none. */

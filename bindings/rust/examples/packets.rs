@@ -7,16 +7,17 @@ use std::{env, fs};
 fn main() -> Result<(), Box<dyn Error>> {
     let bytes = fs::read(env::args().nth(1).ok_or("usage: packets BOOK < LINES")?)?;
     let book = Book::check(&bytes)?;
-    let mut out = io::stdout().lock();
-    for line in io::stdin().lock().lines() {
-        let (line, mut slots, mut places) = (line?, [0; MOST_DWORDS], [0; MOST_DWORDS]);
-        let Ok(entry) = Entry::parse(line.as_bytes(), &mut slots) else {
-            continue;
-        };
-        match entry.packet(book, &mut places) {
+    let (mut input, mut out) = (io::stdin().lock(), io::stdout().lock());
+    let mut line = Vec::new();
+    while input.read_until(b'\n', &mut line)? > 0 {
+        let (mut slots, mut places) = ([0; MOST_DWORDS], [0; MOST_DWORDS]);
+        let packet =
+            Entry::parse(&line, &mut slots).and_then(|entry| entry.packet(book, &mut places));
+        match packet {
             Ok(packet) => show(&mut out, &packet)?,
-            Err(refusal) => writeln!(out, "no packet: {refusal}")?,
+            Err(refusal) => writeln!(out, "refused {}: {refusal}", refusal.number())?,
         }
+        line.clear();
     }
     Ok(())
 }

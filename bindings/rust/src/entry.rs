@@ -134,7 +134,7 @@ impl<'t, 's> Entry<'t, 's> {
 
     /// The event of a notification.
     pub fn event(&self) -> Option<Event> {
-        raw::byte(self.raw.code).map(Event::from_code)
+        raw::byte(self.raw.code).map(Event::from)
     }
 
     /// How many dwords are to be read or written, where the line says so (`len`). The packet's own dwords are [`Entry::data`].

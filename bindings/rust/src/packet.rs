@@ -90,7 +90,7 @@ impl<'a> ControlPacket<'a> {
         matches!(self.pdf(), Pdf::XdomainRequest | Pdf::XdomainResponse)
     }
 
-    /// The UUID that chose the protocol, four dwords.
+    /// The UUID that its four `UUID` fields make; it chooses the protocol table.
     pub fn uuid(&self) -> Option<[u32; 4]> {
         self.uuid
     }

@@ -42,12 +42,12 @@ kinds! {
     ReadResponse = 2, "read response";
     WriteRequest = 3, "write request";
     WriteResponse = 4, "write response";
-    Notification = 5, "notification";
+    Notification = 5, "error";
     NotificationAck = 6, "notification acknowledged";
     HotPlugEvent = 7, "hot plug event";
     XdomainRequest = 8, "inter-domain request";
     XdomainResponse = 9, "inter-domain response";
     IcmEvent = 10, "ICM event";
-    IcmRequest = 11, "ICM request";
+    IcmRequest = 11, "ICM command";
     IcmResponse = 12, "ICM response";
 }

@@ -79,7 +79,7 @@ refusals! {
     BadBody = 34, "a field of the record breaks its rule";
     FewRecordSlots = 35, "fewer slots are lent than the record has dwords";
     ShortBuffer = 36, "the record does not fit the lent buffer";
-    BadEntry = 37, "the entry is out of the ranges of a record";
+    BadEntry = 37, "the entry is out of the ranges of a record, or its parts lie outside what is lent";
 }
 
 impl Error for Refusal {}

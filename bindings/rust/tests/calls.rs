@@ -52,8 +52,9 @@ fn optional_fields_and_questions() {
         (entry.unplug_byte(), entry.unplug(), entry.dropped()),
         (Some(2), Some(false), true)
     );
-    assert_eq!(Event::from_code(38).to_string(), "DP_CON_CHANGE");
-    assert_eq!(Event::from_code(3).to_string(), "3");
+    assert_eq!(Event::LinkRecovery.to_string(), "DP_CON_CHANGE");
+    assert_eq!(Event::Unknown(3).to_string(), "3");
+    assert!((0..=255).all(|code| Event::from(code).code() == code));
 }
 
 #[test]

@@ -13,7 +13,7 @@ use print::put::put;
 ghost use mathlib.Core.Path.{_≡_};
 ghost use Rattle.packet.specs.Field.{nameIn};
 ghost use Rattle.field.specs.Source.{fieldOf};
-ghost use Rattle.field.specs.Ranges.{rangeCount, nthRange, rangeNamed, valueIn, valueName};
+ghost use Rattle.field.specs.Ranges.{rangeCount, nthRange, rangeNamed, valuePlace, valueName};
 ghost use Rattle.capi.specs.Told.{wholeField, fieldWith, rangeWith, rangeBy, NamePart, Copied};
 
 // The field of a dword at an offset, described by the entry at the place.
@@ -80,7 +80,7 @@ pub extern "C" fn ck_name_at(book: &[u8], place: usize) -> NameTold
 // The place of the value that a bit range gives to a number, 0 for none.
 #[no_mangle]
 pub extern "C" fn ck_value_at(book: &[u8], range: usize, number: u32) -> usize
-    ensures { λ r. ⌜ r ≡ valueIn (now (book .entry)) range number ⌝ }
+    ensures { λ r. ⌜ r ≡ valuePlace (now (book .entry)) range number ⌝ }
 {
     field::value_at(book, range, number)
 }

@@ -43,9 +43,10 @@ rangeNamed s field name = rangeAt s (dword.rangeIn s name (entryOf field)) (fiel
 unfoldable pub rangeName : List ℕ → Range → List ℕ
 rangeName s range = dword.nameIn s (range .place .at)
 
--- a number among the values of a bit range, and the name of a bit range's value
-unfoldable pub valueIn : List ℕ → ℕ → ℕ → ℕ
-valueIn s range number = dword.inside (λ r. finders.valueOfNumber s r number) range
+-- the place of a number among the values of a bit range, 0 for none
+unfoldable pub valuePlace : List ℕ → ℕ → ℕ → ℕ
+valuePlace s range number = dword.inside (λ r. finders.valueOfNumber s r number) range
 
+-- the name of a bit range's value
 unfoldable pub valueName : List ℕ → Range → List ℕ
-valueName s range = dword.nameIn s (valueIn s (range .place .at) (range .value))
+valueName s range = dword.nameIn s (valuePlace s (range .place .at) (range .value))

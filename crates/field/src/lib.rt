@@ -19,7 +19,7 @@ use packet::field::value_in;
 ghost use mathlib.Core.Path.{_≡_};
 ghost use Rattle.field.specs.Source.{sourceOf, entryOf, fieldOf};
 ghost use Rattle.field.specs.Names.{Names};
-ghost use Rattle.field.specs.Ranges.{fieldName, rangeCount, rangeAt, nthRange, rangeNamed, rangeName, valueIn, valueName};
+ghost use Rattle.field.specs.Ranges.{fieldName, rangeCount, rangeAt, nthRange, rangeNamed, rangeName, valuePlace, valueName};
 
 // Where an entry stands in the book: the place of its tag byte.
 pub struct Place {
@@ -166,7 +166,7 @@ pub fn value_name(book: &[u8], range: Range) -> &[u8]
 
 // The place of a number among the values of a bit range.
 pub fn value_at(book: &[u8], range: usize, number: u32) -> usize
-    ensures { λ r. ⌜ r ≡ valueIn (now (book .entry)) range number ⌝ }
+    ensures { λ r. ⌜ r ≡ valuePlace (now (book .entry)) range number ⌝ }
 {
     if range == 0 {
         return 0;

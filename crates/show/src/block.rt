@@ -49,9 +49,10 @@ fn show_head(line: &[u8], e: Entry) {
     say(b"\n");
 }
 
+// The book was checked before the first line was read.
 fn show_packet(book: &[u8], kind: u8, dwords: &[u32]) {
     let mut places = [0u32; 256];
-    let parsed = packet::parse(kind, book, dwords, &mut places[..256]);
+    let parsed = packet::parse_over(kind, book, dwords, &mut places[..256]);
     match parsed {
         packet::Answer::Packet(p) => {
             let start = p.start;
@@ -83,11 +84,6 @@ fn show_dwords(book: &[u8], kind: u8, dwords: &[u32], places: &[u32], start: usi
         i += 1;
     }
     say_if(i == start, b"  data, none\n");
-}
-
-fn show_dword(book: &[u8], kind: u8, i: usize, dword: u32, entry: u32) {
-    let offset = (i % 65_536) as u16;
-    show_field(book, field_of(kind, book, offset, dword, entry as usize));
 }
 
 fn show_field(book: &[u8], field: Field) {

@@ -1,0 +1,77 @@
+//! Lines: ours beside the judged Rust, and document 01's numbers where the Rust has no limit.
+
+use crate::frames::Frames;
+use crate::lent::ROOM;
+use crate::line::Lines;
+use crate::tally::{Said, Tally};
+use oracle::trace::probe::{lines, watch};
+use std::io::{self, BufRead};
+
+const LONGEST: usize = 4096;
+const MOST_DWORDS: usize = 256;
+
+pub fn compare(from: impl BufRead) -> io::Result<Tally> {
+    watch();
+    let (mut frames, mut tally, mut ours) = (Frames::new(from), Tally::default(), Lines::new());
+    while !frames.is_done()? {
+        judge(&mut tally, &mut ours, frames.frame()?);
+    }
+    Ok(tally)
+}
+
+fn judge(tally: &mut Tally, ours: &mut Lines, line: &[u8]) {
+    let rust = lines::answer(line);
+    let dwords = dwords(&rust);
+    let slots = slots(tally.given(), dwords.unwrap_or_default());
+    let (class, expected) = expected(line, &rust, dwords, slots);
+    let said = ours.answer(line, slots);
+    if said == expected && (said != Said::Row || ours.row() == rust) {
+        tally.same(class, said);
+    } else {
+        tally.differ(line, expected.told(&rust), said.told(ours.row()), &rust);
+    }
+}
+
+/// How many dwords the Rust's entry has.
+fn dwords(rust: &str) -> Option<usize> {
+    let (_, rest) = rust.rsplit_once(" dwords=")?;
+    rest.split(' ').next()?.parse().ok()
+}
+
+/// Slots lent: mostly 256; for some lines hardly any, for some just enough, for some one too few.
+fn slots(turn: u64, dwords: usize) -> usize {
+    let slots = match turn % 20 {
+        3 => (turn / 20 % 4) as usize,
+        9 => dwords,
+        15 => dwords.saturating_sub(1),
+        _ => MOST_DWORDS,
+    };
+    slots.min(ROOM)
+}
+
+/// What ours must say, and the class it is counted in. Inside the limits the Rust decides.
+fn expected(line: &[u8], rust: &str, dwords: Option<usize>, slots: usize) -> (&'static str, Said) {
+    let or_comment = |number| Said::Refused(if line.starts_with(b"#") { 1 } else { number });
+    if line.len() > LONGEST {
+        return ("over 4,096 bytes: refused", or_comment(2));
+    }
+    if !line.is_ascii() {
+        return ("a byte of 128 or more: refused", or_comment(3));
+    }
+    // The Rust takes the newline for a line and looks for a colon in it.
+    if line == b"\n" && rust == "none 4" {
+        return ("a newline alone: refused", Said::Refused(1));
+    }
+    match dwords {
+        Some(count) if count > MOST_DWORDS => ("over 256 dwords: refused", Said::Refused(16)),
+        Some(count) if count > slots => ("few slots: refused", Said::Refused(17)),
+        Some(_) => ("entry", Said::Row),
+        None => ("refused", step(rust)),
+    }
+}
+
+/// The step at which the Rust gave up.
+fn step(rust: &str) -> Said {
+    let number = rust.strip_prefix("none ").and_then(|n| n.parse().ok());
+    number.map_or(Said::Unjudged, Said::Refused)
+}

@@ -1,20 +1,14 @@
 /* Books: any bytes to ck_book_check; one that is accepted is gone through, each entry, range and value by the calls on places. Choices: a dword
- * (4 bytes), room for names (2), any place (8). */
+ * (4 bytes), room for names (2). */
 #include "packets.h"
 
-const unsigned used_parts = 1 << CHOICES | 1 << NAME | 1 << BOOK;
+const unsigned used_parts = 1 << CHOICES | 1 << BOOK;
 
 /* A plain reading compares pairs, so that it is kept to books of some size; and so is the walk. */
 enum { MOST_READ = 8192, MOST_STEPS = 400 };
 
 static uint32_t dword;
 static size_t room_lent, steps;
-
-static int is_absent(ck_range_answer r) { return !r.present && !r.low && !r.high && !r.value && !r.place; }
-
-static int same_range(ck_range_answer a, ck_range_answer b) {
-    return a.present == b.present && a.low == b.low && a.high == b.high && a.value == b.value && a.place == b.place;
-}
 
 /* The name of a place is this one. */
 static void must_name(const asked *q, size_t place, int of_value, uint32_t value, part name) {
@@ -36,52 +30,31 @@ static void walk_range(const asked *q, field r) {
     }
 }
 
-/* The first range of the entry with that name, by a walk. */
-static size_t first_named(const asked *q, field e, part name) {
-    field f;
-    for (size_t at = e.from + 2; at < e.to && field_at(q->book, at, e.to, &f); at = f.to)
-        if (f.tag == 6 && same_part(text_of(q->book, f, 4), name)) return f.at;
-    return 0;
-}
-
 static void walk_entry(const asked *q, field e) {
-    field f;
+    field f, first;
     size_t k = 0, kept = block_count;
     must_name(q, e.at, 0, 0, text_of(q->book, e, 4));
     for (size_t at = e.from + 2; at < e.to && field_at(q->book, at, e.to, &f); at = f.to) {
         if (f.tag != 6) continue;
         if (!steps) return;
-        ck_range_answer r = ck_range(q->book, q->book_len, e.at, dword, k++), want = {1, q->book[f.from], q->book[f.from + 1], 0, f.at};
-        want.value = bits_of(dword, want.low, want.high);
-        must(same_range(r, want), "a range is that in the book");
+        ck_range_answer want = {1, q->book[f.from], q->book[f.from + 1], bits_of(dword, q->book[f.from], q->book[f.from + 1]), f.at};
+        must(same_range(ck_range(q->book, q->book_len, e.at, dword, k++), want), "a range is that in the book");
         part name = text_of(q->book, f, 4);
-        r = ck_range_named(q->book, q->book_len, e.at, dword, lend(name.at, name.len), name.len);
-        must(r.present == 1 && r.place == first_named(q, e, name), "of one name the first range counts");
+        ck_range_answer r = ck_range_named(q->book, q->book_len, e.at, dword, lend(name.at, name.len), name.len);
+        must(named_in(q->book, q->book_len, e.at, name, &first) && same_range(r, range_told(q->book, q->book_len, first, dword)),
+             "of one name the first range counts");
         walk_range(q, f);
         drop_blocks_to(kept);
         steps--;
     }
     must(ck_range_count(q->book, q->book_len, e.at) == k, "an entry has as many ranges as are counted");
-    must(is_absent(ck_range(q->book, q->book_len, e.at, dword, k)), "and none behind them");
+    must(same_range(ck_range(q->book, q->book_len, e.at, dword, k), (ck_range_answer){0}), "and none behind them");
 }
 
 static void walk_book(const asked *q) {
     field t, e;
     for (size_t at = 0; at < q->book_len && field_at(q->book, at, q->book_len, &t); at = t.to)
         for (size_t in = t.from + (t.tag == 1 ? 1 : 16); in < t.to && field_at(q->book, in, t.to, &e) && steps; in = e.to, steps--) walk_entry(q, e);
-}
-
-/* Any place of any book is taken, and what is told of it fits together. */
-static void any_place(const asked *q, size_t place, part name) {
-    uint8_t to[MOST_NAME];
-    size_t count = ck_range_count(q->book, q->book_len, place);
-    must(count <= q->book_len / 3 + 1, "no place has more fields than bytes");
-    ck_range_answer last = ck_range(q->book, q->book_len, place, dword, count ? count - 1 : 0), behind = ck_range(q->book, q->book_len, place, dword, count);
-    must(last.present == (count > 0) && (last.present || is_absent(last)) && is_absent(behind), "the count is where the ranges end");
-    ck_range_answer named = ck_range_named(q->book, q->book_len, place, dword, lend(name.at, name.len), name.len);
-    must(named.present ? named.place > place && named.place < q->book_len : is_absent(named), "a range stands inside its entry");
-    name_into(to, q, place, 0, 0, room_lent);
-    name_into(to, q, place, 1, dword, room_lent);
 }
 
 int LLVMFuzzerTestOneInput(const uint8_t *data, size_t size) {
@@ -95,8 +68,6 @@ int LLVMFuzzerTestOneInput(const uint8_t *data, size_t size) {
     must(number == ck_book_check(q.book, q.book_len), "twice the same");
     if (q.book_len <= MOST_READ || q.book_len > MOST_BOOK) must((number == CK_OK) == book_holds(q.book, q.book_len), "accepted is what the grammar has");
     dword = (uint32_t)choice(parts, 0, 4), room_lent = count_of(choice(parts, 4, 2), 255, MOST_NAME), steps = MOST_STEPS;
-    any_place(&q, (size_t)choice(parts, 6, 8), parts[NAME]);
-    any_place(&q, (size_t)choice(parts, 6, 2), parts[NAME]);
     if (number == CK_OK) walk_book(&q);
     return done();
 }

@@ -13,7 +13,7 @@ typedef struct field {
 
 /* The field at a place, if one stands there and ends by `to`. */
 static inline int field_at(const uint8_t *b, size_t at, size_t to, field *f) {
-    if (to - at < 3) return 0;
+    if (at > to || to - at < 3) return 0;
     *f = (field){at, at + 3, at + 3 + word_at(b + at + 1), b[at]};
     return f->to <= to;
 }
@@ -114,31 +114,78 @@ static inline size_t find_entry(const uint8_t *b, field table, size_t offset, co
     return 0;
 }
 
-static inline int is_text(part p, const char *text) { return p.len == strlen(text) && !memcmp(p.at, text, p.len); }
-
-/* The first range of a name in the entry at a place. */
-static inline int find_range(const uint8_t *b, size_t len, size_t entry, const char *name, field *r) {
-    field e;
-    if (!entry || !field_at(b, entry, len, &e)) return 0;
-    for (size_t at = e.from + 2; at < e.to && field_at(b, at, e.to, r); at = r->to)
-        if (r->tag == 6 && is_text(text_of(b, *r, 4), name)) return 1;
-    return 0;
-}
-
 static inline uint32_t bits_of(uint32_t dword, uint8_t low, uint8_t high) {
     return (uint32_t)((uint64_t)dword >> low & ((UINT64_C(2) << (high - low)) - 1));
 }
 
-/* The name that a range gives to a value, of no length for none. */
-static inline part name_of_value(const uint8_t *b, field range, uint32_t value) {
+static inline part text(const char *word) { return (part){(const uint8_t *)word, strlen(word)}; }
+
+/* ---- in any bytes: what stands at a place is read as far as it goes */
+
+/* The field at a place of the book; place 0 is none. */
+static inline int stands(const uint8_t *b, size_t len, size_t place, field *f) { return place && field_at(b, place, len, f); }
+
+/* A number whose bytes lie before `to`; those beyond are 0. */
+static inline uint32_t number_in(const uint8_t *b, size_t at, size_t to, size_t width) {
+    uint32_t value = 0;
+    for (size_t i = 0; i < width; i++)
+        if (at + i < to) value |= (uint32_t)b[at + i] << 8 * i;
+    return value;
+}
+
+static inline size_t behind(const uint8_t *b, size_t at, size_t to, uint8_t tag) {
+    field f;
+    return field_at(b, at, to, &f) && f.tag == tag ? f.to : at;
+}
+
+/* Where the fields inside a field start: behind kind or UUID, behind name and type, behind the name. */
+static inline size_t inside_of(const uint8_t *b, field f) {
+    if (f.tag == 1 || f.tag == 2) return f.from + (f.tag == 1 ? 1 : 16);
+    if (f.tag == 3) return behind(b, behind(b, f.from + 2, f.to, 4), f.to, 5);
+    return f.tag == 6 ? behind(b, f.from + 2, f.to, 4) : f.to;
+}
+
+/* The name of the entry, range or value at a place, of no length for none. */
+static inline part name_at(const uint8_t *b, size_t len, size_t place) {
+    field f, name;
+    if (!stands(b, len, place, &f)) return untyped;
+    if (f.tag == 7) return f.to - f.from < 4 ? untyped : (part){b + f.from + 4, f.to - f.from - 4};
+    return field_at(b, f.from + 2, f.to, &name) && name.tag == 4 ? (part){b + name.from, name.to - name.from} : untyped;
+}
+
+/* The field with so many before it inside the field at a place. */
+static inline int nth_in(const uint8_t *b, size_t len, size_t place, size_t k, field *r) {
+    field f;
+    if (!stands(b, len, place, &f)) return 0;
+    size_t at = inside_of(b, f);
+    for (; field_at(b, at, f.to, r); at = r->to)
+        if (!k--) return 1;
+    return 0;
+}
+
+/* The first range of a name inside the field at a place. */
+static inline int named_in(const uint8_t *b, size_t len, size_t place, part name, field *r) {
+    for (size_t k = 0; nth_in(b, len, place, k, r); k++)
+        if (r->tag == 6 && same_part(name_at(b, len, r->at), name)) return 1;
+    return 0;
+}
+
+/* The place of the first value of a number inside the field at a place, 0 for none. */
+static inline size_t value_in(const uint8_t *b, size_t len, size_t range, uint32_t number) {
     field v;
-    uint32_t is;
-    for (size_t at = range.from + 2; at < range.to && field_at(b, at, range.to, &v); at = v.to) {
-        if (v.tag != 7) continue;
-        memcpy(&is, b + v.from, 4);
-        if (is == value) return (part){b + v.from + 4, v.to - v.from - 4};
-    }
-    return untyped;
+    for (size_t k = 0; nth_in(b, len, range, k, &v); k++)
+        if (v.tag == 7 && number_in(b, v.from, v.to, 4) == number) return v.at;
+    return 0;
+}
+
+/* What ck_range says of a range: its bits as they stand there, and the value between them, 0 if they are no bits of a dword. */
+static inline ck_range_answer range_told(const uint8_t *b, size_t len, field r, uint32_t dword) {
+    uint8_t low = (uint8_t)number_in(b, r.from, len, 1), high = (uint8_t)number_in(b, r.from + 1, len, 1);
+    return (ck_range_answer){1, low, high, low <= high && high <= 31 ? bits_of(dword, low, high) : 0, r.at};
+}
+
+static inline int same_range(ck_range_answer a, ck_range_answer b) {
+    return a.present == b.present && a.low == b.low && a.high == b.high && a.value == b.value && a.place == b.place;
 }
 
 #endif

@@ -28,9 +28,8 @@ static uint8_t expected(const asked *q, size_t entries, int has_table) {
 /* Step 2: the values of the fields named `UUID`; how many there are. */
 static size_t gather(const asked *q, const uint32_t *places, uint32_t uuid[4]) {
     size_t n = 0;
-    field e;
     for (size_t i = 0; i < q->count; i++) {
-        if (!places[i] || !field_at(q->book, places[i], q->book_len, &e) || !is_text(text_of(q->book, e, 4), "UUID")) continue;
+        if (!same_part(name_at(q->book, q->book_len, places[i]), text("UUID"))) continue;
         if (n < 4) uuid[n] = q->dwords[i];
         n++;
     }
@@ -46,8 +45,9 @@ static void by_protocol(const asked *q, field table, uint32_t *places) {
         if (!entry) entry = find_entry(q->book, table, i, &untyped);
         if (!entry) continue;
         if (!places[i]) places[i] = (uint32_t)entry;
-        if (latched.len || !find_range(q->book, q->book_len, places[i], "Packet Type", &range)) continue;
-        latched = name_of_value(q->book, range, bits_of(q->dwords[i], q->book[range.from], q->book[range.from + 1]));
+        if (latched.len || !named_in(q->book, q->book_len, places[i], text("Packet Type"), &range)) continue;
+        uint32_t value = range_told(q->book, q->book_len, range, q->dwords[i]).value;
+        latched = name_at(q->book, q->book_len, value_in(q->book, q->book_len, range.at, value));
     }
 }
 
@@ -67,7 +67,7 @@ static int cross(const asked *q, uint32_t *places, uint32_t uuid[4]) {
 static uint32_t behind_generation(const asked *q) {
     field range;
     for (size_t i = 0; i < q->count; i++)
-        if (find_range(q->book, q->book_len, q->places[i], "Properties Block Generation", &range)) return (uint32_t)i + 1;
+        if (named_in(q->book, q->book_len, q->places[i], text("Properties Block Generation"), &range)) return (uint32_t)i + 1;
     return CK_NONE;
 }
 

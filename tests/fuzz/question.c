@@ -1,5 +1,5 @@
 /* One question of a packet, an entry or a book, named by the environment's QUESTION: its form of a kind, a book and dwords, its form of described
- * dwords over the packet's places and over any places at all, and what other calls say of the same.
+ * dwords over the packet's places and over any places at all, held to plain searches of the book.
  * Choices: kind (1 byte), offset (2), room for names (2), a place (8), a dword (4), then the numbers of an entry. */
 #include "packets.h"
 
@@ -26,22 +26,19 @@ static list own, any;
 static uint32_t dword_at(size_t i) { return i < p.count ? p.dwords[i] : 0; }
 static size_t place_at(list places, size_t i) { return i < places.count ? places.at[i] : 0; }
 static size_t chosen_place(void) { return choice(parts, 12, 1) & 1 ? (size_t)choice(parts, 5, 8) : (size_t)choice(parts, 5, 2); }
+static size_t some_place(size_t i) { return i ? any.at[i - 1] : chosen_place(); }
 static uint32_t chosen_dword(void) { return (uint32_t)choice(parts, 13, 4); }
 static size_t chosen_room(void) { return count_of(choice(parts, 3, 2), 255, MOST_NAME); }
-static part text(const char *word) { return (part){(const uint8_t *)word, strlen(word)}; }
 
-/* ---- what other calls say: the first dword whose entry holds a range of a name, or has that name */
+/* ---- by plain searches of the book: the first dword whose entry holds a range of a name, or has that name */
 
-static size_t first_holding(list places, part word) {
+static size_t first_holding(list places, part word, field *range) {
     for (size_t i = 0; i < places.count; i++)
-        if (ck_range_named(p.book, p.book_len, places.at[i], 0, word.at, word.len).present) return i;
+        if (named_in(p.book, p.book_len, places.at[i], word, range)) return i;
     return SIZE_MAX;
 }
 
-static int has_name(size_t place, part word) {
-    uint8_t to[MOST_NAME];
-    return word.len && word.len <= MOST_NAME && name_into(to, &p, place, 0, 0, MOST_NAME) == word.len && !memcmp(to, word.at, word.len);
-}
+static int has_name(size_t place, part word) { return word.len && same_part(name_at(p.book, p.book_len, place), word); }
 
 static size_t first_named(list places, part word) {
     for (size_t i = 0; i < places.count; i++)
@@ -58,15 +55,16 @@ static ck_value is_value(uint64_t value) { return (ck_value){CK_OK, 1, value}; }
 /* What the packet's form says: its number if it has one, else what is said of the dwords and places. */
 static void must_be(ck_value packet, ck_value wanted) {
     if (p.answer.number != CK_OK) wanted = (ck_value){p.answer.number, 0, 0};
-    must(same_value(packet, wanted), "the packet's answer is the one that other calls give");
+    must(same_value(packet, wanted), "the packet's answer is its number, else that of its dwords");
     tally(packet.number);
 }
 
 /* The value of the first range of a name, cut to so many bits. */
 static ck_value by_ranges(list places, part word, unsigned bits) {
-    size_t i = first_holding(places, word);
+    field range;
+    size_t i = first_holding(places, word, &range);
     if (i == SIZE_MAX) return (ck_value){CK_OK, 0, 0};
-    return is_value(ck_range_named(p.book, p.book_len, places.at[i], dword_at(i), word.at, word.len).value & ((UINT64_C(1) << bits) - 1));
+    return is_value(range_told(p.book, p.book_len, range, dword_at(i)).value & ((UINT64_C(1) << bits) - 1));
 }
 
 static void must_agree(ck_value over_own, ck_value over_any, part word, unsigned bits) {
@@ -163,45 +161,38 @@ static void uuid_by_name(void) {
 
 static int same_type(ck_type a, ck_type b) { return a.number == b.number && a.present == b.present && a.value == b.value && a.name == b.name; }
 
-/* A type fits the first range `Packet Type`, and its name that range's value. */
-static void must_type(ck_type t, list places) {
-    uint8_t named[MOST_NAME], by_value[MOST_NAME];
-    part word = text("Packet Type");
-    size_t i = first_holding(places, word);
-    must(t.present == 1 ? t.number == CK_OK : !t.present && !t.value && !t.name, "a type is there, or nothing of it is");
-    must(t.number == CK_OK || t.number == CK_UNNAMED_TYPE, "a type gives 0 or 28");
-    must((i == SIZE_MAX) == (t.number == CK_OK && !t.present), "there is a type where there is such a range");
-    if (i == SIZE_MAX) return;
-    ck_range_answer r = ck_range_named(p.book, p.book_len, places.at[i], dword_at(i), word.at, word.len);
-    size_t n = name_into(by_value, &p, r.place, 1, r.value, MOST_NAME);
-    if (t.number == CK_UNNAMED_TYPE) must(n == 0, "28 is a value without a name");
-    else must(t.value == r.value && name_into(named, &p, t.name, 0, 0, MOST_NAME) == n && (n > MOST_NAME || !memcmp(named, by_value, n)),
-              "a type's name is that of its value");
+/* The value of the first range `Packet Type`, and the place of what names it. */
+static ck_type by_type(list places) {
+    field range;
+    size_t i = first_holding(places, text("Packet Type"), &range);
+    if (i == SIZE_MAX) return (ck_type){0};
+    uint32_t is = range_told(p.book, p.book_len, range, dword_at(i)).value;
+    size_t named = value_in(p.book, p.book_len, range.at, is);
+    return named ? (ck_type){CK_OK, 1, is, named} : (ck_type){CK_UNNAMED_TYPE, 0, 0, 0};
 }
 
 static void type(void) {
     ck_type t = ck_packet_type(PACKET), over_own = ck_described_type(DESCRIBED(own));
-    must_type(ck_described_type(DESCRIBED(any)), any);
+    must(same_type(ck_described_type(DESCRIBED(any)), by_type(any)), "a type is the value of the first `Packet Type`, over any places");
+    must(same_type(over_own, by_type(own)), "and over the packet's");
     if (p.answer.number != CK_OK) over_own = (ck_type){p.answer.number, 0, 0, 0};
-    else must_type(over_own, own);
     must(same_type(t, over_own), "the packet's answer is the described one");
     tally(t.number);
 }
 
 static void type_name(void) {
-    uint8_t want[MOST_NAME];
     room rooms[WAYS];
     size_t n[WAYS], size = chosen_room();
-    ck_type t = ck_packet_type(PACKET);
+    part want = name_at(p.book, p.book_len, by_type(own).name);
     for (int way = 0; way < WAYS; way++) {
         rooms[way] = lend_room(size, way);
         n[way] = ck_packet_type_name(PACKET, rooms[way].at, size);
     }
-    must(n[0] == n[1] && n[0] == (t.present ? name_into(want, &p, t.name, 0, 0, 255) : 0), "a type's name has the length of that at its place");
-    must_own(rooms, n[0] <= size ? n[0] : 0, "a name that fits is the first bytes, and all others are as found");
-    must(n[0] > size || !memcmp(rooms[0].at, want, n[0]), "and it is that name");
+    must(n[0] == want.len && n[1] == want.len, "a type's name has the length of that in the book");
+    must_own(rooms, want.len <= size ? want.len : 0, "a name that fits is the first bytes, and all others are as found");
+    must(want.len > size || !memcmp(rooms[0].at, want.at, want.len), "and it is that name");
     drop_rooms(rooms);
-    tally(t.number);
+    tally(p.answer.number);
 }
 
 /* ---- fields */
@@ -240,8 +231,9 @@ static void field_by_name(void) {
 }
 
 static void field_by_range(void) {
+    field range;
     must_be_field(ck_packet_field_by_range(PACKET, ASKED), ck_described_field_by_range(p.kind, DESCRIBED(own), ASKED),
-                  ck_described_field_by_range(p.kind, DESCRIBED(any), ASKED), first_holding(own, name), first_holding(any, name));
+                  ck_described_field_by_range(p.kind, DESCRIBED(any), ASKED), first_holding(own, name, &range), first_holding(any, name, &range));
 }
 
 /* The table that a packet's entry stands in, by a plain search. */
@@ -257,7 +249,7 @@ static uint8_t plain_source(size_t entry) {
 static void field_by_place(void) {
     int checked = ck_book_check(p.book, p.book_len) == CK_OK;
     for (size_t i = 0; i <= any.count && i < 32; i++) {
-        size_t place = i ? any.at[i - 1] : chosen_place();
+        size_t place = some_place(i);
         uint16_t offset = (uint16_t)choice(parts, 1, 2);
         ck_field_answer f = ck_field(p.kind, p.book, p.book_len, offset, chosen_dword(), place);
         must(!f.number && f.present == 1 && f.offset == offset && f.value == chosen_dword() && f.entry == place, "a field is as given");
@@ -268,67 +260,57 @@ static void field_by_place(void) {
     tally(p.answer.number);
 }
 
-/* ---- ranges and names, of any place of any book */
-
-static int is_absent(ck_range_answer r) { return !r.present && !r.low && !r.high && !r.value && !r.place; }
-
-/* A range that is there: its bits and place are those of the book, its value those bits of the dword. */
-static void must_range(ck_range_answer r, size_t entry, uint32_t dword) {
-    must(r.present == 1 ? r.place > entry && r.place < p.book_len : is_absent(r), "a range stands inside its entry, or there is none");
-    if (!r.present) return;
-    size_t at = r.place + 3;
-    must(r.low == (at < p.book_len ? p.book[at] : 0) && r.high == (at + 1 < p.book_len ? p.book[at + 1] : 0), "its bits are those of the book");
-    must(r.value == (r.low <= r.high && r.high <= 31 ? bits_of(dword, r.low, r.high) : 0), "its value is those bits of the dword");
-}
+/* ---- ranges and names, of any place of any book: the one chosen, then the any places */
 
 static void range_count(void) {
-    for (size_t i = 0; i <= any.count && i < 8; i++) {
-        size_t place = i ? any.at[i - 1] : chosen_place(), n = ck_range_count(p.book, p.book_len, place), k = 0;
-        while (k <= n && ck_range(p.book, p.book_len, place, 0, k).present) k++;
-        must(k == n, "as many ranges are counted as there are");
+    for (size_t i = 0; i <= any.count && i < 16; i++) {
+        field r;
+        size_t n = 0;
+        while (nth_in(p.book, p.book_len, some_place(i), n, &r)) n++;
+        must(ck_range_count(p.book, p.book_len, some_place(i)) == n, "as many ranges are counted as there are");
     }
     tally(ck_book_check(p.book, p.book_len));
 }
 
 static void range(void) {
+    static const size_t far[] = {0, 1, 2, 100, SIZE_MAX / 3, SIZE_MAX};
     for (size_t i = 0; i <= any.count && i < 32; i++) {
-        size_t place = i ? any.at[i - 1] : chosen_place(), k = (size_t)choice(parts, 1, 1) % 9;
-        must_range(ck_range(p.book, p.book_len, place, chosen_dword(), k), place, chosen_dword());
-        must(is_absent(ck_range(p.book, p.book_len, place, chosen_dword(), SIZE_MAX)), "no place has that many");
+        field r;
+        size_t k = (size_t)choice(parts, 1, 1) % 9;
+        if (k == 8) k = far[i % 6];
+        ck_range_answer want = {0};
+        if (nth_in(p.book, p.book_len, some_place(i), k, &r)) want = range_told(p.book, p.book_len, r, chosen_dword());
+        must(same_range(ck_range(p.book, p.book_len, some_place(i), chosen_dword(), k), want), "a range is that with k before it");
     }
     tally(ck_book_check(p.book, p.book_len));
 }
 
-/* By name: the first of those told by number that has it. */
 static void range_named(void) {
-    for (size_t i = 0; i <= any.count && i < 8; i++) {
-        size_t place = i ? any.at[i - 1] : chosen_place(), k = 0;
-        ck_range_answer r = ck_range_named(p.book, p.book_len, place, chosen_dword(), ASKED), one;
-        must_range(r, place, chosen_dword());
-        do one = ck_range(p.book, p.book_len, place, chosen_dword(), k++);
-        while (one.present && !(p.book[one.place] == 6 && name.len && has_name(one.place, name)));
-        must(!name.len || name.len > MOST_NAME || one.place == r.place, "the first range of a name is the first that has it");
+    for (size_t i = 0; i <= any.count && i < 16; i++) {
+        field r;
+        ck_range_answer want = {0};
+        if (named_in(p.book, p.book_len, some_place(i), name, &r)) want = range_told(p.book, p.book_len, r, chosen_dword());
+        must(same_range(ck_range_named(p.book, p.book_len, some_place(i), chosen_dword(), ASKED), want), "a range by name is the first of that name");
     }
     tally(ck_book_check(p.book, p.book_len));
 }
 
-/* A name's length does not depend on the room, and what fits is the start of nothing longer. */
-static void must_name(size_t place, int of_value, uint32_t value) {
-    uint8_t few[MOST_NAME], many[MOST_NAME];
-    size_t n = name_into(many, &p, place, of_value, value, MOST_NAME), size = chosen_room();
-    must(name_into(few, &p, place, of_value, value, size) == n, "a name's length does not depend on the room");
-    must(n > size || n > MOST_NAME || !memcmp(few, many, n), "nor do its bytes");
+/* With the room that was chosen: the length is that in the book, and the bytes are there if they fit. */
+static void must_name(size_t place, int of_value, uint32_t is) {
+    uint8_t to[MOST_NAME];
+    size_t size = chosen_room();
+    part want = name_at(p.book, p.book_len, of_value ? value_in(p.book, p.book_len, place, is) : place);
+    must(name_into(to, &p, place, of_value, is, size) == want.len, "a name has the length of that in the book");
+    must(want.len > size || !memcmp(to, want.at, want.len), "and its bytes");
 }
 
 static void name_of_place(void) {
-    must_name(chosen_place(), 0, 0);
-    for (size_t i = 0; i < any.count && i < 16; i++) must_name(any.at[i], 0, 0);
+    for (size_t i = 0; i <= any.count && i < 16; i++) must_name(some_place(i), 0, 0);
     tally(ck_book_check(p.book, p.book_len));
 }
 
 static void value_name(void) {
-    must_name(chosen_place(), 1, chosen_dword());
-    for (size_t i = 0; i < any.count && i < 16; i++) must_name(any.at[i], 1, dword_at(i));
+    for (size_t i = 0; i <= any.count && i < 16; i++) must_name(some_place(i), 1, i % 2 ? dword_at(i) : chosen_dword() % 5);
     tally(ck_book_check(p.book, p.book_len));
 }
 

@@ -66,7 +66,8 @@ int LLVMFuzzerTestOneInput(const uint8_t *data, size_t size) {
     tally(number);
     must(number == CK_OK || number == CK_BAD_BOOK, "a book is accepted or 20");
     must(number == ck_book_check(q.book, q.book_len), "twice the same");
-    if (q.book_len <= MOST_READ || q.book_len > MOST_BOOK) must((number == CK_OK) == book_holds(q.book, q.book_len), "accepted is what the grammar has");
+    if (q.book_len <= MOST_READ || q.book_len > MOST_BOOK)
+        must((number == CK_OK) == book_holds(q.book, q.book_len), "accepted is what the grammar has");
     dword = (uint32_t)choice(parts, 0, 4), room_lent = count_of(choice(parts, 4, 2), 255, MOST_NAME), steps = MOST_STEPS;
     if (number == CK_OK) walk_book(&q);
     return done();

@@ -39,7 +39,8 @@ static inline int same_entry(const told *a, const told *b) {
 }
 
 static inline int is_blank(const ck_entry *e) {
-    static const ck_entry blank = {.offset = CK_NONE, .code = CK_NONE, .len = CK_NONE, .port = CK_NONE, .config = CK_NONE, .seq = CK_NONE, .unplug = CK_NONE};
+    static const ck_entry blank = {
+        .offset = CK_NONE, .code = CK_NONE, .len = CK_NONE, .port = CK_NONE, .config = CK_NONE, .seq = CK_NONE, .unplug = CK_NONE};
     return same_flat(e, &blank);
 }
 
@@ -77,7 +78,7 @@ static inline void read_into(told *to, reader *call, const uint8_t *text, size_t
     ck_entry_answer a[WAYS];
     for (int way = 0; way < WAYS; way++) {
         rooms[way] = lend_room(4 * count, way);
-        a[way] = call(text, len, (uint32_t *)(void *)rooms[way].at, count);
+        a[way] = call(text, len, words_of(rooms[way]), count);
     }
     const ck_entry *e = &a[0].entry;
     must(a[0].number == a[1].number && same_flat(e, &a[1].entry), "an entry does not depend on what the slots held");

@@ -65,7 +65,8 @@ WRAP(ck_type, ck_described_type, a.value ^= 1, LIST(OVER), LIST(OVER_ARGS))
 WRAP(ck_field_answer, ck_described_field, a.value ^= 1, LIST(uint8_t kind, OVER, uint16_t offset), LIST(kind, OVER_ARGS, offset))
 WRAP(ck_field_answer, ck_described_field_by_name, a.value ^= 1, LIST(uint8_t kind, OVER, NAMED), LIST(kind, OVER_ARGS, name, name_len))
 WRAP(ck_field_answer, ck_described_field_by_range, a.value ^= 1, LIST(uint8_t kind, OVER, NAMED), LIST(kind, OVER_ARGS, name, name_len))
-WRAP(ck_field_answer, ck_field, a.source ^= 2, LIST(uint8_t kind, const uint8_t *book, size_t book_len, uint16_t offset, uint32_t dword, size_t entry),
+WRAP(ck_field_answer, ck_field, a.source ^= 2,
+     LIST(uint8_t kind, const uint8_t *book, size_t book_len, uint16_t offset, uint32_t dword, size_t entry),
      LIST(kind, book, book_len, offset, dword, entry))
 WRAP(size_t, ck_range_count, a++, LIST(ENTRY), LIST(book, book_len, entry))
 WRAP(ck_range_answer, ck_range, a.value ^= a.present, LIST(ENTRY, uint32_t dword, size_t k), LIST(book, book_len, entry, dword, k))

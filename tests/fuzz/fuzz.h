@@ -148,6 +148,8 @@ static inline room lend_room(size_t size, int way) {
     return (room){base, size + guard ? base + guard : base + 8, size, way};
 }
 
+static inline uint32_t *words_of(room r) { return (uint32_t *)(void *)r.at; }
+
 /* Is all but the first `owned` bytes as it was, guards included? */
 static inline int as_found(room r, size_t owned) {
     size_t guard = r.way == GUARDED ? GUARD : 0;

@@ -15,8 +15,8 @@ static void take_packet(taken *to, part text, part book, size_t slots_lent, size
     ck_text_packet t[WAYS];
     for (int way = 0; way < WAYS; way++) {
         slots[way] = lend_room(4 * slots_lent, way), places[way] = lend_room(4 * places_lent, way);
-        t[way] = ck_read_packet(text.at, text.len, book.at, book.len, (uint32_t *)(void *)slots[way].at, slots_lent,
-                                (uint32_t *)(void *)places[way].at, places_lent);
+        t[way] = ck_read_packet(text.at, text.len, book.at, book.len, words_of(slots[way]), slots_lent,
+                                words_of(places[way]), places_lent);
     }
     must(same_packet(t[0].packet, t[1].packet) && t[0].kind == t[1].kind && t[0].dwords == t[1].dwords, "a packet does not depend on what was lent");
     if (t[0].packet.number != CK_OK) must(is_refused(t[0].packet) && !t[0].kind && !t[0].dwords, "a refusal has no packet");
@@ -36,7 +36,7 @@ static void by_steps(const taken *t, const told *e, part book, size_t places_len
         return;
     }
     q.kind = e->entry.kind, q.book = book.at, q.book_len = book.len, q.count = e->entry.dwords, q.dwords = lend(e->dwords, 4 * q.count);
-    ck_packet_answer p = packet_into(places, &q, places_lent);
+    ck_packet_answer p = packet_into(places, ck_packet, &q, places_lent);
     must(same_packet(p, t->is.packet), "a text's packet is that of its entry");
     if (p.number != CK_OK) return;
     must(t->is.kind == q.kind && t->is.dwords == q.count, "and so are kind and number of dwords");
@@ -60,7 +60,8 @@ int LLVMFuzzerTestOneInput(const uint8_t *data, size_t size) {
         take_packet(&again, there_and_back(&e), book, slots, places);
         must(same_packet(again.is.packet, first.is.packet) && again.is.kind == first.is.kind && again.is.dwords == first.is.dwords,
              "a text and its record give the same packet");
-        must(!memcmp(again.slots, first.slots, 4 * first.is.dwords) && !memcmp(again.places, first.places, 4 * first.is.dwords), "the same dwords and places");
+        must(!memcmp(again.slots, first.slots, 4 * first.is.dwords) && !memcmp(again.places, first.places, 4 * first.is.dwords),
+             "the same dwords and places");
     }
     return done();
 }

@@ -7,7 +7,7 @@ const unsigned used_parts = 1 << CHOICES | 1 << DWORDS | 1 << BOOK;
 /* 26 comes last, and only where places are too few. */
 static void with_places(const asked *q, size_t lent) {
     static uint32_t places[MOST_PLACES];
-    ck_packet_answer a = packet_into(places, q, lent);
+    ck_packet_answer a = packet_into(places, ck_packet, q, lent);
     if (q->answer.number == CK_OK && lent < q->count) must(a.number == CK_FEW_PLACES, "fewer places than dwords are 26");
     else must(same_packet(a, q->answer), "places matter only where they are too few");
     if (a.number == CK_OK) must(!memcmp(places, q->places, 4 * q->count), "and not to the entries");
@@ -96,8 +96,8 @@ static void all_of_one(const asked *q) {
     const uint32_t *counts = lend(&count, 4);
     for (int way = 0; way < WAYS; way++) {
         places[way] = lend_room(4 * q->count, way), codes[way] = lend_room(4, way);
-        size_t n = ck_packet_all(q->book, q->book_len, kinds, 1, counts, 1, q->dwords, q->count, (uint32_t *)(void *)places[way].at, q->count,
-                                 (uint32_t *)(void *)codes[way].at, 1);
+        size_t n = ck_packet_all(q->book, q->book_len, kinds, 1, counts, 1, q->dwords, q->count, words_of(places[way]), q->count,
+                                 words_of(codes[way]), 1);
         must(n == 1, "there is one packet");
     }
     must_own(codes, 4, "one code is told");
@@ -119,8 +119,8 @@ static void by_record(const asked *q) {
     room slots[WAYS], places[WAYS];
     for (int way = 0; way < WAYS; way++) {
         slots[way] = lend_room(4 * q->count, way), places[way] = lend_room(4 * q->count, way);
-        ck_text_packet t = ck_read_packet(text, size, q->book, q->book_len, (uint32_t *)(void *)slots[way].at, q->count,
-                                          (uint32_t *)(void *)places[way].at, q->count);
+        ck_text_packet t = ck_read_packet(text, size, q->book, q->book_len, words_of(slots[way]), q->count,
+                                          words_of(places[way]), q->count);
         must(same_packet(t.packet, q->answer), "a record's packet is that of its kind and dwords");
         must(t.kind == (t.packet.number ? 0 : q->kind) && t.dwords == (t.packet.number ? 0 : q->count), "and so are kind and number of dwords");
     }

@@ -43,13 +43,16 @@ static inline void must_describe(const asked *q, ck_packet_answer a, const uint3
     must(a.has_uuid || !(a.uuid[0] | a.uuid[1] | a.uuid[2] | a.uuid[3]), "no UUID is all zero");
 }
 
+typedef ck_packet_answer describer(uint8_t kind, const uint8_t *book, size_t book_len, const uint32_t *dwords, size_t count, uint32_t *places,
+                                   size_t places_len);
+
 /* The packet with so many places lent; its places into `to`. */
-static inline ck_packet_answer packet_into(uint32_t to[MOST_PLACES], const asked *q, size_t lent) {
+static inline ck_packet_answer packet_into(uint32_t to[MOST_PLACES], describer *call, const asked *q, size_t lent) {
     room rooms[WAYS];
     ck_packet_answer a[WAYS];
     for (int way = 0; way < WAYS; way++) {
         rooms[way] = lend_room(4 * lent, way);
-        a[way] = ck_packet(q->kind, q->book, q->book_len, q->dwords, q->count, (uint32_t *)(void *)rooms[way].at, lent);
+        a[way] = call(q->kind, q->book, q->book_len, q->dwords, q->count, words_of(rooms[way]), lent);
     }
     must(same_packet(a[0], a[1]), "a packet does not depend on what the places held");
     must(a[0].number == CK_OK || (a[0].number >= CK_BAD_BOOK && a[0].number <= CK_FEW_PLACES), "a packet gives 0 or 20 to 26");
@@ -68,7 +71,7 @@ static inline void ask_packet(asked *q, const part parts[PARTS]) {
     q->book = lend(parts[BOOK].at, parts[BOOK].len), q->book_len = parts[BOOK].len;
     q->count = parts[DWORDS].len / 4 < MOST_PLACES ? parts[DWORDS].len / 4 : MOST_PLACES;
     q->dwords = lend(parts[DWORDS].at, 4 * q->count);
-    q->answer = packet_into(q->places, q, q->count);
+    q->answer = packet_into(q->places, ck_packet, q, q->count);
     must(q->answer.number != CK_FEW_PLACES, "with a place for each dword there is no 26");
     must((q->answer.number == CK_BAD_BOOK) == (ck_book_check(q->book, q->book_len) == CK_BAD_BOOK), "20 is what the check says of the book");
 }

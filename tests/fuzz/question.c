@@ -102,7 +102,8 @@ static void data_address(void) {
 }
 
 static void data_size(void) {
-    const char *word = p.kind == 1 || p.kind == 2 ? "Read Size" : p.kind == 3 || p.kind == 4 ? "Write Size" : crosses() ? "Properties Block Size" : NULL;
+    int reads = p.kind == 1 || p.kind == 2, writes = p.kind == 3 || p.kind == 4;
+    const char *word = reads ? "Read Size" : writes ? "Write Size" : crosses() ? "Properties Block Size" : NULL;
     ck_value over_own = ck_described_data_size(p.kind, DESCRIBED(own)), over_any = ck_described_data_size(p.kind, DESCRIBED(any));
     if (word) must_agree(over_own, over_any, text(word), 16);
     else must(!over_own.present && same_value(over_own, (ck_value){0, 0, 0}) && same_value(over_any, over_own), "other kinds have no size");
@@ -205,7 +206,7 @@ static int same_field(ck_field_answer a, ck_field_answer b) {
 static ck_field_answer field_of(list places, size_t i) {
     if (i == SIZE_MAX) return (ck_field_answer){0};
     ck_field_answer f = ck_field(p.kind, p.book, p.book_len, (uint16_t)i, dword_at(i), place_at(places, i));
-    must(f.number == CK_OK && f.present == 1 && f.offset == (uint16_t)i && f.value == dword_at(i) && f.entry == place_at(places, i), "a field is as given");
+    must(!f.number && f.present == 1 && f.offset == (uint16_t)i && f.value == dword_at(i) && f.entry == place_at(places, i), "a field is as given");
     must((f.source == 0) == (f.entry == 0) && f.source <= 3, "and has a table exactly where it has an entry");
     return f;
 }
@@ -376,7 +377,7 @@ static void must_be_each(const uint32_t *codes, size_t n, const uint32_t *filled
     for (size_t k = 0; k < n; k++) {
         size_t count = least(counts[k], p.count - at), lent = least(counts[k], places_lent - place);
         one = (asked){.kind = kinds[k], .book = p.book, .book_len = p.book_len, .dwords = p.dwords + at, .count = count};
-        ck_packet_answer a = packet_into(places, &one, lent);
+        ck_packet_answer a = packet_into(places, ck_packet, &one, lent);
         must(codes[k] == (a.number ? NO_VIEW + a.number : a.start == CK_NONE ? NO_VIEW : a.start), "a code is the packet's");
         size_t owned = a.number ? 0 : count;
         must(!memcmp(filled + place, places, 4 * owned), "its places are the packet's");
@@ -397,11 +398,11 @@ static void packet_all(void) {
         room places = lend_room(4 * places_lent, way), codes = lend_room(4 * codes_lent, way);
         static uint32_t marked[MOST_PLACES];
         memcpy(marked, places.at, 4 * places_lent);
-        size_t told = ck_packet_all(p.book, p.book_len, ks, kinds_count, cs, counts_count, p.dwords, p.count, (uint32_t *)(void *)places.at, places_lent,
-                                    (uint32_t *)(void *)codes.at, codes_lent);
+        size_t told = ck_packet_all(p.book, p.book_len, ks, kinds_count, cs, counts_count, p.dwords, p.count, words_of(places), places_lent,
+                                    words_of(codes), codes_lent);
         must(told == n, "there are as many packets as the shortest list has");
         must(as_found(codes, 4 * n) && as_found(places, 4 * places_lent), "codes of no packet are as found, and so is all around");
-        must_be_each((uint32_t *)(void *)codes.at, n, (uint32_t *)(void *)places.at, places_lent, marked);
+        must_be_each(words_of(codes), n, words_of(places), places_lent, marked);
         free(places.base), free(codes.base);
     }
     tally(n ? 0 : 1);

@@ -80,7 +80,8 @@ static void splice(int part, size_t from, size_t to, const uint8_t *with, size_t
 /* ---- fields to put in */
 
 static const char *const words[] = {
-    "UUID", "Packet Type", "Adapter Num", "Address", "Offset", "Read Size", "Write Size", "Properties Block Size", "Properties Block Generation", "A", "B", "x"};
+    "UUID", "Packet Type", "Adapter Num", "Address", "Offset", "Read Size", "Write Size", "Properties Block Size", "Properties Block Generation",
+    "A", "B", "x"};
 
 static size_t make_name(uint8_t *to) {
     const char *word = words[below(sizeof words / sizeof *words)];
@@ -134,6 +135,11 @@ static size_t make_field(uint8_t *to, uint8_t tag) {
     return framed(to, tag, widths[tag]);
 }
 
+/* The frame of a record around what is there. */
+static void set_frame(void) {
+    if (now[TEXT].len >= 3) framed(now[TEXT].bytes, 0xa1, now[TEXT].len - 3);
+}
+
 /* ---- changes of one field */
 
 /* The first field inside a node, or behind another in it, with a tag above the one given; where it would stand. */
@@ -143,39 +149,68 @@ static size_t place_for(int parent, uint8_t tag) {
     return nodes[parent].end;
 }
 
-static void add_field(int part, int n) {
+static void add_field(int n) {
     size_t len;
-    if (part == TEXT) {
-        uint8_t tag = (uint8_t)(1 + below(19));
-        len = make_field(scratch, tag);
-        splice(part, place_for(0, tag), place_for(0, tag), scratch, len, 0);
-        return;
-    }
     while (n != TOP && nodes[n].prefix == LEAF) n = nodes[n].parent;
     uint8_t tag = n == TOP ? 0 : nodes[n].tag;
     if (tag == 1 || tag == 2) len = make_entry(scratch);
     else if (tag == 3) len = below(2) ? make_range(scratch) : make_named(scratch, below(2) ? 4 : 5);
     else if (tag == 6) len = make_value(scratch);
     else len = make_table(scratch);
-    size_t at = n == TOP ? now[part].len : place_for(n, scratch[0]);
-    splice(part, at, at, scratch, len, n);
+    size_t at = n == TOP ? now[BOOK].len : place_for(n, scratch[0]);
+    splice(BOOK, at, at, scratch, len, n);
 }
 
-/* A leaf's body is any other; before the fields inside a field as many bytes stay as there were. */
-static void change_body(int part, int n) {
-    uint8_t *body = now[part].bytes + nodes[n].at + 3;
+/* A record's field, where its tag belongs, and mostly in place of the one that is there. */
+static void set_field(void) {
+    uint8_t tag = (uint8_t)(1 + below(19));
+    size_t len = make_field(scratch, tag), at = place_for(0, tag), end = at;
+    for (int i = 1; i < node_count; i++)
+        if (nodes[i].tag == tag && below(8)) at = nodes[i].at, end = nodes[i].end;
+    splice(TEXT, at, end, scratch, len, 0);
+}
+
+/* Brings the body of a record's field near its rule: bytes that a text may have, whole dwords, numbers in range. */
+static size_t tame(uint8_t tag, uint8_t *body, size_t len) {
+    for (size_t i = 0; i < len && (tag == 1 || tag == 6); i++) {
+        int letter = (body[i] | 32) >= 'a' && (body[i] | 32) <= 'z';
+        if (tag == 1 ? body[i] >= 128 || body[i] == 32 : !letter) body[i] = (uint8_t)('a' + body[i] % 26);
+    }
+    if (tag == 3 && len == 2) body[1] &= 3;
+    if ((tag == 4 || tag == 5) && len == 8) body[7] &= 127;
+    if (tag == 7 && len == 1) body[0] %= 13;
+    if (tag == 9 && len == 1) body[0] &= 1;
+    return tag == 19 ? len / 4 * 4 : len;
+}
+
+/* A body of a record: texts and dwords of any length, numbers of theirs. */
+static void change_record_body(int n) {
+    size_t len = nodes[n].end - nodes[n].at - 3;
+    uint8_t tag = nodes[n].tag;
+    int fixed = tag != 1 && tag != 6 && tag != 19 && below(8);
+    memcpy(scratch, now[TEXT].bytes + nodes[n].at + 3, len);
+    if (fixed && !len) return;
+    size_t changed = LLVMFuzzerMutate(scratch, len, fixed ? len : 4200);
+    if (!fixed) len = changed;
+    if (below(8)) len = tame(tag, scratch, len);
+    splice(TEXT, nodes[n].at + 3, nodes[n].end, scratch, len, n);
+}
+
+/* A name is any other; before the fields inside a field as many bytes stay as there were. */
+static void change_body(int n) {
+    uint8_t *body = now[BOOK].bytes + nodes[n].at + 3;
     size_t len = nodes[n].end - nodes[n].at - 3, prefix = (size_t)nodes[n].prefix;
     if (nodes[n].prefix != LEAF) {
         if (prefix && prefix <= len) LLVMFuzzerMutate(body, prefix, prefix);
         return;
     }
-    if (part == BOOK && nodes[n].tag < 6 && below(2)) {
+    if (nodes[n].tag < 6 && below(2)) {
         len = make_name(scratch);
     } else {
         memcpy(scratch, body, len);
-        len = LLVMFuzzerMutate(scratch, len, part == TEXT ? 4200 : len + 20);
+        len = LLVMFuzzerMutate(scratch, len, len + 20);
     }
-    splice(part, nodes[n].at + 3, nodes[n].end, scratch, len, n);
+    splice(BOOK, nodes[n].at + 3, nodes[n].end, scratch, len, n);
 }
 
 /* A field and the next one beside it change places. */
@@ -191,30 +226,50 @@ static void swap(int part, int n) {
     }
 }
 
-/* Puts a copy of a field behind or in place of another of its tag. */
-static void copy(int part, int n, int whole) {
+/* Puts a copy of a field of the book behind or in place of another of its tag. */
+static void copy(int n, int whole) {
     int m = pick_node(nodes[n].tag, nodes[n].tag);
     if (m == TOP) return;
     size_t len = nodes[m].end - nodes[m].at;
-    memcpy(scratch, now[part].bytes + nodes[m].at, len);
-    splice(part, whole ? nodes[n].at : nodes[n].end, nodes[n].end, scratch, len, nodes[n].parent);
+    memcpy(scratch, now[BOOK].bytes + nodes[m].at, len);
+    splice(BOOK, whole ? nodes[n].at : nodes[n].end, nodes[n].end, scratch, len, nodes[n].parent);
 }
 
-static void change_fields(int part) {
-    find_nodes(part);
+static void drop(int part, int n) { splice(part, nodes[n].at, nodes[n].end, NULL, 0, nodes[n].parent); }
+
+static void change_book(void) {
+    find_nodes(BOOK);
     if (!node_count) {
-        if (part == BOOK) add_field(part, TOP);
-        else if (now[part].len >= 3) framed(now[part].bytes, 0xa1, now[part].len - 3);
+        add_field(TOP);
         return;
     }
     int n = (int)below((uint32_t)node_count);
     switch (below(8)) {
-    case 0: splice(part, nodes[n].at, nodes[n].end, NULL, 0, nodes[n].parent); break;
-    case 1: swap(part, n); break;
-    case 2: copy(part, n, 1); break;
-    case 3: copy(part, n, 0); break;
-    case 4: add_field(part, below(8) ? n : TOP); break;
-    default: change_body(part, n);
+    case 0: drop(BOOK, n); break;
+    case 1: swap(BOOK, n); break;
+    case 2: copy(n, 1); break;
+    case 3: copy(n, 0); break;
+    case 4: add_field(below(8) ? n : TOP); break;
+    default: change_body(n);
+    }
+}
+
+/* What every record needs is seldom taken away. */
+static void change_record(void) {
+    find_nodes(TEXT);
+    if (node_count < 2) {
+        set_frame();
+        return;
+    }
+    int n = 1 + (int)below((uint32_t)node_count - 1), optional = nodes[n].tag >= 12 && nodes[n].tag <= 18;
+    switch (below(16)) {
+    case 0: if (optional || !below(8)) drop(TEXT, n); break;
+    case 1: if (!below(4)) swap(TEXT, n); break;
+    case 2:
+    case 3:
+    case 4:
+    case 5: set_field(); break;
+    default: change_record_body(n);
     }
 }
 
@@ -252,14 +307,18 @@ static void put_place(void) {
     for (size_t i = 0; i < 4; i++) now[PLACES].bytes[at + i] = (uint8_t)(nodes[n].at >> 8 * i);
 }
 
+static int is_record(void) { return now[TEXT].len && now[TEXT].bytes[0] == 0xa1; }
+
 static void change(int part) {
     int by_book = (part == DWORDS || part == NAME || part == PLACES) && used_parts >> BOOK & 1 && below(2);
     if (by_book) find_nodes(BOOK);
     if (by_book && part == DWORDS) put_uuid();
     else if (by_book && part == NAME) put_name();
     else if (by_book) put_place();
-    else if ((part == BOOK || (part == TEXT && now[TEXT].len && now[TEXT].bytes[0] == 0xa1)) && below(4)) change_fields(part);
+    else if (part == BOOK && below(4)) change_book();
+    else if (is_record() && part == TEXT && below(8)) change_record();
     else change_bytes(part);
+    if (part == TEXT && is_record() && below(8)) set_frame();
 }
 
 /* ---- an input and its parts */
@@ -299,7 +358,8 @@ size_t LLVMFuzzerCustomMutator(uint8_t *data, size_t size, size_t most, unsigned
     return glue(data, most);
 }
 
-size_t LLVMFuzzerCustomCrossOver(const uint8_t *data, size_t size, const uint8_t *other, size_t other_size, uint8_t *out, size_t most, unsigned seed) {
+size_t LLVMFuzzerCustomCrossOver(const uint8_t *data, size_t size, const uint8_t *other, size_t other_size, uint8_t *out, size_t most,
+                                 unsigned seed) {
     part parts[PARTS];
     state = seed * 2654435761u | 1;
     take_all(data, size);

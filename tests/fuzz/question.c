@@ -25,7 +25,7 @@ static list own, any;
 
 static uint32_t dword_at(size_t i) { return i < p.count ? p.dwords[i] : 0; }
 static size_t place_at(list places, size_t i) { return i < places.count ? places.at[i] : 0; }
-static size_t chosen_place(void) { return choice(parts, 12, 1) & 1 ? (size_t)choice(parts, 5, 8) : (size_t)choice(parts, 5, 2); }
+static size_t chosen_place(void) { return (size_t)choice(parts, 5, (size_t[]){2, 2, 4, 8}[choice(parts, 12, 1) & 3]); }
 static size_t some_place(size_t i) { return i ? any.at[i - 1] : chosen_place(); }
 static uint32_t chosen_dword(void) { return (uint32_t)choice(parts, 13, 4); }
 static size_t chosen_room(void) { return count_of(choice(parts, 3, 2), 255, MOST_NAME); }

@@ -15,6 +15,7 @@ static void must_name(const asked *q, size_t place, int of_value, uint32_t value
     uint8_t to[MOST_NAME];
     must(name_into(to, q, place, of_value, value, 255) == name.len && !memcmp(to, name.at, name.len), "a name is that in the book");
     must(name_into(to, q, place, of_value, value, room_lent) == name.len, "its length does not depend on the room");
+    if (name.len) must(name_into(to, q, place, of_value, value, name.len - 1) == name.len, "nor does it where a byte is missing");
 }
 
 static void walk_range(const asked *q, field r) {

@@ -71,14 +71,11 @@ WRAP(ck_field_answer, ck_field, a.source ^= 2,
 WRAP(size_t, ck_range_count, a++, LIST(ENTRY), LIST(book, book_len, entry))
 WRAP(ck_range_answer, ck_range, a.value ^= a.present, LIST(ENTRY, uint32_t dword, size_t k), LIST(book, book_len, entry, dword, k))
 WRAP(ck_range_answer, ck_range_named, a.value ^= a.present, LIST(ENTRY, uint32_t dword, NAMED), LIST(book, book_len, entry, dword, name, name_len))
-WRAP(size_t, ck_name, (a ? poke(out) : (void)0), LIST(ENTRY, uint8_t *out, size_t room), LIST(book, book_len, entry, out, room))
 WRAP(size_t, ck_value_name, (a && a <= room ? poke(out) : (void)0), LIST(ENTRY, uint32_t value, uint8_t *out, size_t room),
      LIST(book, book_len, entry, value, out, room))
 WRAP(ck_event_text, ck_event_name, a.bytes[13] ^= 1, LIST(uint8_t code), LIST(code))
 WRAP(uint32_t, ck_adapter_num, a = entry.port, LIST(ck_entry entry), LIST(entry))
 WRAP(uint32_t, ck_unplug, a = entry.unplug, LIST(ck_entry entry), LIST(entry))
-WRAP(uint8_t, ck_book_check, a = CK_OK, LIST(const uint8_t *book, size_t book_len), LIST(book, book_len))
-WRAP(ck_packet_answer, ck_packet, a.start ^= 1, LIST(PACKET, uint32_t *places, size_t places_len), LIST(PACKET_ARGS, places, places_len))
 WRAP(ck_entry_answer, ck_record_read, a.entry.pid ^= 1, LIST(const uint8_t *text, size_t len, uint32_t *slots, size_t count),
      LIST(text, len, slots, count))
 WRAP(ck_text_packet, ck_read_packet, a.dwords ^= 1,
@@ -89,6 +86,34 @@ WRAP(size_t, ck_packet_all, codes[0] ^= 1,
           const uint32_t *dwords, size_t count, uint32_t *places, size_t places_len, uint32_t *codes, size_t codes_len),
      LIST(book, book_len, kinds, kinds_len, counts, counts_len, dwords, count, places, places_len, codes, codes_len))
 WRAP(ck_entry_answer, ck_read, a.entry.seq ^= 1, LIST(const uint8_t *text, size_t len, uint32_t *slots, size_t count), LIST(text, len, slots, count))
+
+uint8_t __real_ck_book_check(const uint8_t *, size_t);
+uint8_t __wrap_ck_book_check(const uint8_t *, size_t);
+uint8_t __wrap_ck_book_check(const uint8_t *book, size_t book_len) {
+    uint8_t a = __real_ck_book_check(book, book_len + is("book longer than lent"));
+    return is("ck_book_check") ? CK_OK : a;
+}
+
+ck_packet_answer __real_ck_packet(PACKET, uint32_t *, size_t);
+ck_packet_answer __wrap_ck_packet(PACKET, uint32_t *, size_t);
+ck_packet_answer __wrap_ck_packet(PACKET, uint32_t *places, size_t places_len) {
+    count += is("dwords more than lent");
+    ck_packet_answer a = __real_ck_packet(PACKET_ARGS, places, places_len + is("places more than lent"));
+    if (is("ck_packet")) a.start ^= 1;
+    if (is("a place of another entry") && !a.number && count && places[0]) places[0]++;
+    if (is("a place behind the dwords") && !a.number && count < places_len) places[count] ^= 1;
+    if (is("a place after a refusal") && a.number && places_len) places[places_len - 1] ^= 1;
+    return a;
+}
+
+size_t __real_ck_name(ENTRY, uint8_t *, size_t);
+size_t __wrap_ck_name(ENTRY, uint8_t *, size_t);
+size_t __wrap_ck_name(ENTRY, uint8_t *out, size_t room) {
+    size_t a = __real_ck_name(book, book_len, entry, out, room + is("room for a name more than lent"));
+    if (is("ck_name") && a && a <= room) out[0] ^= 1;
+    if (is("a name cut short") && a > room && room) out[0] ^= 1;
+    return a;
+}
 
 size_t __real_ck_packet_data(PACKET);
 size_t __wrap_ck_packet_data(PACKET);
@@ -101,7 +126,8 @@ size_t __wrap_ck_packet_data(PACKET) {
 ck_write_answer __real_ck_record_write(const uint8_t *, size_t, ck_entry, const uint32_t *, size_t, uint8_t *, size_t);
 ck_write_answer __wrap_ck_record_write(const uint8_t *, size_t, ck_entry, const uint32_t *, size_t, uint8_t *, size_t);
 ck_write_answer __wrap_ck_record_write(const uint8_t *text, size_t len, ck_entry e, const uint32_t *dwords, size_t count, uint8_t *out, size_t room) {
-    ck_write_answer a = __real_ck_record_write(text, len + is("text longer than lent"), e, dwords, count, out, room + is("room more than lent"));
+    ck_write_answer a = __real_ck_record_write(text, len + is("text longer than lent"), e, dwords, count + is("dwords past the lent"), out,
+                                               room + is("room more than lent"));
     if (is("ck_record_write") && a.bytes) out[a.bytes - 1] ^= 1;
     if (is("a byte behind the record") && a.bytes && a.bytes < room) out[a.bytes] ^= 1;
     if (is("a byte after a refusal") && a.number && room) out[room - 1] ^= 1;
@@ -112,7 +138,7 @@ ck_write_answer __wrap_ck_record_write(const uint8_t *text, size_t len, ck_entry
 ck_entry_answer __real_ck_parse(const uint8_t *, size_t, uint32_t *, size_t);
 ck_entry_answer __wrap_ck_parse(const uint8_t *, size_t, uint32_t *, size_t);
 ck_entry_answer __wrap_ck_parse(const uint8_t *line, size_t len, uint32_t *slots, size_t count) {
-    ck_entry_answer a = __real_ck_parse(line, len + is("line longer than lent"), slots, count + 8 * is("slots more than lent"));
+    ck_entry_answer a = __real_ck_parse(line, len + is("line longer than lent"), slots, count + is("slots more than lent"));
     int guarded = second();
     if (is("ck_parse")) a.entry.route ^= 1;
     if (is("a number that no line has") && a.number) a.number = CK_NO_EQUALS;

@@ -43,6 +43,7 @@ int LLVMFuzzerTestOneInput(const uint8_t *data, size_t size) {
     must(parsed.number <= CK_MANY_DWORDS && parsed.number != CK_NO_EQUALS, "a line gives 0 to 16, and never 10");
     must(early(t) ? parsed.number == early(t) : parsed.number == CK_OK || parsed.number > CK_NO_COLON, "1 to 4 come first");
     with_slots(&parsed, text, t.len, count_of(choice(parts, 0, 2), CK_MOST_DWORDS, MOST_SLOTS));
+    if (parsed.entry.dwords) with_slots(&parsed, text, t.len, parsed.entry.dwords), with_slots(&parsed, text, t.len, parsed.entry.dwords - 1);
     with_newline(&parsed, t);
     read_into(&taken, ck_read, text, t.len, CK_MOST_DWORDS);
     if (t.len && t.at[0] == 0xa1) must(taken.number == CK_OK || taken.number >= CK_NO_RECORD, "what starts with A1 is no line to the intake");

@@ -148,6 +148,7 @@ int LLVMFuzzerTestOneInput(const uint8_t *data, size_t size) {
     tally(q.answer.number);
     by_grammar(&q);
     with_places(&q, count_of(choice(parts, 1, 2), CK_MOST_DWORDS, MOST_PLACES));
+    if (q.count) with_places(&q, q.count - 1);
     all_of_one(&q);
     if (q.kind <= 12 && q.count <= CK_MOST_DWORDS) by_record(&q);
     view(&q);

@@ -181,10 +181,9 @@ static void type(void) {
     tally(t.number);
 }
 
-static void type_name(void) {
+static void type_name_in(size_t size, part want) {
     room rooms[WAYS];
-    size_t n[WAYS], size = chosen_room();
-    part want = name_at(p.book, p.book_len, by_type(own).name);
+    size_t n[WAYS];
     for (int way = 0; way < WAYS; way++) {
         rooms[way] = lend_room(size, way);
         n[way] = ck_packet_type_name(PACKET, rooms[way].at, size);
@@ -193,6 +192,12 @@ static void type_name(void) {
     must_own(rooms, want.len <= size ? want.len : 0, "a name that fits is the first bytes, and all others are as found");
     must(want.len > size || !memcmp(rooms[0].at, want.at, want.len), "and it is that name");
     drop_rooms(rooms);
+}
+
+static void type_name(void) {
+    part want = name_at(p.book, p.book_len, by_type(own).name);
+    type_name_in(chosen_room(), want);
+    if (want.len) type_name_in(want.len, want), type_name_in(want.len - 1, want);
     tally(p.answer.number);
 }
 
@@ -296,13 +301,19 @@ static void range_named(void) {
     tally(ck_book_check(p.book, p.book_len));
 }
 
-/* With the room that was chosen: the length is that in the book, and the bytes are there if they fit. */
-static void must_name(size_t place, int of_value, uint32_t is) {
+/* With so much room: the length is that in the book, and the bytes are there if they fit. */
+static void must_name_in(size_t size, size_t place, int of_value, uint32_t is) {
     uint8_t to[MOST_NAME];
-    size_t size = chosen_room();
     part want = name_at(p.book, p.book_len, of_value ? value_in(p.book, p.book_len, place, is) : place);
     must(name_into(to, &p, place, of_value, is, size) == want.len, "a name has the length of that in the book");
     must(want.len > size || !memcmp(to, want.at, want.len), "and its bytes");
+}
+
+/* With the room that was chosen, with just enough, and with a byte less. */
+static void must_name(size_t place, int of_value, uint32_t is) {
+    size_t len = name_at(p.book, p.book_len, of_value ? value_in(p.book, p.book_len, place, is) : place).len;
+    must_name_in(chosen_room(), place, of_value, is);
+    if (len && len <= MOST_NAME) must_name_in(len, place, of_value, is), must_name_in(len - 1, place, of_value, is);
 }
 
 static void name_of_place(void) {

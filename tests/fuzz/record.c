@@ -26,6 +26,7 @@ int LLVMFuzzerTestOneInput(const uint8_t *data, size_t size) {
     must(read.number == CK_OK || (read.number >= CK_NO_RECORD && read.number <= CK_BAD_BODY), "a record gives 0 or 30 to 34");
     must(framed(t) == (read.number != CK_NO_RECORD), "30 is what is not framed");
     with_slots(&read, text, t.len, count_of(choice(parts, 0, 2), CK_MOST_DWORDS, MOST_SLOTS));
+    if (read.entry.dwords) with_slots(&read, text, t.len, read.entry.dwords), with_slots(&read, text, t.len, read.entry.dwords - 1);
     /* Other texts are left to the intake's target: read as lines here, they would take over the corpus. */
     if (t.len && t.at[0] == 0xa1) {
         read_into(&taken, ck_read, text, t.len, CK_MOST_DWORDS);

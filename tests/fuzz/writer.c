@@ -42,8 +42,29 @@ static void read_back(const uint8_t *record, size_t size, const told *e) {
     must(back.number == CK_OK && same_entry(e, &back), "what is written reads back");
 }
 
+/* 37 is out of range, else 36 is too little room, else it is written. */
+static uint8_t write_with(const told *e, const uint32_t *dwords, size_t count, size_t needs, size_t lent) {
+    static uint8_t record[MOST_ROOM];
+    ck_write_answer w = write_into(record, e->text, e->len, e->entry, dwords, count, lent);
+    must(w.number == (!needs ? CK_BAD_ENTRY : needs > lent ? CK_SHORT_BUFFER : CK_OK), "37 comes before 36, and 36 before a record");
+    if (w.number == CK_OK) read_back(record, w.bytes, e);
+    return w.number;
+}
+
+/* The edges of an entry in range: just enough room and a byte less; a task, a function or dwords that end one past what is lent. */
+static void at_edges(told e, const uint32_t *dwords, size_t count, size_t needs) {
+    write_with(&e, dwords, count, needs, needs), write_with(&e, dwords, count, needs, needs - 1);
+    told far = e;
+    far.entry.task_len = e.len - e.entry.task_at + 1;
+    write_with(&far, dwords, count, 0, CK_MOST_BYTES);
+    far = e, far.entry.function_len = e.len - e.entry.function_at + 1;
+    write_with(&far, dwords, count, 0, CK_MOST_BYTES);
+    far = e, far.entry.dwords = count + 1;
+    write_with(&far, dwords, count, 0, CK_MOST_BYTES);
+}
+
 int LLVMFuzzerTestOneInput(const uint8_t *data, size_t size) {
-    static uint8_t record[MOST_ROOM], want[CK_MOST_BYTES];
+    static uint8_t want[CK_MOST_BYTES];
     static told given;
     part parts[PARTS], t;
     cut(data, size, parts);
@@ -51,17 +72,11 @@ int LLVMFuzzerTestOneInput(const uint8_t *data, size_t size) {
     const uint8_t *text = lend(t.at, t.len);
     size_t count = parts[DWORDS].len / 4;
     const uint32_t *dwords = lend(parts[DWORDS].at, 4 * count);
-    size_t lent = count_of(choice(parts, 0, 2), CK_MOST_BYTES, MOST_ROOM);
     ck_entry e = entry_of(parts, t.len, count);
-    ck_write_answer w = write_into(record, text, t.len, e, dwords, count, lent);
-    tally(w.number);
-    if (!in_range(&e, text, t.len, count)) must(w.number == CK_BAD_ENTRY, "an entry out of range is 37");
-    else if (record_of(want, text, &e, dwords) > lent) must(w.number == CK_SHORT_BUFFER, "an entry in range that does not fit is 36");
-    else must(w.number == CK_OK, "an entry in range that fits is written");
-    if (w.number == CK_OK) {
-        given.entry = e, given.text = text, given.len = t.len;
-        memcpy(given.dwords, dwords, 4 * e.dwords);
-        read_back(record, w.bytes, &given);
-    }
+    size_t needs = in_range(&e, text, t.len, count) ? record_of(want, text, &e, dwords) : 0;
+    given.entry = e, given.text = text, given.len = t.len;
+    if (needs) memcpy(given.dwords, dwords, 4 * e.dwords);
+    tally(write_with(&given, dwords, count, needs, count_of(choice(parts, 0, 2), CK_MOST_BYTES, MOST_ROOM)));
+    if (needs) at_edges(given, dwords, count, needs);
     return done();
 }

@@ -73,11 +73,14 @@ WRAP(ck_range_answer, ck_range, a.value ^= a.present, LIST(ENTRY, uint32_t dword
 WRAP(ck_range_answer, ck_range_named, a.value ^= a.present, LIST(ENTRY, uint32_t dword, NAMED), LIST(book, book_len, entry, dword, name, name_len))
 WRAP(size_t, ck_value_name, (a && a <= room ? poke(out) : (void)0), LIST(ENTRY, uint32_t value, uint8_t *out, size_t room),
      LIST(book, book_len, entry, value, out, room))
+WRAP(ck_name_part, ck_name_at, a.at += a.len != 0, LIST(ENTRY), LIST(book, book_len, entry))
+WRAP(size_t, ck_value_at, a ^= 1, LIST(ENTRY, uint32_t number), LIST(book, book_len, entry, number))
 WRAP(ck_event_text, ck_event_name, a.bytes[13] ^= 1, LIST(uint8_t code), LIST(code))
 WRAP(uint32_t, ck_adapter_num, a = entry.port, LIST(ck_entry entry), LIST(entry))
 WRAP(uint32_t, ck_unplug, a = entry.unplug, LIST(ck_entry entry), LIST(entry))
 WRAP(ck_entry_answer, ck_record_read, a.entry.pid ^= 1, LIST(const uint8_t *text, size_t len, uint32_t *slots, size_t count),
      LIST(text, len, slots, count))
+WRAP(ck_packet_answer, ck_checked_packet, a.start ^= 1, LIST(PACKET, uint32_t *places, size_t places_len), LIST(PACKET_ARGS, places, places_len))
 WRAP(ck_text_packet, ck_read_packet, a.dwords ^= 1,
      LIST(const uint8_t *text, size_t len, const uint8_t *book, size_t book_len, uint32_t *slots, size_t count, uint32_t *places, size_t places_len),
      LIST(text, len, book, book_len, slots, count, places, places_len))

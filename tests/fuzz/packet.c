@@ -13,6 +13,26 @@ static void with_places(const asked *q, size_t lent) {
     if (a.number == CK_OK) must(!memcmp(places, q->places, 4 * q->count), "and not to the entries");
 }
 
+/* Over a checked book the answer needs no second check. Over any other no more than the places is written, and 20 is for one that is too long. */
+static void unchecked(const asked *q, size_t lent) {
+    static uint32_t with_check[MOST_PLACES], without[MOST_PLACES];
+    if (q->answer.number != CK_BAD_BOOK) {
+        ck_packet_answer a = packet_into(with_check, ck_packet, q, lent), b = packet_into(without, ck_checked_packet, q, lent);
+        must(same_packet(a, b) && (a.number || !memcmp(with_check, without, 4 * q->count)), "a checked book gives the same without a check");
+        return;
+    }
+    room rooms[WAYS];
+    ck_packet_answer a[WAYS];
+    for (int way = 0; way < WAYS; way++) {
+        rooms[way] = lend_room(4 * lent, way);
+        a[way] = ck_checked_packet(q->kind, q->book, q->book_len, q->dwords, q->count, words_of(rooms[way]), lent);
+    }
+    must(same_packet(a[0], a[1]), "a packet over no book does not depend on what the places held");
+    must((a[0].number == CK_BAD_BOOK) == (q->book_len > 65535), "and is refused with 20 just where the book is too long");
+    must_own(rooms, a[0].number == CK_OK ? 4 * q->count : 0, "and writes its places and nothing else");
+    drop_rooms(rooms);
+}
+
 /* The number that document 01 gives, from its words. */
 static uint8_t expected(const asked *q, size_t entries, int has_table) {
     static const uint8_t zeros[16];
@@ -149,6 +169,7 @@ int LLVMFuzzerTestOneInput(const uint8_t *data, size_t size) {
     by_grammar(&q);
     with_places(&q, count_of(choice(parts, 1, 2), CK_MOST_DWORDS, MOST_PLACES));
     if (q.count) with_places(&q, q.count - 1);
+    unchecked(&q, count_of(choice(parts, 1, 2), CK_MOST_DWORDS, MOST_PLACES));
     all_of_one(&q);
     if (q.kind <= 12 && q.count <= CK_MOST_DWORDS) by_record(&q);
     view(&q);

@@ -316,8 +316,25 @@ static void must_name(size_t place, int of_value, uint32_t is) {
     if (len && len <= MOST_NAME) must_name_in(len, place, of_value, is), must_name_in(len - 1, place, of_value, is);
 }
 
+/* Where a name stands is where a plain search finds it; no name stands at 0. */
+static void must_stand(size_t place) {
+    part want = name_at(p.book, p.book_len, place);
+    ck_name_part told = ck_name_at(p.book, p.book_len, place);
+    must(told.len == want.len && told.at == (want.len ? (size_t)(want.at - p.book) : 0), "a name stands where it is in the book");
+}
+
 static void name_of_place(void) {
-    for (size_t i = 0; i <= any.count && i < 16; i++) must_name(some_place(i), 0, 0);
+    for (size_t i = 0; i <= any.count && i < 16; i++) must_name(some_place(i), 0, 0), must_stand(some_place(i));
+    tally(ck_book_check(p.book, p.book_len));
+}
+
+static void value_place(void) {
+    for (size_t i = 0; i <= any.count && i < 16; i++) {
+        uint32_t is = i % 2 ? dword_at(i) : chosen_dword() % 5;
+        size_t want = value_in(p.book, p.book_len, some_place(i), is);
+        must(ck_value_at(p.book, p.book_len, some_place(i), is) == want, "a value's place is that of the first of its number");
+        must_stand(want);
+    }
     tally(ck_book_check(p.book, p.book_len));
 }
 
@@ -429,7 +446,7 @@ static const struct {
     {"data", data}, {"is_read", is_read}, {"is_write", is_write}, {"is_xdomain", is_xdomain}, {"value", value}, {"uuid", uuid},
     {"uuid_by_name", uuid_by_name}, {"type", type}, {"type_name", type_name}, {"field", field_at_offset}, {"field_by_name", field_by_name},
     {"field_by_range", field_by_range}, {"field_by_place", field_by_place}, {"range_count", range_count}, {"range", range},
-    {"range_named", range_named}, {"name", name_of_place}, {"value_name", value_name}, {"event_name", event_name},
+    {"range_named", range_named}, {"name", name_of_place}, {"value_place", value_place}, {"value_name", value_name}, {"event_name", event_name},
     {"entry_adapter_num", entry_adapter_num}, {"entry_unplug", entry_unplug}, {"packet_all", packet_all}};
 
 enum { QUESTIONS = sizeof questions / sizeof *questions };

@@ -49,35 +49,56 @@ static double one_line(const char *line, size_t length, unsigned *answer) {
     return best;
 }
 
-static const char HEAD[] = "fwd-7 [002] d..1. 12.000345: tb_tx: ";
-static const char KEYS[] = "type=TB_CFG_PKG_READ, size=3, domain=0, route=0, ";
+#define HEAD "fwd-7 [002] d..1. 12.000345: tb_tx: "
+#define KEYS "type=TB_CFG_PKG_READ, size=3, domain=0, route=0, "
 
-/* A line of 4,096 bytes: front, then the piece over and over, then the end. */
+/* A line of 4,096 bytes: front, then the piece as often as it fits, blanks, then the end. */
 static void fill(char *line, const char *front, const char *piece, const char *end) {
     size_t at = strlen(front), last = LONG - strlen(end), size = strlen(piece);
+    memset(line, ' ', LONG);
     memcpy(line, front, at);
-    for (size_t i = 0; at + i < last; i++) line[at + i] = piece[i % size];
+    for (; at + size <= last; at += size) memcpy(line + at, piece, size);
     memcpy(line + last, end, strlen(end));
+}
+
+/* Lines of 4,096 bytes: front, piece and end. The first is the ordinary one that the others are held to. */
+static const struct {
+    const char *name, *front, *piece, *end;
+} longest[] = {
+    {"an entry with some 220 dwords", HEAD KEYS "data=[", "0x00000004002001, ", "0x1]"},
+    {"an entry behind pairs `k=1, `", HEAD, "k=1, ", KEYS "data=[0x0]"},
+    {"an entry behind a word run", HEAD, "a", " " KEYS "data=[0x0]"},
+    {"an entry behind a run of dashes in the task", "", "-", "7 [002] 12.000345: tb_tx: " KEYS "data=[0x0]"},
+    {"a word run as payload", HEAD, "a", ""},
+    {"`a=[` repeated with no `]`", HEAD, "a=[", ""},
+    {"a digit run in the header", "fwd-7 [002] d..1. ", "1", ": tb_tx: " KEYS "data=[0x0]"},
+};
+
+/* The Rust's time for one line. */
+static double rust_line(const char *line) {
+    static uint8_t frame[4 + LONG] = {LONG & 255, LONG >> 8};
+    memcpy(frame + 4, line, LONG);
+    const void *made = oracle_make_lines(frame, sizeof frame);
+    double best = 1e30;
+    for (int round = 0; round < ROUNDS; round++) {
+        double start = now();
+        for (int i = 0; i < 200; i++) oracle_run_lines(made);
+        double taken = (now() - start) / 200;
+        if (taken < best) best = taken;
+    }
+    return best;
 }
 
 static void hostile(void) {
     static char line[LONG];
-    char front[256], end[256];
-    unsigned answer;
-    snprintf(front, sizeof front, "%s%sdata=[", HEAD, KEYS);
-    fill(line, front, "0x00000004002001, ", "0x1]");
-    double plain = one_line(line, LONG, &answer);
-    printf("ordinary line of 4,096 bytes (answer %u): %.0f ns\n", answer, plain);
-    const char *names[3] = {"one word run as payload", "`a=[` repeated with no `]`", "one digit run in the header"};
-    for (int i = 0; i < 3; i++) {
-        if (i == 0) fill(line, HEAD, "a", "");
-        if (i == 1) fill(line, HEAD, "a=[", "");
-        if (i == 2) {
-            snprintf(end, sizeof end, ": tb_tx: %sdata=[0x0]", KEYS);
-            fill(line, "fwd-7 [002] d..1. ", "1", end);
-        }
-        double taken = one_line(line, LONG, &answer);
-        printf("%s (answer %u): %.0f ns, %.2f times the ordinary one\n", names[i], answer, taken, taken / plain);
+    double plain = 0;
+    for (size_t i = 0; i < sizeof longest / sizeof *longest; i++) {
+        unsigned answer;
+        fill(line, longest[i].front, longest[i].piece, longest[i].end);
+        double taken = one_line(line, LONG, &answer), theirs = rust_line(line);
+        if (i == 0) plain = taken;
+        printf("%-44s answer %2u: %7.0f ns, %.2f of the first, Entry::parse %7.0f ns, ratio %.2f\n", longest[i].name, answer, taken, taken / plain,
+               theirs, taken / theirs);
     }
 }
 

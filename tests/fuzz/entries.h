@@ -38,6 +38,11 @@ static inline int same_entry(const told *a, const told *b) {
            !memcmp(a->text + a->entry.function_at, b->text + b->entry.function_at, a->entry.function_len);
 }
 
+/* The same answer: number, every field, every dword. */
+static inline int same_answer(const told *a, const told *b) {
+    return a->number == b->number && same_flat(&a->entry, &b->entry) && !memcmp(a->dwords, b->dwords, 4 * a->entry.dwords);
+}
+
 static inline int is_blank(const ck_entry *e) {
     static const ck_entry blank = {
         .offset = CK_NONE, .code = CK_NONE, .len = CK_NONE, .port = CK_NONE, .config = CK_NONE, .seq = CK_NONE, .unplug = CK_NONE};

@@ -88,7 +88,15 @@ WRAP(size_t, ck_packet_all, codes[0] ^= 1,
      LIST(const uint8_t *book, size_t book_len, const uint8_t *kinds, size_t kinds_len, const uint32_t *counts, size_t counts_len,
           const uint32_t *dwords, size_t count, uint32_t *places, size_t places_len, uint32_t *codes, size_t codes_len),
      LIST(book, book_len, kinds, kinds_len, counts, counts_len, dwords, count, places, places_len, codes, codes_len))
-WRAP(ck_entry_answer, ck_read, a.entry.seq ^= 1, LIST(const uint8_t *text, size_t len, uint32_t *slots, size_t count), LIST(text, len, slots, count))
+
+ck_entry_answer __real_ck_read(const uint8_t *, size_t, uint32_t *, size_t);
+ck_entry_answer __wrap_ck_read(const uint8_t *, size_t, uint32_t *, size_t);
+ck_entry_answer __wrap_ck_read(const uint8_t *text, size_t len, uint32_t *slots, size_t count) {
+    ck_entry_answer a = __real_ck_read(text, len, slots, count);
+    if (is("ck_read")) a.entry.seq ^= 1;
+    if (is("a dword at the intake") && a.entry.dwords) slots[0] ^= 1;
+    return a;
+}
 
 uint8_t __real_ck_book_check(const uint8_t *, size_t);
 uint8_t __wrap_ck_book_check(const uint8_t *, size_t);

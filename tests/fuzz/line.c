@@ -29,7 +29,7 @@ static void with_newline(const told *plain, part t) {
     if (t.len) memcpy(longer, t.at, t.len);
     longer[t.len] = '\n';
     read_into(&ended, ck_parse, lend(longer, t.len + 1), t.len + 1, CK_MOST_DWORDS);
-    must(ended.number == plain->number && same_flat(&ended.entry, &plain->entry), "a line's newline is lent or not");
+    must(same_answer(&ended, plain), "a line's newline is lent or not");
 }
 
 int LLVMFuzzerTestOneInput(const uint8_t *data, size_t size) {
@@ -47,7 +47,7 @@ int LLVMFuzzerTestOneInput(const uint8_t *data, size_t size) {
     with_newline(&parsed, t);
     read_into(&taken, ck_read, text, t.len, CK_MOST_DWORDS);
     if (t.len && t.at[0] == 0xa1) must(taken.number == CK_OK || taken.number >= CK_NO_RECORD, "what starts with A1 is no line to the intake");
-    else must(taken.number == parsed.number && same_flat(&taken.entry, &parsed.entry), "the intake reads a line as ck_parse does");
+    else must(same_answer(&taken, &parsed), "the intake reads a line as ck_parse does");
     if (parsed.number == CK_OK) there_and_back(&parsed);
     return done();
 }

@@ -18,15 +18,15 @@ use Rattle.header.specs.Dash.{Task, pidOf}
 use Rattle.header.proofs.Dashes.{task-is}
 use Rattle.header.specs.Stamp.{stampOf}
 use Rattle.header.proofs.Cases.{case-P2, case-P3}
-use Rattle.pairs.specs.Pair.{pairsFrom, lastPair, decimalOf}
-use Rattle.pairs.specs.declared.pair.Span.the-variants.{At}
-use Rattle.pairs.specs.Data.{dataOf}
+use Rattle.pairs.specs.Pair.{pairsFrom, decimalOf}
 use Rattle.pairs.proofs.PairLists.{placed}
 use Rattle.pairs.proofs.Cases.{case-P4, case-P5, case-P6}
 use mathlib.Core.Bool.{false}
 use Rattle.entry.specs.declared.optional.MaybeByte.the-variants as B
 use Rattle.entry.specs.declared.optional.MaybeWord.the-variants as W
 use Rattle.scan.specs.declared.Answer.the-variants as A
+use Rattle.scan.specs.Body.{textAt}
+use Rattle.scan.specs.Dwords.{payloadData}
 use Rattle.scan.specs.Parse.{parseOf}
 use Rattle.scan.proofs.Cases.{accepted-P7, refused-P8}
 use Rattle.tlv.specs.Grammar.{fieldBytes}
@@ -35,6 +35,11 @@ use Rattle.packet.proofs.Examples.{threeEntries, threeUuids, fourUuids}
 use Rattle.questions.specs.Answers.{is, absent, refused}
 use Rattle.questions.specs.Questions.{routeOf, startOf, viewOf, uuidAnswer}
 use Rattle.questions.proofs.Cases.{case-P12, case-P13, case-P14}
+
+-- the text of P6's value is what its dwords are read from
+payload-P6 : payloadData (bytes "data=[0x1, zz, 0x2]") ≡ some (1 ∷ 2 ∷ [])
+unfolding payloadData textAt
+payload-P6 = rw (case-P6 .value-at) (case-P6 .dwords)
 
 pub record Cases : Type 0 where
   -- P1: code 38 is link recovery, 3 unknown
@@ -50,8 +55,7 @@ pub record Cases : Type 0 where
   -- P5: `size=1 size=2`: 2
   pub P5 : decimalOf (bytes "size=1 size=2") (bytes "size") 0xffff ≡ N.Value 2
   -- P6: `data=[0x1, zz, 0x2]`: 1, 2
-  pub P6-value : lastPair (bytes "data=[0x1, zz, 0x2]") (bytes "data") ≡ At 5 19
-  pub P6-dwords : dataOf (bytes "[0x1, zz, 0x2]") ≡ some (1 ∷ 2 ∷ [])
+  pub P6 : payloadData (bytes "data=[0x1, zz, 0x2]") ≡ some (1 ∷ 2 ∷ [])
   -- P7: `data=[0x1,0x2]`: no dwords, accepted
   pub P7 : parseOf (bytes "a-1 [002] 1.2: f: type=t size=3 domain=0 route=0 data=[0x1,0x2]") 256 ≡ A.Entry (record { «task_at» = 0; «task_len» = 1; pid = 1; cpu = 2; seconds = 1; microseconds = 2; «function_at» = 15; «function_len» = 1; kind = 0; size = 3; dropped = false; domain = 0; route = 0; offset = W.Absent; code = B.Absent; len = W.Absent; port = B.Absent; config = B.Absent; seq = B.Absent; unplug = B.Absent; dwords = 0 })
   -- P8: `data=[]`: 15
@@ -85,8 +89,7 @@ cases =
       P3 = case-P3;
       P4 = case-P4;
       P5 = case-P5;
-      P6-value = case-P6 .value-at;
-      P6-dwords = case-P6 .dwords;
+      P6 = payload-P6;
       P7 = accepted-P7;
       P8 = refused-P8;
       P9-read = case-P9 .widest;

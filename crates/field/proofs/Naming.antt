@@ -60,6 +60,7 @@ module _ (s : List ℕ) where
                 (lies (at + 3) u (omega (arith, within, fits)) (subst (λ (l : List ℕ). 0 < length l) whole some))
             tagged false some = absurd (omega (arith, some))
 
+  -- a name of a byte or more lies in the book, behind what stands before it
   pub name-lies : (place : ℕ) → 0 < length (nameOf s place) → Lies s (place + beforeName (getD s place 0)) (nameOf s place)
   unfolding nameOf nameAt
   name-lies place some = by (fieldAt s place) refl some

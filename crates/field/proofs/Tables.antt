@@ -193,7 +193,7 @@ module _ (kind : ℕ) (s : List ℕ) {control header : ℕ} (c : controlTable s 
         (header-source kind s p some (off-control zeroUuid h want key p e)
         (ap (λ (f : Found). standsIn s f p) h ∙ found-stands-in want key s header p e))
 
-    -- one that is found in another UUID's table has the source protocol
+    -- one that is found in a UUID's table that is not the header table has the source protocol
     pub protocol-entry-is-protocol : (u : Uuid) {table : ℕ} → uuidTable s u ≡ At table → (table ≡ header → ⊥) → seekOf want key s table ≡ At p
         → sourceOf kind s p ≡ Protocol (record { at = p })
     unfolding firstWanted

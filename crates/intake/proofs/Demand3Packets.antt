@@ -19,7 +19,7 @@ use Rattle.packet.specs.declared.Answer.{Answer}
 use Rattle.packet.specs.declared.Answer.the-variants as P
 use Rattle.packet.specs.declared.Packet.{Packet}
 use Rattle.packet.specs.Packet.{viewed, entriesOf, numberChecked, after, numberOf, placesOf, viewFrom, packetOf, unless, parseOf, listBy}
-use Rattle.packet.proofs.Packets.{none-applies, length-places}
+use Rattle.packet.proofs.Packets.{passed-whole, length-places}
 use Rattle.questions.specs.Questions.{refusal, viewOf}
 use Rattle.questions.proofs.Views.{view-is-from-n}
 use Rattle.record.specs.Grammar.{recordBytes, IsRecord}
@@ -143,7 +143,7 @@ same-packet v book {slots} {places} {slots′} {places′} {a} {b} g h =
 enough-dwords : (kind : ℕ) (s : List ℕ) (count room : ℕ) → viewed kind ≡ true → numberOf kind s count room ≡ 0 → entriesOf s kind ≤ count
 enough-dwords kind s count room view none =
     ltb-false count (entriesOf s kind)
-    (subst (λ (b : Bool). (b && ltb count (entriesOf s kind)) ≡ false) view (none-applies kind s count room none .enough))
+    (subst (λ (b : Bool). (b && ltb count (entriesOf s kind)) ≡ false) view (passed-whole kind s count room none .enough))
 
 accepted-number : (kind : ℕ) (s ds : List ℕ) (room : ℕ) {p : Packet} → parseOf kind s ds room ≡ P.Packet p → numberOf kind s (length ds) room ≡ 0
 unfolding parseOf

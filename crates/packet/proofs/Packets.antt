@@ -116,7 +116,7 @@ module _ (s ds : List ℕ) where
 -- ---- what was opened
 
 module _ (kind : ℕ) (s : List ℕ) (count room : ℕ) where
-  -- no number applies: what each test that a caller asks for says
+  -- no number applies: what four of the tests then say
   pub record Passed : Type 0 where
     pub few : count ≤ 256
     pub enough : (viewed kind && ltb count (entriesOf s kind)) ≡ false
@@ -144,10 +144,10 @@ module _ (kind : ℕ) (s : List ℕ) (count room : ℕ) where
       by false false false p false q false v false r h =
           record { few = ltb-false 256 count q; enough = v; fit = ltb-false room count r; there = p }
 
-  -- the same where the book's own number is among them
-  pub none-applies : numberOf kind s count room ≡ 0 → Passed
+  -- the same where number 20 is among those that do not apply
+  pub passed-whole : numberOf kind s count room ≡ 0 → Passed
   unfolding numberOf
-  none-applies e = by (refusalOf (checkOf s)) e
+  passed-whole e = by (refusalOf (checkOf s)) e
     where
       by : (n : ℕ) → after n (numberChecked kind s count room) ≡ 0 → Passed
       by zero h = passed h

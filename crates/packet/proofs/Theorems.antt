@@ -232,19 +232,19 @@ packet-answer-number k s bytes ds room n some = (
 
 -- ---- what the places are
 
--- the entry of an offset in a table that the book has, by its place: the first of that offset, of any type
+-- the entry of an offset in a table that the book has, by its place in the book up to the table's end: the first of that offset, of any type
 module _ (s : List ℕ) (b : IsBook s) (k : ℕ) (t : Table) (h : Has s (kind k) t) where
-  pub control-entry-is : (i : ℕ) → (u : List ℕ) × Finds u entryPiece (λ e. e .offset ≡ i) (t .entries) (entryOf Any [] s (controlAt s k) i)
+  pub control-entry-is : (i : ℕ) → (to : ℕ) × Finds (take to s) entryPiece (λ e. e .offset ≡ i) (t .entries) (entryOf Any [] s (controlAt s k) i)
   unfolding entryOf controlAt
   control-entry-is i = by (controlTable s k) refl
     where
-      by : (f : Found) → controlTable s k ≡ f → (u : List ℕ) × Finds u entryPiece (λ e. e .offset ≡ i) (t .entries) (entryOfOffset s (placeOf f) i)
+      by : (f : Found) → controlTable s k ≡ f → (to : ℕ) × Finds (take to s) entryPiece (λ e. e .offset ≡ i) (t .entries) (entryOfOffset s (placeOf f) i)
       by (At p) e =
           let f = control-table-is s b k p e in
           let same : f .value ≡ t = has-one s (kind k) (f .value) t (found-has s b (kind k) f) h in
-          let body : List ℕ = take (first-stands f .part .to) s in (
-            body,
-            subst (λ v. Finds body entryPiece (λ e. e .offset ≡ i) (v .entries) (entryOfOffset s p i)) same
+          let to : ℕ = first-stands f .part .to in (
+            to,
+            subst (λ v. Finds (take to s) entryPiece (λ e. e .offset ≡ i) (v .entries) (entryOfOffset s p i)) same
                 (entry-of-offset-is s (f .value) p (first-good GoodTable f (b .tables-good)) (first-stands f) i),
           )
       by Nothing e = absurd (none-has s b (kind k) (control-table-none s b k e) t h)

@@ -145,7 +145,7 @@ pub record Parsed (kind : ℕ) (s ds out exit : List ℕ) (r : Answer) : Type 0 
   pub answer : r ≡ parseOf kind s ds (length out)
   pub places : exit ≡ listBy r (placesOf kind s ds) out
 
--- the same over a book that was checked before; over a checked book the two are one (`over-is-parsed`)
+-- the same over a book that was checked before; over a checked book it gives `Parsed` (`over-is-parsed`)
 pub record Over (kind : ℕ) (s ds out exit : List ℕ) (r : Answer) : Type 0 where
   pub answer : r ≡ overOf kind s ds (length out)
   pub places : exit ≡ listBy r (placesOf kind s ds) out

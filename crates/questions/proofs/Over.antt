@@ -16,7 +16,7 @@ use Rattle.packet.specs.declared.Answer.the-variants as A
 use Rattle.packet.specs.declared.Packet.{Packet}
 use Rattle.packet.specs.Packet as packet
 use Rattle.packet.specs.Packet.{Parsed, after, numberChecked, numberOf, placesOf, packetOf, parseOf, listBy}
-use Rattle.packet.proofs.Packets.{Passed, none-applies, length-places, parsed-20}
+use Rattle.packet.proofs.Packets.{Passed, passed-whole, length-places, parsed-20}
 use Rattle.questions.specs.Answers.{Told, is, refused, unless}
 use Rattle.questions.specs.Questions.{refusal, answer}
 
@@ -36,7 +36,7 @@ never-26 kind s count room le = ap (after (refusalOf (checkOf s))) (by (ltb 256 
 -- no number: what each test says
 pub passed : (kind : ℕ) (s ds : List ℕ) → refusal kind s ds ≡ 0 → Passed kind s (length ds) (length ds)
 unfolding refusal
-passed kind s ds e = none-applies kind s (length ds) (length ds) e
+passed kind s ds e = passed-whole kind s (length ds) (length ds) e
 
 -- ---- an answer by the number
 

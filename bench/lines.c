@@ -82,8 +82,8 @@ static double rust_line(const char *line) {
     double best = 1e30;
     for (int round = 0; round < ROUNDS; round++) {
         double start = now();
-        for (int i = 0; i < 200; i++) oracle_run_lines(made);
-        double taken = (now() - start) / 200;
+        for (int i = 0; i < REPEATS; i++) oracle_run_lines(made);
+        double taken = (now() - start) / REPEATS;
         if (taken < best) best = taken;
     }
     return best;

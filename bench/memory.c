@@ -63,13 +63,20 @@ static size_t deepest(void (*call)(void)) {
     return STACK - at;
 }
 
-/* An entry with 256 dwords, and a payload as long as fits. */
+/* An inter-domain request with 256 dwords, whose line has four pairs. */
 static void make_text(void) {
-    text_len = (size_t)sprintf((char *)text, "a-1 [002] 1.2: f: type=TB_CFG_PKG_READ size=3 domain=0 route=0 data=[");
-    for (int i = 0; i < 256; i++) text_len += (size_t)sprintf((char *)text + text_len, i ? ", 0x%07x" : "0x%07x", i);
+    text_len = (size_t)sprintf((char *)text, "a-1 [002] 1.2: tb_rx: type=TB_CFG_PKG_XDOMAIN_REQ size=3 domain=0 route=0 data=[");
+    for (int i = 0; i < 256; i++) text_len += (size_t)sprintf((char *)text + text_len, i ? ", 0x%08x" : "0x%08x", (unsigned)crossing[i]);
     text_len += (size_t)sprintf((char *)text + text_len, "]");
     entry = ck_parse(text, text_len, slots, CK_MOST_DWORDS);
     record_len = ck_record_write(text, text_len, entry.entry, slots, entry.entry.dwords, record, sizeof record).bytes;
+}
+
+/* Each call gets as far as an answer, else its row would tell of a refusal. */
+static int all_answered(void) {
+    ck_text_packet p = ck_read_packet(text, text_len, book, book_len, slots, CK_MOST_DWORDS, places, CK_MOST_DWORDS);
+    ck_type t = ck_packet_type(8, book, book_len, crossing, 256);
+    return !entry.number && entry.entry.dwords == 256 && record_len && !ck_book_check(book, book_len) && !p.packet.number && p.packet.has_uuid && t.present;
 }
 
 int main(int count, char **words) {
@@ -78,7 +85,7 @@ int main(int count, char **words) {
     book_len = fread(book, 1, sizeof book, file);
     fclose(file);
     make_text();
-    if (entry.number || entry.entry.dwords != 256 || !record_len) return puts("the text is no entry"), 1;
+    if (!all_answered()) return puts("a call is refused"), 1;
     size_t bare = deepest(nothing);
     for (size_t i = 1; i < sizeof rows / sizeof *rows; i++) printf("%-28s %6zu bytes of stack\n", rows[i].name, deepest(rows[i].call) - bare);
     return 0;

@@ -103,6 +103,7 @@ int main(int argc, char **argv) {
     uint64_t theirs = oracle_run_packets(made), ours = sum_of(book, length);
     printf("book %zu bytes, %zu packets, %.1f dwords on average, sums %s\n", length, packets, (double)total / (double)packets,
            theirs == ours ? "equal" : "DIFFER");
+    if (theirs != ours) return 1;
     double rust = 1e30, one = 1e30, checked = 1e30, all = 1e30;
     for (int round = 0; round < ROUNDS; round++) {
         double t = now();

@@ -5,7 +5,8 @@
  *
  * Every call takes any input. It keeps no memory, makes none, and writes only what is lent to it for writing. A slice is a pointer and the
  * number of its elements; the pointer is valid for that many, also for none (not NULL), and what is lent for writing overlaps nothing else that
- * is lent. Slots, places, codes and bytes are written from the first on, as many as the answer says, and no others.
+ * is lent. Slots, places, codes and bytes are written from the first on, as many as the answer says, and no others
+ * (ck_packet_all says where its places stand).
  * Within that, each call is proved to answer as said here: the contracts stand in crates/capi/src, their definitions in
  * crates/capi/specs and crates/flat/specs/Flat.antt.
  */

@@ -35,7 +35,8 @@ def digest(*texts):
 def folder():
     """Where the parts of this program and these generators are kept, and the program itself; parts of others do not count as done."""
     texts = []
-    for path in [PROGRAM, *sorted(glob(os.path.join(TOP, "oracle", "generate", "*.py")))]:
+    makers = [os.path.abspath(__file__), os.path.join(TOP, "oracle", "judge", "differ.py"), *sorted(glob(os.path.join(TOP, "oracle", "generate", "*.py")))]
+    for path in [PROGRAM, *makers]:
         with open(path, "rb") as file:
             texts.append(file.read())
     path = os.path.join(ROOM, "parts", digest(*texts))

@@ -23,7 +23,7 @@ macro_rules! events {
         }
 
         impl Event {
-            /// Its code; no two events have the same.
+            /// Its code; no two events that are made from codes have the same.
             pub fn code(self) -> u8 {
                 match self {
                     $(Event::$case => $code,)*

@@ -12,8 +12,8 @@ macro_rules! kinds {
         }
 
         impl Pdf {
-            /// The kind of a number; none has one above 12.
-            pub(crate) fn from_kind(kind: u8) -> Self {
+            /// The kind of a number; above 12 it is unknown.
+            pub fn from_kind(kind: u8) -> Self {
                 match kind {
                     $($kind => Pdf::$case,)*
                     _ => Pdf::Unknown,

@@ -1,4 +1,6 @@
 // Lists what each line of standard input is: its kind and how many dwords it has, or the number that refuses it; then the totals.
+use flow::make_room;
+use flow::more;
 use libc::STDIN_FILENO;
 use libc::STDOUT_FILENO;
 use lines::Fed;
@@ -8,7 +10,7 @@ use rows::put_refused;
 use rows::put_totals;
 use scan::Answer;
 use scan::parse;
-ghost use Prim.Native.Nat.{_+_, _≤_};
+ghost use Prim.Native.Nat.{_≤_};
 ghost use lib.ListN.{length};
 
 // What is counted so far, how much of the open line is held, and how much of the output waits to be written.
@@ -31,7 +33,7 @@ fn list_all(input: &mut [u8], line: &mut [u8], out: &mut [u8])
 {
     let run = list_parts(input, line, out);
     let done = close(line, out, run);
-    let at = make_room(out, done.at);
+    let at = make_room(STDOUT_FILENO, out, done.at, 64);
     let end = put_totals(out, at, done.lines, done.entries);
     io::write_all(STDOUT_FILENO, &out[..end]);
 }
@@ -107,7 +109,7 @@ fn list_line(line: &[u8], out: &mut [u8], run: Run) -> Run
     ensures { λ r. ⌜ (r .held ≤ length (now (line .entry))) × (r .at ≤ length (now (out .entry))) ⌝ }
 {
     let held = run.held;
-    let at = make_room(out, run.at);
+    let at = make_room(STDOUT_FILENO, out, run.at, 64);
     let lines = more(run.lines);
     let mut slots = [0u32; 256];
     match parse(&line[..held], &mut slots) {
@@ -131,24 +133,4 @@ fn list_line(line: &[u8], out: &mut [u8], run: Run) -> Run
             }
         }
     }
-}
-
-// Writes the output once less than a row's room is left in it.
-fn make_room(out: &[u8], at: usize) -> usize
-    requires { ⌜ (64 ≤ length (now out)) × (at ≤ length (now out)) ⌝ }
-    ensures { λ r. ⌜ r + 64 ≤ length (now (out .entry)) ⌝ }
-{
-    if out.len() - at < 64 {
-        io::write_all(STDOUT_FILENO, &out[..at]);
-        return 0;
-    }
-    at
-}
-
-// One more; no count reaches the end of its type.
-fn more(n: u64) -> u64 {
-    if n < u64::MAX {
-        return n + 1;
-    }
-    n
 }

@@ -5,40 +5,12 @@ use crate::lent::Lent;
 use crate::row::{OrNone, put_hex, put_hex_or_none, put_list};
 use crate::tally::Said;
 use chomkadieu::{Book, ControlPacket, Field, Pdf, Refusal, Source};
+use oracle::trace::probe::packets::ASKED;
 use std::fmt::{self, Display, Write};
 
-/// The names that are always asked for; the book's own come behind them.
-const ASKED: [&str; 9] = [
-    "UUID",
-    "Packet Type",
-    "Adapter Num",
-    "Address",
-    "Offset",
-    "Read Size",
-    "Write Size",
-    "Properties Block Size",
-    "Properties Block Generation",
-];
-
-/// The kinds by their numbers; the crate has no kind above 12.
-const KINDS: [Pdf; 13] = [
-    Pdf::Unknown,
-    Pdf::ReadRequest,
-    Pdf::ReadResponse,
-    Pdf::WriteRequest,
-    Pdf::WriteResponse,
-    Pdf::Notification,
-    Pdf::NotificationAck,
-    Pdf::HotPlugEvent,
-    Pdf::XdomainRequest,
-    Pdf::XdomainResponse,
-    Pdf::IcmEvent,
-    Pdf::IcmRequest,
-    Pdf::IcmResponse,
-];
-
+/// The kind of a number; the crate has none above 12.
 pub fn kind_of(number: u8) -> Option<Pdf> {
-    KINDS.get(usize::from(number)).copied()
+    Some(Pdf::from_kind(number)).filter(|pdf| pdf.kind() == number)
 }
 
 /// The names to be asked for over a book with these names.

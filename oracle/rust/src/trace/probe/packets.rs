@@ -13,7 +13,7 @@ use std::collections::HashMap;
 use uuid::Uuid;
 
 /// The names that are always asked for; the book's own come behind them.
-const ASKED: [&str; 9] = [
+pub const ASKED: [&str; 9] = [
     "UUID",
     "Packet Type",
     "Adapter Num",

@@ -8,10 +8,10 @@ use Rattle.scan.specs.Parse.{slotsBy}
 use Rattle.writer.specs.declared.Written.{Written}
 use Rattle.writer.specs.declared.Written.the-variants as W
 use Rattle.writer.specs.Writing.{Writing, bufferBy}
-use Rattle.flat.specs.declared.Flat.{Flat}
-use Rattle.flat.specs.declared.Raised.{Raised}
-use Rattle.flat.specs.declared.Raised.the-variants as R
-use Rattle.flat.specs.Flat.{raiseOf}
+use Rattle.c_entry.specs.declared.Flat.{Flat}
+use Rattle.c_entry.specs.declared.Raised.{Raised}
+use Rattle.c_entry.specs.declared.Raised.the-variants as R
+use Rattle.c_entry.specs.Flat.{raiseOf}
 use Rattle.capi.specs.declared.EntryAnswer.{EntryAnswer}
 use Rattle.capi.specs.declared.WriteAnswer.{WriteAnswer}
 use Rattle.packet.specs.declared.Answer as P

@@ -18,9 +18,9 @@ use Rattle.record.proofs.Records.{Accepts, record-accepted-exactly}
 use Rattle.writer.specs.Writing.{bufferBy}
 use Rattle.writer.proofs.RoundTrips.{record-writes-back}
 use Rattle.intake.specs.Intake.{fromRecord}
-use Rattle.flat.specs.declared.Raised.the-variants as R
-use Rattle.flat.specs.Flat.{flatOf, raiseOf, ByteFits, WordFits, OptionalsFit}
-use Rattle.flat.proofs.Flats.{raise-flat}
+use Rattle.c_entry.specs.declared.Raised.the-variants as R
+use Rattle.c_entry.specs.Flat.{flatOf, raiseOf, ByteFits, WordFits, OptionalsFit}
+use Rattle.c_entry.proofs.Flats.{raise-flat}
 use Rattle.capi.specs.declared.EntryAnswer.{EntryAnswer}
 use Rattle.capi.specs.declared.WriteAnswer.{WriteAnswer}
 use Rattle.capi.specs.Calls.{Read, Wrote, answerBy, writtenBy, writeFor, recordFor}

@@ -10,10 +10,10 @@ use Rattle.scan.specs.Parse.{slotsBy}
 use Rattle.writer.specs.declared.Written.{Written}
 use Rattle.writer.specs.declared.Written.the-variants as W
 use Rattle.writer.specs.Writing.{bytesOf, writeOf, bufferBy}
-use Rattle.flat.specs.declared.Flat.{Flat}
-use Rattle.flat.specs.declared.Raised.{Raised}
-use Rattle.flat.specs.declared.Raised.the-variants as R
-use Rattle.flat.specs.Flat.{absent, flatOf, raiseOf}
+use Rattle.c_entry.specs.declared.Flat.{Flat}
+use Rattle.c_entry.specs.declared.Raised.{Raised}
+use Rattle.c_entry.specs.declared.Raised.the-variants as R
+use Rattle.c_entry.specs.Flat.{absent, flatOf, raiseOf}
 use Rattle.capi.specs.declared.EntryAnswer.{EntryAnswer}
 use Rattle.capi.specs.declared.WriteAnswer.{WriteAnswer}
 use Rattle.capi.specs.declared.EventName.{EventName}

@@ -5,7 +5,7 @@ use mathlib.Core.List.{List}
 use lib.ListN.{length}
 use Rattle.entry.specs.declared.optional.MaybeWord.{MaybeWord}
 use Rattle.entry.specs.declared.optional.MaybeWord.the-variants as W
-use Rattle.flat.specs.Flat.{flatWord}
+use Rattle.c_entry.specs.Flat.{flatWord}
 use Rattle.packet.specs.declared.Answer.{Answer}
 use Rattle.packet.specs.declared.Answer.the-variants as A
 use Rattle.packet.specs.declared.Packet.{Packet}

@@ -9,7 +9,7 @@ use Rattle.tlv.specs.Reading.{between}
 use Rattle.packet.specs.Field.{nameIn}
 use Rattle.field.specs.Names.{spanOf}
 use Rattle.print.specs.Put.{bufferAfter}
-use Rattle.flat.specs.Flat.{flagNumber}
+use Rattle.c_entry.specs.Flat.{flagNumber}
 use Rattle.book.specs.declared.Uuid.{Uuid}
 use Rattle.field.specs.declared.Source.{Source}
 use Rattle.field.specs.declared.Source.the-variants.{Control, Header, Protocol, Bare}

@@ -16,18 +16,18 @@ pub mod told;
 
 use book::Checked;
 use book::check;
+use c_entry::ABSENT;
+use c_entry::Flat;
+use c_entry::Raised;
+use c_entry::entry_of;
+use c_entry::flat_byte;
+use c_entry::flat_flag;
+use c_entry::flatten;
+use c_entry::raise;
 use entry::adapter_num;
 use entry::events::from_code;
 use entry::events::name_of;
 use entry::unplug;
-use flat::ABSENT;
-use flat::Flat;
-use flat::Raised;
-use flat::entry_of;
-use flat::flat_byte;
-use flat::flat_flag;
-use flat::flatten;
-use flat::raise;
 use scan::Answer;
 use scan::parse;
 use writer::Written;
@@ -39,7 +39,7 @@ ghost use Rattle.record.specs.Reading.{readOf, dwordsOf};
 ghost use Rattle.intake.specs.Intake.{takenOf, takenDwords, fromRecord};
 ghost use Rattle.book.specs.Reading.{checkOf, refusalOf};
 ghost use Rattle.entry.specs.Entry.{adapterOf, unplugOf};
-ghost use Rattle.flat.specs.Flat.{flatByte, flatFlag, byteOf};
+ghost use Rattle.c_entry.specs.Flat.{flatByte, flatFlag, byteOf};
 ghost use Rattle.capi.specs.Calls.{Read, Wrote, answerBy, writtenBy, nameBy, blankEntry};
 
 // Number 0 and the entry, or the number that refuses the text and a blank entry.

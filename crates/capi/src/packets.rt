@@ -1,7 +1,7 @@
 // The calls on packets.
 use book::Uuid;
+use c_entry::flat_word;
 use entry::optional::MaybeWord;
-use flat::flat_word;
 use packet::Answer;
 use packet::MaybeUuid;
 use packet::Packet;

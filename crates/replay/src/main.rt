@@ -1,8 +1,8 @@
 // Answers frames of standard input: each is its length and the dword slots lent, four bytes each, low byte first, then the line. For
 // each it writes a row with every field of the line's entry, or the number that refuses it.
-use answers::put_answer;
 use libc::STDIN_FILENO;
 use libc::STDOUT_FILENO;
+use oracle_line_rows::put_answer;
 ghost use mathlib.Core.Path.{_≡_};
 ghost use Prim.Native.Nat.{_+_, _≤_, _<_};
 ghost use lib.ListN.{length};

@@ -4,7 +4,7 @@
 // byte first. For each packet it writes a row with every answer, or the number that refuses it.
 use libc::STDIN_FILENO;
 use libc::STDOUT_FILENO;
-use packet_answers::put_answer;
+use oracle_packet_rows::put_answer;
 use tlv::four_at;
 ghost use Prim.Native.Nat.{_≤_, _<_};
 ghost use lib.ListN.{length};

@@ -1,6 +1,6 @@
 -- `ck_unplug` meets its contract: the question over the entry of the numbers. Assumes nothing.
 use mathlib.Core.Path.{_∙_, ap}
-use Rattle.flat.specs.Flat.{entryOf, flatFlag}
+use Rattle.c_entry.specs.Flat.{entryOf, flatFlag}
 use Rattle.entry.specs.declared.Entry.{Entry}
 use Rattle.entry.specs.Entry.{unplugOf}
 use borrow.Author.Needs.{needs}

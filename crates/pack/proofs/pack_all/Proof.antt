@@ -1,7 +1,7 @@
 -- `pack_all` meets its contract: what waits, and the totals, lie within their buffers. Assumes nothing.
 use mathlib.Core.Path.{sym}
 use lib.Seq.{length-take-le}
-use Rattle.rows.proofs.Putting.{put-size}
+use Rattle.listing_rows.proofs.Putting.{put-size}
 use native.Mathlib.Omega.{arith}
 use borrow.Author.Needs.{needs}
 use Rattle.pack.proofs.pack_all.Statement.{statement}

@@ -1,7 +1,7 @@
 -- `list_all` meets its contract: the totals were put within the buffer. Assumes nothing.
 use mathlib.Core.Path.{sym}
 use lib.Seq.{length-take-le}
-use Rattle.rows.proofs.Putting.{put-size}
+use Rattle.listing_rows.proofs.Putting.{put-size}
 use native.Mathlib.Omega.{arith}
 use borrow.Author.Needs.{needs}
 use Rattle.unpack.proofs.list_all.Statement.{statement}

@@ -1,0 +1,39 @@
+-- `put_refused` meets its contract: its parts one behind the other. Assumes nothing.
+use Rattle.listing_rows.proofs.Putting.{room-behind, refused-row}
+use native.Mathlib.Omega.{arith}
+use borrow.Author.Needs.{needs}
+use Rattle.listing_rows.proofs.put_refused.Statement.{statement}
+use Rattle.listing_rows.proofs.put_refused.Tie as tie
+
+put-decimal-requires : tie.Need-put-decimal-requires
+put-decimal-requires c κs = search needs
+
+slice-aggregate-put-number : tie.Need-slice-aggregate-put-number
+slice-aggregate-put-number c = search needs
+
+put-number-requires : tie.Need-put-number-requires
+put-number-requires c κs = omega (arith, room-behind (c .before .before .before .before .before .before .before .pre) _ (c .before .before .before .before .put-decimal .ensures))
+
+slice-aggregate-put : tie.Need-slice-aggregate-put
+slice-aggregate-put c = search needs
+
+put-requires : tie.Need-put-requires
+put-requires c κs = search needs
+
+same-length : tie.Need-same-length
+same-length c = search needs
+
+returns : tie.Need-returns
+returns c = refused-row (c .before .before .before .before .before .before .before .before .before .before .before .before .before .before .before .pre) _ _ (c .before .before .before .before .before .before .before .before .before .before .before .before .put-decimal .ensures) (c .before .before .before .before .before .before .before .put-number .ensures) (c .before .before .put .ensures)
+
+pub put-refused-spec : {M : Type 1} → statement M
+put-refused-spec =
+    tie.close
+    (tie.spec
+    put-decimal-requires
+    slice-aggregate-put-number
+    put-number-requires
+    slice-aggregate-put
+    put-requires
+    same-length
+    returns)

@@ -8,7 +8,7 @@
  * is lent. Slots, places, codes and bytes are written from the first on, as many as the answer says, and no others
  * (ck_packet_all says where its places stand).
  * Within that, each call is proved to answer as said here: the contracts stand in crates/capi/src, their definitions in
- * crates/capi/specs and crates/flat/specs/Flat.antt.
+ * crates/capi/specs and crates/c_entry/specs/Flat.antt.
  */
 #ifndef CHOMKADIEU_H
 #define CHOMKADIEU_H

@@ -1,0 +1,2 @@
+// What is shown of one line.
+pub mod escape;

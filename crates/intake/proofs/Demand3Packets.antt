@@ -195,7 +195,7 @@ round-says text next r =
     let next-is : next ≡ recordBytes (h .0) = r .handed-on ∙ ap (λ (n : ℕ). take n (r .written)) number ∙ w .first in
     (h .0, h .1, rw next-is (h .2 .is-record))
 
-comes-says : (text last : List ℕ) → Comes text last → (v : EntryValue) × Belongs text v × IsRecord last v
+pub comes-says : (text last : List ℕ) → Comes text last → (v : EntryValue) × Belongs text v × IsRecord last v
 comes-says text last (Comes.once r) = round-says text last r
 comes-says text last (Comes.again {next} a r) =
     let h = comes-says text next a in

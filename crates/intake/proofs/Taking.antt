@@ -1,9 +1,8 @@
 -- Record or line: the first byte decides, and each side's contract is the intake's. Assumes nothing.
 use Prim.Native.Nat.{ℕ}
 use mathlib.Core.Path.{_≡_, _∙_}
+use mathlib.Core.Bool.{true, false}
 use mathlib.Core.List.{List}
-use lib.ListN.{getD}
-use borrow.Author.Tests.{eq-eqb, ne-eqb}
 use Rattle.entry.specs.declared.Entry.{Entry}
 use Rattle.scan.specs.declared.Answer.{Answer}
 use Rattle.scan.specs.declared.Answer.the-variants as A
@@ -14,13 +13,13 @@ use Rattle.record.specs.Reading as Reading
 use Rattle.intake.specs.Intake.{startsA1, fromRecord, takenOf, takenDwords, Taken, RecordTaken}
 
 module _ (t out : List ℕ) {exit : List ℕ} where
-  pub taken-record : {r : Answer} → getD t 0 0 ≡ 0xA1 → RecordTaken t out exit r → Taken t out exit r
-  unfolding takenOf takenDwords startsA1
-  taken-record e p = record { answer = p .answer ∙ rw (eq-eqb _ _ e); slots = p .slots ∙ rw (eq-eqb _ _ e) }
+  pub taken-record : {r : Answer} → startsA1 t ≡ true → RecordTaken t out exit r → Taken t out exit r
+  unfolding takenOf takenDwords
+  taken-record e p = record { answer = p .answer ∙ rw e; slots = p .slots ∙ rw e }
 
-  pub taken-line : {r : Answer} → (getD t 0 0 ≡ 0xA1 → ⊥) → Line.Parsed t out exit r → Taken t out exit r
-  unfolding takenOf takenDwords startsA1
-  taken-line n p = record { answer = p .answer ∙ rw (ne-eqb _ _ n); slots = p .slots ∙ rw (ne-eqb _ _ n) }
+  pub taken-line : {r : Answer} → startsA1 t ≡ false → Line.Parsed t out exit r → Taken t out exit r
+  unfolding takenOf takenDwords
+  taken-line e p = record { answer = p .answer ∙ rw e; slots = p .slots ∙ rw e }
 
   module _ {q : Record.Answer} (read : Reading.Reading t out q exit) where
     pub record-entry : {e : Entry} → q ≡ R.Entry e → RecordTaken t out exit (A.Entry e)

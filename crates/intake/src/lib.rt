@@ -2,6 +2,7 @@
 //
 //     read      the entry of a text
 //     packet    the packet of a text, over a book
+//     what_is   record, line or neither
 mod room;
 
 use crate::room::at_most_256;
@@ -9,19 +10,35 @@ use crate::room::copy;
 use scan::Answer;
 use scan::parse;
 use text::place::byte_at;
+ghost use mathlib.Core.Path.{_≡_};
 ghost use Prim.Native.Nat.{_≤_};
 ghost use lib.ListN.{length};
-ghost use Rattle.intake.specs.Intake.{Taken, RecordTaken};
+ghost use Rattle.intake.specs.Intake.{startsA1, Taken, RecordTaken};
 ghost use Rattle.intake.specs.Packets.{PacketTaken, Handed};
+ghost use Rattle.intake.specs.What.{grammarOf, whatOf};
+
+// What a text is: it belongs to the record grammar, to the line grammar, or to neither, and then this number refuses it.
+pub enum What {
+    Record,
+    Line,
+    Neither(u8),
+}
 
 // The entry of a text, its dwords in the first slots; or the one number that refuses it, with no slot touched.
 pub fn read(text: &[u8], slots: &mut [u32]) -> Answer
     ensures { λ r. ⌜ Taken (now (text .entry)) (now (slots .entry)) (now (slots .exit)) r ⌝ }
 {
-    if byte_at(text, 0) == 0xA1 {
+    if starts_a1(text) {
         return read_record(text, slots);
     }
     parse(text, slots)
+}
+
+// Byte A1 is first, as it is in every record and in no line.
+fn starts_a1(text: &[u8]) -> bool
+    ensures { λ r. ⌜ r ≡ startsA1 (now (text .entry)) ⌝ }
+{
+    byte_at(text, 0) == 0xA1
 }
 
 fn read_record(text: &[u8], slots: &mut [u32]) -> Answer
@@ -64,4 +81,25 @@ fn hand_over(
         }
         packet::Answer::Refused(number) => packet::Answer::Refused(number),
     }
+}
+
+// What a text is. It is read into slots of the call's own, 256 of them, so no text is refused for want of slots, and nothing is lent for writing.
+pub fn what_is(text: &[u8]) -> What
+    ensures { λ r. ⌜ r ≡ whatOf (now (text .entry)) ⌝ }
+{
+    let mut slots = [0u32; 256];
+    match read(text, &mut slots[..256]) {
+        Answer::Entry(_) => grammar_of(text),
+        Answer::Refused(number) => What::Neither(number),
+    }
+}
+
+// The grammar of a text that was accepted.
+fn grammar_of(text: &[u8]) -> What
+    ensures { λ r. ⌜ r ≡ grammarOf (now (text .entry)) ⌝ }
+{
+    if starts_a1(text) {
+        return What::Record;
+    }
+    What::Line
 }

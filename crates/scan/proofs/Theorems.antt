@@ -143,7 +143,7 @@ line-clears t {v} a k c =
         omega (arith, a .few, r .there .more, ap length same)
 
 -- no number above 17 has a condition
-past-table : (t : List ℕ) (room k : ℕ) → 18 ≤ k → Condition t room k → ⊥
+pub past-table : (t : List ℕ) (room k : ℕ) → 18 ≤ k → Condition t room k → ⊥
 unfolding Condition
 past-table t room k l c =
     not-this 1 (omega arith) _ _ (not-this 2 (omega arith) _ _ (not-this 3 (omega arith) _ _ (not-this 4 (omega arith) _ _ (not-this 5 (omega arith) _ _

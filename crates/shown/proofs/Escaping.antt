@@ -63,6 +63,10 @@ escaped-more s i h =
     ∙ sym (escaped-append (take i s) (getD s i 0 ∷ []))
     ∙ ap escaped (sym (rw add-one (take-suc s i 0 h)))
 
+-- the place behind a text that was put is in the buffer
+pub put-within : {out s exit : List ℕ} {at r : ℕ} → Put out at s exit r → r ≤ length exit
+put-within p = omega (arith, p .fits, p .place, put-size p)
+
 module _ (out : List ℕ) (at : ℕ) (s : List ℕ) where
   -- the first i bytes are shown in place
   pub record Shown (now : List ℕ) (behind i : ℕ) : Type 0 where

@@ -1,0 +1,2 @@
+-- The bounds of a call.
+pub mod Bounds

@@ -40,11 +40,11 @@ module _ (t : List ℕ) (bytes : Bytes t) (long : 65539 ≤ length t) where
           let f = field-found t 0 (framed-is t e) in
           absurd (omega (arith, f .to-is, two-bytes t 1, bytes 1, bytes 2, long))
 
-  long-record : readOf t 256 ≡ R.Refused 30
+  pub long-record : readOf t 256 ≡ R.Refused 30
   unfolding readOf
   long-record = rw (← not-framed t long-unframed)
 
-  long-line : parseOf t 256 ≡ A.Refused (cond (eqb (getD t 0 0) 35) 1 2)
+  pub long-line : parseOf t 256 ≡ A.Refused (cond (eqb (getD t 0 0) 35) 1 2)
   unfolding parseOf withFrame frameOf idle
   long-line = go (eqb (getD t 0 0) 35) refl
     where

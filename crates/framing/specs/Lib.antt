@@ -1,0 +1,3 @@
+-- The units of a stream, and a part of it fed.
+pub mod Units
+pub mod Feeding

@@ -127,8 +127,8 @@ ck_entry_answer ck_record_read(const uint8_t *text, size_t length, uint32_t *slo
 /* The entry of a text that is taken as a record if its first byte is A1, else as a line. Numbers 1 to 17, 30 to 35. */
 ck_entry_answer ck_read(const uint8_t *text, size_t length, uint32_t *slots, size_t count);
 
-/* What a text is: CK_IS_RECORD exactly when it belongs to the record grammar, so that it was decoded before; CK_IS_LINE exactly when it belongs to
- * the line grammar; else CK_IS_NEITHER with the number that ck_read gives with CK_MOST_DWORDS slots. No slots are lent. Numbers 1 to 16, 30 to 34. */
+/* What a text is: CK_IS_RECORD exactly when it belongs to the record grammar, being decoded already; CK_IS_LINE exactly when it belongs to
+ * the line grammar; else CK_IS_NEITHER with the number that ck_read gives with CK_MOST_DWORDS slots. Numbers 1 to 16, 30 to 34. */
 ck_what_answer ck_what(const uint8_t *text, size_t length);
 
 /* The record of an entry whose task and function lie in the text and whose dwords are the first of those lent, into the first bytes of the

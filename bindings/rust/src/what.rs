@@ -4,7 +4,7 @@ use crate::{Refusal, raw};
 /// What a text is: exactly one of the three, for every text.
 #[derive(Clone, Copy, Debug, PartialEq, Eq, Hash)]
 pub enum What {
-    /// It belongs to the record grammar: it is what was written of an entry, so it was decoded before.
+    /// It belongs to the record grammar: it is what writing an entry gives, so it is decoded already.
     Record,
     /// It belongs to the line grammar.
     Line,

@@ -1,0 +1,4 @@
+-- The laws of what is moved, of the sink and of sentences.
+pub mod Moves
+pub mod Sinks
+pub mod Sentences

@@ -19,6 +19,7 @@ static void nothing(void) {}
 static void parse(void) { ck_parse(text, text_len, slots, CK_MOST_DWORDS); }
 static void read_record(void) { ck_record_read(record, record_len, slots, CK_MOST_DWORDS); }
 static void read_text(void) { ck_read(text, text_len, slots, CK_MOST_DWORDS); }
+static void what(void) { ck_what(text, text_len); }
 static void write_record(void) { ck_record_write(text, text_len, entry.entry, slots, entry.entry.dwords, record, sizeof record); }
 static void check_book(void) { ck_book_check(book, book_len); }
 static void packet(void) { ck_packet(8, book, book_len, crossing, 256, places, CK_MOST_DWORDS); }
@@ -36,6 +37,7 @@ static const struct {
     {"ck_record_write", write_record},
     {"ck_record_read", read_record},
     {"ck_read", read_text},
+    {"ck_what", what},
     {"ck_book_check", check_book},
     {"ck_packet", packet},
     {"ck_checked_packet", checked_packet},

@@ -65,6 +65,9 @@ enum {
 /* No line, record or packet has more dwords, no record more bytes. With that much lent, 17, 26, 35 and 36 do not occur. */
 enum { CK_MOST_DWORDS = 256, CK_MOST_BYTES = 5227 };
 
+/* What a text is: it belongs to neither grammar, to that of lines, or to that of records. */
+enum { CK_IS_NEITHER = 0, CK_IS_LINE = 1, CK_IS_RECORD = 2 };
+
 /* An entry. Its task and function are parts of the text that it was read from, its dwords the first of the slots that were lent. */
 typedef struct ck_entry {
     size_t task_at;        /* where the task starts in the text */
@@ -97,6 +100,12 @@ typedef struct ck_entry_answer {
     ck_entry entry;        /* the entry, or a blank one */
 } ck_entry_answer;
 
+/* What a text is, and why it is neither. */
+typedef struct ck_what_answer {
+    uint8_t number;        /* 0 for a line and for a record; for neither the number that refuses the text */
+    uint8_t what;          /* CK_IS_NEITHER, CK_IS_LINE or CK_IS_RECORD */
+} ck_what_answer;
+
 /* Number 0 and how many bytes were written; or another number and 0. */
 typedef struct ck_write_answer {
     uint8_t number;        /* 0, 36 or 37 */
@@ -117,6 +126,10 @@ ck_entry_answer ck_record_read(const uint8_t *text, size_t length, uint32_t *slo
 
 /* The entry of a text that is taken as a record if its first byte is A1, else as a line. Numbers 1 to 17, 30 to 35. */
 ck_entry_answer ck_read(const uint8_t *text, size_t length, uint32_t *slots, size_t count);
+
+/* What a text is: CK_IS_RECORD exactly when it belongs to the record grammar, being decoded already; CK_IS_LINE exactly when it belongs to
+ * the line grammar; else CK_IS_NEITHER with the number that ck_read gives with CK_MOST_DWORDS slots. Numbers 1 to 16, 30 to 34. */
+ck_what_answer ck_what(const uint8_t *text, size_t length);
 
 /* The record of an entry whose task and function lie in the text and whose dwords are the first of those lent, into the first bytes of the
  * buffer; no others change. Numbers 36, 37. */

@@ -141,6 +141,44 @@ static void records(void) {
     see(ck_read(bytes("\xa1\x03\x00\x02\x00\x00"), 6, slots, SLOTS).number == CK_BAD_BODY && untouched(0), "a body of a wrong length");
 }
 
+/* What a text is, with its number. */
+static int text_is(const void *text, size_t size, uint8_t what, uint8_t number) {
+    ck_what_answer a = ck_what((const uint8_t *)text, size);
+    return a.what == what && a.number == number;
+}
+
+/* A text that starts so and has so many bytes. */
+static const uint8_t *long_text(const char *start, size_t size) {
+    static uint8_t text[65540];
+    return (const uint8_t *)memcpy(memset(text, 'x', size), start, strlen(start));
+}
+
+static void whats(void) {
+    uint32_t dwords[SLOTS];
+    ck_entry e = ck_parse(bytes(EVENT), sizeof EVENT - 1, dwords, SLOTS).entry;
+    uint8_t *out = fresh_buffer();
+    size_t size = ck_record_write(bytes(EVENT), sizeof EVENT - 1, e, dwords, SLOTS, out, ROOM).bytes;
+    uint8_t found[ROOM];
+    memcpy(found, out, size);
+    see(text_is(EVENT, sizeof EVENT - 1, CK_IS_LINE, CK_OK) && text_is(FWD, sizeof FWD - 1, CK_IS_LINE, CK_OK), "a line is a line");
+    see(text_is(out, size, CK_IS_RECORD, CK_OK), "its record is a record");
+    see(!memcmp(out, found, size) && unwritten(size), "and what was lent is as found");
+    see(text_is(out, size - 1, CK_IS_NEITHER, CK_NO_RECORD), "a record cut short is neither");
+    see(text_is(out + 1, size - 1, CK_IS_NEITHER, CK_HIGH), "nor is one without its A1");
+    static const struct { const char *text; size_t size; uint8_t number; } cases[] = {
+        {"", 0, CK_IDLE}, {"\n", 1, CK_IDLE}, {"# tracer: nop\n", 14, CK_IDLE}, {"a\x80:", 3, CK_HIGH}, {"nonsense", 8, CK_NO_COLON},
+        {"\xa1", 1, CK_NO_RECORD}, {"\xa1\x00\x00", 3, CK_MISSING_TAG}, {"\xa1\x01\x00\x01", 4, CK_OVERRUN},
+        {"\xa1\x03\x00\x14\x00\x00", 6, CK_BAD_TAG}, {"\xa1\x03\x00\x02\x00\x00", 6, CK_BAD_BODY}};
+    for (size_t i = 0; i < sizeof cases / sizeof *cases; i++)
+        see(text_is(cases[i].text, cases[i].size, CK_IS_NEITHER, cases[i].number), "a text that is neither, by its number");
+    char line[4096];
+    see(text_is(line, many(line, 256), CK_IS_LINE, CK_OK), "256 dwords are a line");
+    see(text_is(line, many(line, 257), CK_IS_NEITHER, CK_MANY_DWORDS), "257 are not, and not for want of slots");
+    see(text_is(long_text("a", 4097), 4097, CK_IS_NEITHER, CK_LONG) && text_is(long_text("#", 65540), 65540, CK_IS_NEITHER, CK_IDLE), "long lines");
+    see(text_is(long_text("\xa1\xff\xff", 65538), 65538, CK_IS_NEITHER, CK_BAD_TAG), "65,538 bytes may be framed");
+    see(text_is(long_text("\xa1\xff\xff", 65539), 65539, CK_IS_NEITHER, CK_NO_RECORD), "65,539 may not");
+}
+
 static void refused_entries(void) {
     uint32_t dwords[SLOTS];
     const ck_entry good = ck_parse(bytes(EVENT), sizeof EVENT - 1, dwords, SLOTS).entry;
@@ -381,6 +419,7 @@ int main(int count, char **words) {
     refused_lines();
     limits();
     records();
+    whats();
     refused_entries();
     questions();
     books();

@@ -80,6 +80,7 @@ WRAP(uint32_t, ck_adapter_num, a = entry.port, LIST(ck_entry entry), LIST(entry)
 WRAP(uint32_t, ck_unplug, a = entry.unplug, LIST(ck_entry entry), LIST(entry))
 WRAP(ck_entry_answer, ck_record_read, a.entry.pid ^= 1, LIST(const uint8_t *text, size_t len, uint32_t *slots, size_t count),
      LIST(text, len, slots, count))
+WRAP(ck_what_answer, ck_what, a.what ^= 1, LIST(const uint8_t *text, size_t len), LIST(text, len))
 WRAP(ck_packet_answer, ck_checked_packet, a.start ^= 1, LIST(PACKET, uint32_t *places, size_t places_len), LIST(PACKET_ARGS, places, places_len))
 WRAP(ck_text_packet, ck_read_packet, a.dwords ^= 1,
      LIST(const uint8_t *text, size_t len, const uint8_t *book, size_t book_len, uint32_t *slots, size_t count, uint32_t *places, size_t places_len),

@@ -1,4 +1,4 @@
-/* The intake: lines and records, with a book, to ck_read and ck_read_packet. Choices: slots lent (2 bytes), places lent (2). */
+/* The intake: lines and records, with a book, to ck_read, ck_read_packet and ck_what. Choices: slots lent (2 bytes), places lent (2). */
 #include "entries.h"
 #include "packets.h"
 
@@ -43,6 +43,16 @@ static void by_steps(const taken *t, const told *e, part book, size_t places_len
     must(!memcmp(t->slots, e->dwords, 4 * q.count) && !memcmp(t->places, places, 4 * q.count), "and dwords and places");
 }
 
+/* What the text is, told by reading it into enough slots. */
+static void what_by_reading(part text) {
+    static told e;
+    read_into(&e, ck_read, text.at, text.len, CK_MOST_DWORDS);
+    ck_what_answer w = ck_what(text.at, text.len);
+    uint8_t accepted = text.len && text.at[0] == 0xa1 ? CK_IS_RECORD : CK_IS_LINE;
+    must(w.number == e.number, "what is neither is refused with the number of the intake");
+    must(w.what == (e.number == CK_OK ? accepted : CK_IS_NEITHER), "an accepted text is a record if it starts with A1, else a line");
+}
+
 int LLVMFuzzerTestOneInput(const uint8_t *data, size_t size) {
     static told e;
     static taken first, again;
@@ -53,6 +63,7 @@ int LLVMFuzzerTestOneInput(const uint8_t *data, size_t size) {
     read_into(&e, ck_read, text.at, text.len, slots);
     must(e.number <= CK_FEW_SLOTS || (e.number >= CK_NO_RECORD && e.number <= CK_RECORD_SLOTS), "the intake gives 0, 1 to 17 or 30 to 35");
     must(e.number == CK_OK || (text.len && text.at[0] == 0xa1) == (e.number >= CK_NO_RECORD), "30 and up are of texts that start with A1");
+    what_by_reading(text);
     take_packet(&first, text, book, slots, places);
     tally(first.is.packet.number);
     by_steps(&first, &e, book, places);

@@ -24,6 +24,7 @@ mod packet;
 mod pdf;
 mod raw;
 mod refusal;
+mod what;
 
 pub use book::Book;
 pub use entry::{Entry, Timestamp};
@@ -31,6 +32,7 @@ pub use event::Event;
 pub use packet::{ControlPacket, Field, Range, Source};
 pub use pdf::Pdf;
 pub use refusal::Refusal;
+pub use what::{What, what};
 
 /// No line or record has more dwords: with as many slots, none is refused for want of slots.
 pub const MOST_DWORDS: usize = 256;

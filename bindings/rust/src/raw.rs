@@ -37,6 +37,13 @@ pub struct EntryAnswer {
     entry: RawEntry,
 }
 
+/// `ck_what_answer`.
+#[repr(C)]
+pub struct WhatAnswer {
+    number: u8,
+    what: u8,
+}
+
 /// `ck_write_answer`.
 #[repr(C)]
 pub struct WriteAnswer {
@@ -146,6 +153,7 @@ calls! {
     ck_parse([line: u8], [mut slots: u32]) -> EntryAnswer;
     ck_record_read([text: u8], [mut slots: u32]) -> EntryAnswer;
     ck_read([text: u8], [mut slots: u32]) -> EntryAnswer;
+    ck_what([text: u8]) -> WhatAnswer;
     ck_record_write([text: u8], entry: RawEntry, [dwords: u32], [mut out: u8]) -> WriteAnswer;
     ck_book_check([book: u8]) -> u8;
     ck_event_name(code: u8) -> EventText;
@@ -189,6 +197,14 @@ pub fn record_read(text: &[u8], slots: &mut [u32]) -> Result<RawEntry, u8> {
 
 pub fn read(text: &[u8], slots: &mut [u32]) -> Result<RawEntry, u8> {
     entry(ck_read(text, slots))
+}
+
+/// Is it a record, and not a line?
+pub fn what(text: &[u8]) -> Result<bool, u8> {
+    /// `CK_IS_RECORD`.
+    const RECORD: u8 = 2;
+    let answer = ck_what(text);
+    accepted(answer.number, answer.what == RECORD)
 }
 
 /// How many bytes were written.

@@ -1,5 +1,5 @@
 //! The safe side of the C calls: answers, refusals, and lent memory that stays as it was.
-use chomkadieu::{Book, Entry, Event, MOST_BYTES, MOST_DWORDS, Pdf, Refusal};
+use chomkadieu::{Book, Entry, Event, MOST_BYTES, MOST_DWORDS, Pdf, Refusal, What, what};
 
 const FWD: &[u8] =
     b" fwd-7 [002] d..1. 12.000345: tb_tx: type=TB_CFG_PKG_READ, size=3, domain=0, route=0, data=[0x0, 0x0, 0x04002001]\n";
@@ -78,6 +78,37 @@ fn line_and_record_are_one_entry() {
         Entry::parse(FWD, &mut a).unwrap(),
         Entry::parse(EVENT, &mut b).unwrap()
     );
+}
+
+#[test]
+fn a_text_is_a_record_a_line_or_neither() {
+    for line in [FWD, EVENT] {
+        let mut slots = [0; MOST_DWORDS];
+        let mut record = [0; MOST_BYTES];
+        let size = Entry::read(line, &mut slots)
+            .unwrap()
+            .write(&mut record)
+            .unwrap();
+        assert_eq!(
+            (what(line), what(&record[..size])),
+            (What::Line, What::Record)
+        );
+        assert_eq!(what(&record[..size - 1]), What::Neither(Refusal::NoRecord));
+    }
+    for (text, refusal) in [
+        (&b""[..], Refusal::Idle),
+        (&[b'x'; 4097], Refusal::LongLine),
+        (b"nonsense", Refusal::NoColon),
+        (b"\xa1\x00\x00", Refusal::MissingTag),
+        (&[0xa1; 65539], Refusal::NoRecord),
+    ] {
+        assert_eq!(what(text), What::Neither(refusal));
+    }
+    // A line of 257 dwords is refused for these, and not for want of slots.
+    let mut line = b"a-1 [002] 1.2: f: type=t size=3 domain=0 route=0 data=[1".to_vec();
+    line.extend(b", 1".repeat(256));
+    line.push(b']');
+    assert_eq!(what(&line), What::Neither(Refusal::ManyDwords));
 }
 
 #[test]

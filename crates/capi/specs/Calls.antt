@@ -10,11 +10,15 @@ use Rattle.scan.specs.Parse.{slotsBy}
 use Rattle.writer.specs.declared.Written.{Written}
 use Rattle.writer.specs.declared.Written.the-variants as W
 use Rattle.writer.specs.Writing.{bytesOf, writeOf, bufferBy}
+use Rattle.intake.specs.declared.What.{What}
+use Rattle.intake.specs.declared.What.the-variants as Text
+use Rattle.intake.specs.What.{numberOf}
 use Rattle.c_entry.specs.declared.Flat.{Flat}
 use Rattle.c_entry.specs.declared.Raised.{Raised}
 use Rattle.c_entry.specs.declared.Raised.the-variants as R
 use Rattle.c_entry.specs.Flat.{absent, flatOf, raiseOf}
 use Rattle.capi.specs.declared.EntryAnswer.{EntryAnswer}
+use Rattle.capi.specs.declared.WhatAnswer.{WhatAnswer}
 use Rattle.capi.specs.declared.WriteAnswer.{WriteAnswer}
 use Rattle.capi.specs.declared.EventName.{EventName}
 
@@ -54,6 +58,16 @@ answerBy (A.Refused k) = record { number = k; entry = blankEntry }
 pub record Read (answer : Answer) (dwords out exit : List ℕ) (r : EntryAnswer) : Type 0 where
   pub is : r ≡ answerBy answer
   pub slots : exit ≡ slotsBy answer dwords out
+
+-- what a text is, as a number: 0 neither, 1 a line, 2 a record
+abbrev pub caseOf : What → ℕ
+caseOf Text.Record = 2
+caseOf Text.Line = 1
+caseOf (Text.Neither k) = 0
+
+-- that, and the number that refuses the text, 0 where nothing is refused
+unfoldable pub whatBy : What → WhatAnswer
+whatBy w = record { number = numberOf w; what = caseOf w }
 
 -- the writer's answer: number 0 and how many bytes, or the number and no byte
 unfoldable pub writtenBy : Written → WriteAnswer

@@ -2,6 +2,7 @@
 // stands for; include/chomkadieu.h says what for.
 //
 //     ck_parse, ck_record_read, ck_read        a line, a record, either of them: its entry
+//     ck_what                                  a text: record, line or neither
 //     ck_record_write                          an entry: its record
 //     ck_book_check                            a book: accepted, or number 20
 //     ck_event_name, ck_adapter_num, ck_unplug what an entry is asked
@@ -28,6 +29,8 @@ use entry::adapter_num;
 use entry::events::from_code;
 use entry::events::name_of;
 use entry::unplug;
+use intake::What;
+use intake::what_is;
 use scan::Answer;
 use scan::parse;
 use writer::Written;
@@ -37,16 +40,24 @@ ghost use lib.ListN.{length};
 ghost use Rattle.scan.specs.Parse.{parseOf, lineDwords};
 ghost use Rattle.record.specs.Reading.{readOf, dwordsOf};
 ghost use Rattle.intake.specs.Intake.{takenOf, takenDwords, fromRecord};
+ghost use Rattle.intake.specs.What.{whatOf};
 ghost use Rattle.book.specs.Reading.{checkOf, refusalOf};
 ghost use Rattle.entry.specs.Entry.{adapterOf, unplugOf};
 ghost use Rattle.c_entry.specs.Flat.{flatByte, flatFlag, byteOf};
-ghost use Rattle.capi.specs.Calls.{Read, Wrote, answerBy, writtenBy, nameBy, blankEntry};
+ghost use Rattle.capi.specs.Calls.{Read, Wrote, answerBy, whatBy, writtenBy, nameBy, blankEntry};
 
 // Number 0 and the entry, or the number that refuses the text and a blank entry.
 #[repr(C)]
 pub struct EntryAnswer {
     pub number: u8,
     pub entry: Flat,
+}
+
+// 2 for a record, 1 for a line, both with number 0; 0 for neither, with the number that refuses the text.
+#[repr(C)]
+pub struct WhatAnswer {
+    pub number: u8,
+    pub what: u8,
 }
 
 // Number 0 and how many bytes were written, or the number that refuses the entry and no byte.
@@ -88,6 +99,21 @@ pub extern "C" fn ck_read(text: &[u8], slots: &mut [u32]) -> EntryAnswer
     ensures { λ r. ⌜ Read (takenOf (now (text .entry)) (length (now (slots .entry)))) (takenDwords (now (text .entry))) (now (slots .entry)) (now (slots .exit)) r ⌝ }
 {
     answer_of(intake::read(text, slots))
+}
+
+// What a text is.
+#[no_mangle]
+pub extern "C" fn ck_what(text: &[u8]) -> WhatAnswer
+    ensures { λ r. ⌜ r ≡ whatBy (whatOf (now (text .entry))) ⌝ }
+{
+    match what_is(text) {
+        What::Record => WhatAnswer { number: 0, what: 2 },
+        What::Line => WhatAnswer { number: 0, what: 1 },
+        What::Neither(number) => WhatAnswer {
+            number: number,
+            what: 0,
+        },
+    }
 }
 
 // The record of an entry into the first bytes of the buffer. Numbers that no entry has are out of the record's ranges: 37.

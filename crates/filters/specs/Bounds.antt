@@ -1,7 +1,5 @@
 -- How much room a call asks for, and that it stays within what it is lent. All numbers but the runs are lengths.
 use Prim.Native.Nat.{ℕ, _+_, _≤_, _<_}
-use mathlib.Core.List.{List, []}
-use Rattle.listing_rows.specs.Rows.{Put}
 use Rattle.filters.specs.declared.Run.{Run}
 
 -- room for what a unit and the totals may put out: a record has at most 5,227 bytes, a row at most 160
@@ -24,10 +22,3 @@ Goes part out told run r = run .from < part → run .at + 5400 ≤ out → run .
 -- it stops before the part is used up only for want of room
 abbrev pub Stops : ℕ → ℕ → ℕ → Run → Type 0
 Stops part out told r = r .from < part → r .at + 5400 ≤ out → r .told + 400 ≤ told → ⊥
-
-abbrev pub Took : Run → Run → Type 0
-Took run r = run .from ≤ r .from
-
-pub record Finished (out told : List ℕ) (run : Run) (out′ told′ : List ℕ) (r : Run) : Type 0 where
-  pub put : Put out (run .at) [] out′ (r .at)
-  pub tells : Put told (run .told) [] told′ (r .told)

@@ -1,2 +1,6 @@
--- The bounds of a call.
+-- What the filters put out: of a whole input, of each unit, and of each call.
+pub mod Texts
 pub mod Bounds
+pub mod Filter
+pub mod Rows
+pub mod Calls

@@ -79,7 +79,7 @@ pub record WhatATextIs : Type 0 where
   pub one-holds : (text : List ℕ) → Bytes text → (r : What) × Is text r
   -- No two of them hold of one text, nor two numbers.
   pub no-two-hold : (text : List ℕ) → Bytes text → (q r : What) → Is text q → Is text r → q ≡ r
-  -- Already decoded: it says "record" exactly when the text is what some text became by being read and its entry written, once or more often.
+  -- Already decoded: it says "record" exactly when the text is what reading some text and writing its entry gives, once or more often.
   pub already-decoded : (text : List ℕ) (answer : What) → WhatCall text answer → (answer ≡ W.Record) ↔ ((first : List ℕ) × Comes first text)
   -- The number of a text that starts with A1 is 30 to 34.
   pub record-numbers : (text : List ℕ) (k : ℕ) → Outside text k → startsA1 text ≡ true → (30 ≤ k) × (k ≤ 34)

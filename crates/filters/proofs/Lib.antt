@@ -1,0 +1,5 @@
+-- What a unit puts out, and what a chain of them does.
+pub mod Parts
+pub mod Records
+pub mod UnitTexts
+pub mod Turns

@@ -1,0 +1,29 @@
+-- `count` meets its contract, by what the unit is seen as. Assumes nothing.
+use Rattle.filters.proofs.UnitTexts.{count-entry, count-refused}
+use native.Mathlib.Omega.{arith}
+use borrow.Author.Needs.{needs}
+use Rattle.filters.proofs.row.count.Statement.{statement}
+use Rattle.filters.proofs.row.count.Tie as tie
+
+more-requires : tie.Need-more-requires
+more-requires c κs = search needs
+
+enum-known-seen : tie.Need-enum-known-seen
+enum-known-seen c = search needs
+
+more-requires-2 : tie.Need-more-requires-2
+more-requires-2 c κs = search needs
+
+enum-known-seen-2 : tie.Need-enum-known-seen-2
+enum-known-seen-2 c = search needs
+
+returns : tie.Need-returns
+returns c = count-entry _ (c .before .before .before .before .more .ensures) (c .before .before .seen .given .1) (c .more2 .ensures)
+
+returns-2 : tie.Need-returns-2
+returns-2 c = count-refused _ (c .before .before .before .more .ensures) (c .before .seen2 .given .1)
+
+pub count-spec : {M : Type 1} → statement M
+count-spec =
+    tie.close
+    (tie.spec more-requires enum-known-seen more-requires-2 enum-known-seen-2 returns returns-2)

@@ -1,0 +1,93 @@
+-- However the input is cut into parts, what the calls put out in order is the definition of the whole input: each output is the general law with that
+-- output's text, and the counts count. Assumes nothing.
+use Prim.Native.Nat.{ℕ, _+_, _^_, _≤_, _<_}
+use mathlib.Core.Path.{_≡_, refl, sym, ap, _∙_}
+use mathlib.Core.Bool.{Bool, true, false, cond}
+use mathlib.Core.List.{List, [], _∷_, _++_, append-assoc, append-nil}
+use native.Mathlib.Omega.{arith}
+use lib.ListN.{length, take}
+use Rattle.tlv.specs.Number.{Bytes}
+use Rattle.listing_rows.specs.Rows.{totalsRow, stopRow}
+use Rattle.framing.specs.Units.{closed, unitsOf}
+use Rattle.framing.specs.Feeding.{between}
+use Rattle.filters.specs.declared.Filter.{Filter}
+use Rattle.filters.specs.declared.Filter.the-variants as F
+use Rattle.filters.specs.declared.Counts.{Counts}
+use Rattle.filters.specs.Texts.{framingOf, seenLine, seenRecord}
+use Rattle.filters.specs.Filter.{outText, toldText, nextCounts, lastOut, lastTold, after, texts}
+use Rattle.filters.specs.Calls.{Took, Finished}
+use Rattle.filters.proofs.Parts.{put-between}
+use Rattle.whole_output.specs.Output.{entriesIn, linesBefore, hasRecord, refusedRows, listingOf, unpackingOf, packingOf, packingTells}
+use Rattle.whole_output.specs.Chains.{fresh, Calls, Went, WholeOutput}
+use Rattle.whole_output.proofs.Kept.{out-kept, told-kept, next-kept, units-bytes}
+use Rattle.whole_output.proofs.Streaming.{SoFar, so-far-none, so-far-then, whole-texts, whole-after}
+use Rattle.whole_output.proofs.Counting.{listed-is, tells-nothing, records-are, tells-are}
+
+-- both outputs of a chain of calls
+put-so-far : (f : Filter) {cap : ℕ} {taken put told held : List ℕ} {c : Counts} → Calls f cap taken put told held c → SoFar (nextCounts f) (outText f) (framingOf f) cap fresh taken put held c
+put-so-far f {cap} Calls.none = so-far-none (nextCounts f) (outText f) (framingOf f) cap fresh
+put-so-far f {cap} (Calls.call s unit out tell run unit′ out′ tell′ r before size open-is same t) =
+    so-far-then (nextCounts f) (outText f) (framingOf f) cap fresh (put-so-far f before) (between s (run .from) (r .from)) (between out′ (run .at) (r .at)) (take (r .held) unit′) (r .counts)
+    (put-between (t .put) ∙ rw (size, open-is, same))
+    (t .open-is ∙ rw (size, open-is))
+    (t .counts-is ∙ rw (size, open-is, same))
+
+told-so-far : (f : Filter) {cap : ℕ} {taken put told held : List ℕ} {c : Counts} → Calls f cap taken put told held c → SoFar (nextCounts f) (toldText f) (framingOf f) cap fresh taken told held c
+told-so-far f {cap} Calls.none = so-far-none (nextCounts f) (toldText f) (framingOf f) cap fresh
+told-so-far f {cap} (Calls.call s unit out tell run unit′ out′ tell′ r before size open-is same t) =
+    so-far-then (nextCounts f) (toldText f) (framingOf f) cap fresh (told-so-far f before) (between s (run .from) (r .from)) (between tell′ (run .told) (r .told)) (take (r .held) unit′) (r .counts)
+    (put-between (t .tells) ∙ rw (size, open-is, same))
+    (t .open-is ∙ rw (size, open-is))
+    (t .counts-is ∙ rw (size, open-is, same))
+
+module _ (f : Filter) {input put told : List ℕ} (w : Went f input put told) where
+  abbrev units : List (List ℕ)
+  units = unitsOf (framingOf f) input
+
+  pub put-whole : put ≡ texts (nextCounts f) (outText f) fresh units ++ lastOut f (after (nextCounts f) fresh units)
+  put-whole =
+      let good = units-bytes (framingOf f) input (w .bytes) in
+      let x = put-so-far f (w .calls) in
+      let all = whole-texts (nextCounts f) (outText f) (framingOf f) (w .cap) fresh (w .enough) Bytes (λ c u b. out-kept (w .cap) (w .enough) u b f c) (λ c u b. next-kept (w .cap) (w .enough) u b f c) x good in
+      let end = whole-after (nextCounts f) (outText f) (framingOf f) (w .cap) fresh (w .enough) Bytes (λ c u b. out-kept (w .cap) (w .enough) u b f c) (λ c u b. next-kept (w .cap) (w .enough) u b f c) x good in
+      w .put-is
+      ∙ ap (λ (t : List ℕ). w .put-before ++ t) (put-between (w .finish .put) ∙ rw (w .counts-pass))
+      ∙ sym (append-assoc (w .put-before) (texts (nextCounts f) (outText f) (w .counts) (closed (w .held))) (lastOut f (after (nextCounts f) (w .counts) (closed (w .held)))))
+      ∙ rw (all, end)
+
+  pub told-whole : told ≡ texts (nextCounts f) (toldText f) fresh units ++ lastTold f (after (nextCounts f) fresh units)
+  told-whole =
+      let good = units-bytes (framingOf f) input (w .bytes) in
+      let x = told-so-far f (w .calls) in
+      let all = whole-texts (nextCounts f) (toldText f) (framingOf f) (w .cap) fresh (w .enough) Bytes (λ c u b. told-kept (w .cap) (w .enough) u b f c) (λ c u b. next-kept (w .cap) (w .enough) u b f c) x good in
+      let end = whole-after (nextCounts f) (toldText f) (framingOf f) (w .cap) fresh (w .enough) Bytes (λ c u b. told-kept (w .cap) (w .enough) u b f c) (λ c u b. next-kept (w .cap) (w .enough) u b f c) x good in
+      w .told-is
+      ∙ ap (λ (t : List ℕ). w .told-before ++ t) (put-between (w .finish .tells) ∙ rw (w .counts-pass))
+      ∙ sym (append-assoc (w .told-before) (texts (nextCounts f) (toldText f) (w .counts) (closed (w .held))) (lastTold f (after (nextCounts f) (w .counts) (closed (w .held)))))
+      ∙ rw (all, end)
+
+pub listing-is-whole : (input put told : List ℕ) → Went F.Listing input put told → (put ≡ listingOf input) × (told ≡ [])
+unfolding outText toldText nextCounts lastOut lastTold listingOf
+listing-is-whole input put told w =
+    (put-whole F.Listing w ∙ listed-is F.Listing seenLine (λ c u. refl) (λ c u. refl) (λ c. refl) (unitsOf (framingOf F.Listing) input) (w .few), told-whole F.Listing w ∙ tells-nothing F.Listing (λ c u. refl) (λ c. refl) fresh (unitsOf (framingOf F.Listing) input))
+
+pub unpacking-is-whole : (input put told : List ℕ) → Went F.Unpack input put told → (put ≡ unpackingOf input) × (told ≡ [])
+unfolding outText toldText nextCounts lastOut lastTold unpackingOf
+unpacking-is-whole input put told w =
+    (put-whole F.Unpack w ∙ listed-is F.Unpack seenRecord (λ c u. refl) (λ c u. refl) (λ c. refl) (unitsOf (framingOf F.Unpack) input) (w .few), told-whole F.Unpack w ∙ tells-nothing F.Unpack (λ c u. refl) (λ c. refl) fresh (unitsOf (framingOf F.Unpack) input))
+
+pub packing-is-whole : (input put told : List ℕ) → Went F.Pack input put told → (put ≡ packingOf input) × (told ≡ packingTells input)
+unfolding lastOut packingOf packingTells
+packing-is-whole input put told w =
+    let us : List (List ℕ) = unitsOf (framingOf F.Pack) input in
+    let k : 0 + length (unitsOf (framingOf F.Pack) input) < 2 ^ 64 = omega (arith, w .few) in
+    let a : 0 + length (unitsOf (framingOf F.Pack) input) ≡ length (unitsOf (framingOf F.Pack) input) = omega arith in
+    let b : 0 + entriesIn seenLine (unitsOf (framingOf F.Pack) input) ≡ entriesIn seenLine (unitsOf (framingOf F.Pack) input) = omega arith in
+    let d : 0 + length (linesBefore (unitsOf (framingOf F.Pack) input)) + 1 ≡ length (linesBefore (unitsOf (framingOf F.Pack) input)) + 1 = omega arith in
+    (put-whole F.Pack w ∙ records-end input k, told-whole F.Pack w ∙ tells-are (unitsOf (framingOf F.Pack) input) 0 0 k k ∙ rw (a, b, d))
+  where
+    records-end : (input : List ℕ) → 0 + length (unitsOf (framingOf F.Pack) input) < 2 ^ 64 → texts (nextCounts F.Pack) (outText F.Pack) fresh (unitsOf (framingOf F.Pack) input) ++ lastOut F.Pack (after (nextCounts F.Pack) fresh (unitsOf (framingOf F.Pack) input)) ≡ packingOf input
+    records-end input k = append-nil (texts (nextCounts F.Pack) (outText F.Pack) fresh (unitsOf (framingOf F.Pack) input)) ∙ records-are (unitsOf (framingOf F.Pack) input) 0 0 k k
+
+pub whole-output : WholeOutput
+whole-output = record { listing = listing-is-whole; packing = packing-is-whole; unpacking = unpacking-is-whole }

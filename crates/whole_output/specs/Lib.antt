@@ -1,0 +1,3 @@
+-- What each filter puts out for a whole input, and the calls that do.
+pub mod Output
+pub mod Chains

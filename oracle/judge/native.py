@@ -64,14 +64,14 @@ class Lent:
 
 
 class Calls:
-    """Builds the archive, makes a library of it that Python can load, and calls it."""
+    """Makes a library of the archive that Python can load, and calls it."""
 
     def __init__(self):
         folder = os.path.join(TOP, "oracle", "target")
         os.makedirs(folder, exist_ok=True)
-        subprocess.run(["rt", "staticlib", "capi"], check=True, cwd=TOP, stdout=subprocess.DEVNULL)
         shared = os.path.join(folder, "libcapi.so")
-        archive = os.path.join(TOP, "target", "staticlib", "libcapi.a")
+        built = subprocess.run([os.path.join(TOP, "tests", "archive")], check=True, stdout=subprocess.PIPE, text=True)
+        archive = os.path.join(built.stdout.rstrip("\n"), "libcapi.a")
         subprocess.run(
             [os.environ.get("CC", "cc"), "-shared", "-o", shared, "-Wl,--whole-archive", archive,
              "-Wl,--no-whole-archive"], check=True)

@@ -1,5 +1,6 @@
 /* The C calls as a C program sees them: answers, refusals by their number, and lent memory that stays as found. Ends with 1 if one is wrong. */
 #include "chomkadieu.h"
+#include "see.h"
 
 #include <stdio.h>
 #include <string.h>
@@ -8,7 +9,7 @@ enum { SLOTS = 256, ROOM = CK_MOST_BYTES, GUARD = 16 };
 
 static unsigned passed, failed;
 
-static void see(int holds, const char *what) {
+void see(int holds, const char *what) {
     if (holds) {
         passed++;
         return;
@@ -411,7 +412,9 @@ static void crossing(void) {
 }
 
 int main(int count, char **words) {
-    if (count < 2 || !load_book(words[1])) return puts("usage: calls BOOK"), 2;
+    if (count != 3 || !load_book(words[1])) return puts("usage: capi BOOK LAYOUT"), 2;
+    setvbuf(stdout, NULL, _IOLBF, 0); /* what was told is heard also if a call breaks down */
+    every_offset(words[2]);
     lines();
     refused_lines();
     limits();
@@ -427,6 +430,7 @@ int main(int count, char **words) {
     batches();
     texts();
     crossing();
+    every_field(book, book_len);
     printf("%u passed, %u failed\n", passed, failed);
     return failed != 0;
 }

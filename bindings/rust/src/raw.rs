@@ -370,3 +370,58 @@ pub fn name(book: &[u8], place: usize) -> Option<&str> {
 pub fn value_name(book: &[u8], range: usize, number: u32) -> Option<&str> {
     name(book, ck_value_at(book, range, number))
 }
+
+#[cfg(test)]
+mod layout {
+    extern crate std;
+    use super::*;
+    use core::mem::{offset_of, size_of};
+    use std::format;
+    use std::string::String;
+
+    /// How many bytes a field takes, by a function that would hand it out.
+    fn size_of_field<S, F>(_: fn(&S) -> &F) -> usize {
+        size_of::<F>()
+    }
+
+    /// A row for the struct and one for each field, by the names of the header: offset and size.
+    macro_rules! rows {
+        ($($header:ident $ours:ident { $($field:ident),* })*) => {{
+            let mut rows = String::new();
+            $(
+                rows += &format!("{} 0 {}\n", stringify!($header), size_of::<$ours>());
+                $(
+                    let (at, size) = (offset_of!($ours, $field), size_of_field(|s: &$ours| &s.$field));
+                    rows += &format!("{}.{} {at} {size}\n", stringify!($header), stringify!($field));
+                )*
+            )*
+            rows
+        }};
+    }
+
+    /// The file that the C test holds the header to; this crate asks for a text's entry first and has no `ck_text_packet`.
+    #[test]
+    fn each_field_lies_where_it_does_in_c() {
+        let ours = rows! {
+            ck_entry RawEntry {
+                task_at, task_len, pid, cpu, seconds, microseconds, function_at, function_len, kind, size, dropped, domain, route, offset, code,
+                len, port, config, seq, unplug, dwords
+            }
+            ck_entry_answer EntryAnswer { number, entry }
+            ck_write_answer WriteAnswer { number, bytes }
+            ck_event_text EventText { bytes, len }
+            ck_packet_answer PacketAnswer { number, start, has_uuid, uuid }
+            ck_value Value { number, present, value }
+            ck_uuid Uuid { number, present, dwords }
+            ck_type Type { number, present, value, name }
+            ck_field_answer RawField { number, present, offset, value, source, entry }
+            ck_range_answer RawRange { present, low, high, value, place }
+            ck_name_part NamePart { at, len }
+        };
+        let promised: String = include_str!("../../../tests/capi/layout.txt")
+            .split_inclusive('\n')
+            .filter(|row| !row.starts_with("ck_text_packet"))
+            .collect();
+        assert_eq!(ours, promised);
+    }
+}

@@ -20,6 +20,11 @@ pub fn fault() -> u32 {
     number_of(why)
 }
 
+// The number of the error that stopped the last call, for calls that are made once.
+pub fn last_fault() -> u32 {
+    number_of(os::errno())
+}
+
 fn number_of(errno: i32) -> u32
     ensures { λ r. ⌜ 0 < r ⌝ }
 {

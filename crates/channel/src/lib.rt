@@ -1,5 +1,5 @@
 // Reading and writing with their faults told: what moved, or the number of the error that stopped it. No public call has a `requires`.
-mod fault;
+pub mod fault;
 pub mod reading;
 pub mod sentence;
 pub mod sink;

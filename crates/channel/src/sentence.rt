@@ -21,6 +21,15 @@ pub fn tell_failed(who: &[u8], what: &[u8], errno: u32) {
     tell_end(&mut text, end);
 }
 
+// A number between two texts.
+pub fn tell_numbered(before: &[u8], n: u64, behind: &[u8]) {
+    let mut text = [0u8; 256];
+    let a = put(&mut text, 0, before);
+    let b = put_decimal(&mut text, a, n);
+    let c = put(&mut text, b, behind);
+    tell_end(&mut text, c);
+}
+
 pub fn tell(sentence: &[u8]) {
     write_whole(STDERR_FILENO, sentence);
 }

@@ -56,7 +56,7 @@ fn nibble(d: u32) -> u8
     digit((d % 16) as u8)
 }
 
-fn digit(n: u8) -> u8
+pub fn digit(n: u8) -> u8
     requires { ⌜ n < 16 ⌝ }
     ensures { λ r. ⌜ r ≡ hexDigit n ⌝ }
 {

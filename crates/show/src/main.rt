@@ -1,114 +1,75 @@
-// Shows the lines on standard input as packets over a book, whose file the first argument names: of each entry its time, function, kind and
-// route, each dword with what the book says of it, and where the data starts; of each other line why it is none. A book that breaks its grammar
-// is told, and nothing is shown.
-mod block;
-mod words;
-
-use block::show_line;
+// Shows the lines on standard input as packets over a book, whose file the argument names: of each entry its time, function, kind and route,
+// each dword with what the book says of it, and where the data starts; of each other line why it is none. A book that cannot be read or breaks
+// its grammar is told, and nothing is shown.
 use book::Checked;
-use flow::more;
-use libc::STDERR_FILENO;
-use libc::STDIN_FILENO;
-use lines::Fed;
-use lines::feed;
-ghost use Prim.Native.Nat.{_≤_};
-ghost use lib.ListN.{length};
-
-// How many lines there were, and how much of the open one is held.
-struct Run {
-    lines: u64,
-    held: usize,
-}
+use channel::fault::last_fault;
+use channel::reading::Filled;
+use channel::reading::read_whole;
+use channel::sentence::tell;
+use channel::sentence::tell_failed;
+use channel::status::Status;
+use channel::status::give_status;
+use moving::Program;
+use moving::give_usage;
+use moving::run_program;
+use text::same::same;
 
 fn main() {
     let mut path = io::buffer();
     let n = os::arg(1, &mut path);
-    if n == 0 {
-        tell(b"usage: show BOOK < LINES\n");
+    if os::arg_count() != 2 {
+        give_usage(Program::Show);
         return;
     }
-    let fd = os::open_read(&path[..n]);
+    if same(&path[..n], b"--help") {
+        give_usage(Program::Show);
+        return;
+    }
+    show_by(&path[..n]);
+}
+
+// Where the argument is longer than a path may be, the path is empty, and no file has that name.
+fn show_by(path: &[u8]) {
+    let fd = os::open_read(path);
     if fd < 0 {
-        os::fail(&path[..n]);
+        refuse_with(b"opening the book");
         return;
     }
     let mut book = io::large_buffer();
-    let size = io::read_full(fd, &mut book);
+    let filled = read_whole(fd, &mut book);
     libc::close(fd);
-    show_by(&book[..size]);
+    show_filled(&book, filled);
 }
 
-// A book of more bytes than a book may have fills the buffer, and the check refuses it.
-fn show_by(book: &[u8]) {
-    let checked = book::check(book);
-    match checked {
-        Checked::Accepted => show_all(book),
-        Checked::Refused(_) => tell(b"the book breaks its grammar (20)\n"),
-    }
-}
-
-fn tell(sentence: &[u8]) {
-    io::write_all(STDERR_FILENO, sentence);
-}
-
-fn show_all(book: &[u8]) {
-    let mut input = io::large_buffer();
-    let mut line = [0u8; 4097];
-    show_parts(book, &mut input, &mut line);
-}
-
-// Part after part until one comes short: that is the end of the input. No input lasts for all the turns.
-fn show_parts(book: &[u8], input: &mut [u8], line: &mut [u8]) {
-    let mut run = Run { lines: 0, held: 0 };
-    let mut turns = u64::MAX;
-    while 0 < turns {
-        let n = io::read_full(STDIN_FILENO, input);
-        run = show_part(book, &input[..n], line, run);
-        if n < input.len() {
-            close(book, line, run);
-            return;
+fn show_filled(book: &[u8], filled: Filled) {
+    match filled {
+        Filled::Bytes(n) => show_book(book, n),
+        Filled::Failed(errno) => {
+            tell_failed(b"show", b"reading the book", errno);
+            give_status(Status::BadCall);
         }
-        turns -= 1;
     }
 }
 
-// The lines that a part ends, and what it leaves open.
-fn show_part(book: &[u8], part: &[u8], line: &mut [u8], run: Run) -> Run
-    requires { ⌜ run .held ≤ length (now line) ⌝ }
-    ensures { λ r. ⌜ r .held ≤ length (now (line .entry)) ⌝ }
-{
-    let mut from = 0;
-    let mut now = run;
-    while from < part.len() {
-        let fed = feed(part, from, line, now.held);
-        from = fed.at;
-        now = take_fed(book, line, now, fed);
+// A book has at most 65,535 bytes, so one that fills the buffer is too long.
+fn show_book(buffer: &[u8], n: usize) {
+    if buffer.len() <= n {
+        refuse(b"show: the book has more than 65535 bytes\n");
+        return;
     }
-    now
-}
-
-fn take_fed(book: &[u8], line: &[u8], run: Run, fed: Fed) -> Run
-    requires { ⌜ fed .held ≤ length (now line) ⌝ }
-    ensures { λ r. ⌜ r .held ≤ length (now (line .entry)) ⌝ }
-{
-    if fed.whole {
-        let lines = more(run.lines);
-        let held = fed.held;
-        show_line(book, &line[..held], lines);
-        return Run { lines, held: 0 };
-    }
-    Run {
-        lines: run.lines,
-        held: fed.held,
+    let book = &buffer[..n];
+    match book::check(book) {
+        Checked::Accepted => run_program(Program::Show, book),
+        Checked::Refused(_) => refuse(b"show: the book breaks its grammar (20)\n"),
     }
 }
 
-// A last line with no newline counts if it has a byte.
-fn close(book: &[u8], line: &[u8], run: Run)
-    requires { ⌜ run .held ≤ length (now line) ⌝ }
-{
-    let held = run.held;
-    if 0 < held {
-        show_line(book, &line[..held], more(run.lines));
-    }
+fn refuse(sentence: &[u8]) {
+    tell(sentence);
+    give_status(Status::BadCall);
+}
+
+fn refuse_with(what: &[u8]) {
+    tell_failed(b"show", what, last_fault());
+    give_status(Status::BadCall);
 }

@@ -1,0 +1,2 @@
+-- The laws of places in the buffers.
+pub mod Places

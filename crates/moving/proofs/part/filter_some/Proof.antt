@@ -1,0 +1,38 @@
+-- `part::filter_some` meets its contract: what the filter took is what the state took. Assumes nothing.
+use Rattle.moving.proofs.Places.{filter-went}
+use borrow.Author.Needs.{needs}
+use Rattle.moving.proofs.part.filter_some.Statement.{statement}
+use Rattle.moving.proofs.part.filter_some.Tie as tie
+
+run-of-requires : tie.Need-run-of-requires
+run-of-requires c κs = search needs
+
+take-some-requires : tie.Need-take-some-requires
+take-some-requires c κs = search needs
+
+with-run-requires : tie.Need-with-run-requires
+with-run-requires c κs = search needs
+
+same-length : tie.Need-same-length
+same-length c = search needs
+
+same-length-2 : tie.Need-same-length-2
+same-length-2 c = search needs
+
+same-length-3 : tie.Need-same-length-3
+same-length-3 c = search needs
+
+returns : tie.Need-returns
+returns c = filter-went (c .before .before .before .before .before .before .before .before .before .before .before .before .before .before .before .before .pre) (c .before .before .before .before .before .before .before .before .run-of .ensures) (c .before .before .before .before .before .before .before .take-some .ensures .1 .1 .0) (c .before .before .before .before .before .before .before .take-some .ensures .1 .1 .1) (c .with-run .ensures)
+
+pub filter-some-spec : {M : Type 1} → statement M
+filter-some-spec =
+    tie.close
+    (tie.spec
+    run-of-requires
+    take-some-requires
+    with-run-requires
+    same-length
+    same-length-2
+    same-length-3
+    returns)

@@ -1,0 +1,2 @@
+-- What the contracts of `moving` cite.
+pub mod Bounds

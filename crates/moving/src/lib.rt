@@ -1,0 +1,112 @@
+// The one loop of the programs: it reads a part of standard input, hands it on, and writes what comes of it. A read or a write that fails,
+// and a record among lines, end it with one sentence on standard error and a status.
+mod ending;
+mod output;
+mod part;
+mod state;
+
+use crate::ending::end_input;
+use crate::ending::tell_end;
+use crate::ending::tell_usage;
+use crate::output::drain;
+use crate::part::move_part;
+use crate::state::State;
+use crate::state::begin;
+use crate::state::unread;
+use channel::reading::Got;
+use channel::reading::read_some;
+use channel::status::Status;
+use channel::status::give_status;
+use libc::STDIN_FILENO;
+ghost use Prim.Native.Nat.{_≤_};
+ghost use lib.ListN.{length};
+ghost use Rattle.moving.specs.Bounds.{Fits};
+
+pub enum Program {
+    Listing,
+    Pack,
+    Unpack,
+    Show,
+}
+
+// A whole program that takes no argument.
+pub fn run_filter(program: Program) {
+    if os::arg_count() == 1 {
+        run_program(program, b"");
+    } else {
+        give_usage(program);
+    }
+}
+
+pub fn give_usage(program: Program) {
+    tell_usage(program);
+    give_status(Status::BadCall);
+}
+
+// A whole program, over a book that was checked; the filters have none.
+pub fn run_program(program: Program, book: &[u8]) {
+    let mut input = io::large_buffer();
+    let mut unit = [0u8; 65539];
+    let mut out = io::large_buffer();
+    let mut told = io::large_buffer();
+    move_input(program, book, &mut input, &mut unit, &mut out, &mut told);
+}
+
+fn move_input(
+    program: Program,
+    book: &[u8],
+    input: &mut [u8],
+    unit: &mut [u8],
+    out: &mut [u8],
+    told: &mut [u8],
+)
+    requires { ⌜ (65539 ≤ length (now unit)) × (5400 ≤ length (now out)) × (400 ≤ length (now told)) ⌝ }
+{
+    let end = move_all(program, book, input, unit, out, told);
+    let done = drain(program, out, told, end);
+    tell_end(program, done);
+}
+
+// Part after part to the end of the input. No input lasts for all the turns.
+fn move_all(
+    program: Program,
+    book: &[u8],
+    input: &mut [u8],
+    unit: &mut [u8],
+    out: &mut [u8],
+    told: &mut [u8],
+) -> State
+    requires { ⌜ (65539 ≤ length (now unit)) × (5400 ≤ length (now out)) × (400 ≤ length (now told)) ⌝ }
+    ensures { λ r. ⌜ Fits (length (now (unit .entry))) (length (now (out .entry))) (length (now (told .entry))) r ⌝ }
+{
+    let mut state = begin();
+    let mut turns = u64::MAX;
+    while 0 < turns {
+        state = move_next(program, book, input, unit, out, told, state);
+        if !state.open {
+            return state;
+        }
+        turns -= 1;
+    }
+    unread(state, 5)
+}
+
+// The next part, or the end.
+fn move_next(
+    program: Program,
+    book: &[u8],
+    input: &mut [u8],
+    unit: &mut [u8],
+    out: &mut [u8],
+    told: &mut [u8],
+    state: State,
+) -> State
+    requires { ⌜ (65539 ≤ length (now unit)) × (5400 ≤ length (now out)) × (400 ≤ length (now told)) × (Fits (length (now unit)) (length (now out)) (length (now told)) state) ⌝ }
+    ensures { λ r. ⌜ Fits (length (now (unit .entry))) (length (now (out .entry))) (length (now (told .entry))) r ⌝ }
+{
+    match read_some(STDIN_FILENO, input) {
+        Got::Bytes(n) => move_part(program, book, &input[..n], unit, out, told, state),
+        Got::End => end_input(program, book, unit, out, told, state),
+        Got::Failed(why) => unread(state, why),
+    }
+}

@@ -1,0 +1,94 @@
+// Where a program stands between two calls.
+use filters::Counts;
+use filters::Run;
+use filters::start;
+ghost use Rattle.moving.specs.Bounds.{Fits, Alike, Runs};
+
+// The filter's run; how many rows or records were written whole; 0 or the errno of the write to standard output that failed; whether one to
+// standard error did; 0 or the errno of the read that failed; and whether there may be more input.
+pub struct State {
+    pub from: usize,
+    pub held: usize,
+    pub at: usize,
+    pub told: usize,
+    pub counts: Counts,
+    pub whole: u64,
+    pub unwritten: u32,
+    pub untold: bool,
+    pub unread: u32,
+    pub open: bool,
+}
+
+pub fn begin() -> State
+    ensures { λ r. ⌜ Fits 0 0 0 r ⌝ }
+{
+    let counts = start();
+    State {
+        from: 0,
+        held: 0,
+        at: 0,
+        told: 0,
+        counts: counts,
+        whole: 0,
+        unwritten: 0,
+        untold: false,
+        unread: 0,
+        open: true,
+    }
+}
+
+pub fn unread(state: State, errno: u32) -> State
+    ensures { λ r. ⌜ Alike state r ⌝ }
+{
+    let mut next = state;
+    next.unread = errno;
+    next.open = false;
+    next
+}
+
+pub fn closed(state: State) -> State
+    ensures { λ r. ⌜ Alike state r ⌝ }
+{
+    let mut next = state;
+    next.open = false;
+    next
+}
+
+// Nothing more is put out: a write failed, or a record came among lines.
+pub fn is_over(state: State) -> bool {
+    if 0 < state.unwritten {
+        return true;
+    }
+    state.counts.stopped
+}
+
+pub fn run_of(state: State) -> Run
+    ensures { λ r. ⌜ Runs state r ⌝ }
+{
+    let counts = state.counts;
+    Run {
+        from: state.from,
+        held: state.held,
+        at: state.at,
+        told: state.told,
+        counts: counts,
+    }
+}
+
+pub fn with_run(state: State, run: Run) -> State
+    ensures { λ r. ⌜ Runs r run ⌝ }
+{
+    let counts = run.counts;
+    State {
+        from: run.from,
+        held: run.held,
+        at: run.at,
+        told: run.told,
+        counts: counts,
+        whole: state.whole,
+        unwritten: state.unwritten,
+        untold: state.untold,
+        unread: state.unread,
+        open: state.open,
+    }
+}

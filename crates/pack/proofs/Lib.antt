@@ -1,2 +1,0 @@
--- The laws of packing.
-pub mod Rooms

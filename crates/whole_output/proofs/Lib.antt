@@ -3,3 +3,4 @@ pub mod Kept
 pub mod Streaming
 pub mod Counting
 pub mod Whole
+pub mod Sample

@@ -4,3 +4,4 @@ pub mod Streaming
 pub mod Counting
 pub mod Whole
 pub mod Sample
+pub mod Meaning

@@ -5,3 +5,4 @@ pub mod Counting
 pub mod Whole
 pub mod Sample
 pub mod Meaning
+pub mod Joined

@@ -2,3 +2,4 @@
 pub mod Output
 pub mod Chains
 pub mod Meaning
+pub mod Joined

@@ -1,13 +1,14 @@
--- What rows and records say: the readings are exact by scan's and record's theorems, and a frame is a stated size that is the whole. Assumes nothing.
+-- What rows and records say: the readings are exact by scan's and record's theorems, and a frame is a stated size that is the whole; a unit that is open
+-- ends its stream. Assumes nothing.
 use Prim.Native.Nat.{ℕ, min, _+_, _*_}
 use mathlib.Core.Path.{_≡_, refl, sym, ap, _∙_}
 use mathlib.Core.Bool.{Bool, true, false, cond, _&&_}
-use mathlib.Core.List.{List, []}
+use mathlib.Core.List.{List, [], _∷_, _++_}
 use mathlib.Core.Logic.{_↔_}
 use native.Mathlib.Omega.{arith}
 use borrow.Author.Tests.{eq-eqb, eqb-true, ne-eqb, le-leb, leb-true}
 use lib.Dec.{leb, eqb}
-use lib.ListN.{length, getD, replicate, length-replicate}
+use lib.ListN.{length, getD, length-append, replicate, length-replicate}
 use Rattle.text.proofs.Places.{clash}
 use Rattle.tlv.specs.Number.{Bytes}
 use Rattle.tlv.proofs.Fields.{Found, two-bytes, found-field, field-found, field-is, field-all}
@@ -28,8 +29,10 @@ use Rattle.record.proofs.Records.{Accepts, record-accepted-exactly, accepted-is
 use Rattle.writer.proofs.Puts.{part-length}
 use Rattle.intake.specs.Intake as Intake
 use Rattle.intake.proofs.WhatItIs.{refused-record, record-number-range}
+use Rattle.framing.specs.declared.Framing.{Framing}
 use Rattle.framing.specs.declared.Framing.the-variants.{Records}
-use Rattle.framing.specs.Units.{statedSize, isWhole}
+use Rattle.framing.specs.Units.{statedSize, isWhole, Units, unitsOf}
+use Rattle.framing.proofs.OneList.{units-are}
 use Rattle.filters.specs.declared.row.Seen.the-variants as S
 use Rattle.filters.specs.Texts.{fromLine, seenLine, fromRecord, seenRecord, recordBy, recordOf}
 use Rattle.whole_output.specs.Meaning.{Tells, TextsMean}
@@ -172,6 +175,17 @@ module _ (u : List ℕ) (bytes : Bytes u) where
   pub open-is-refused : isWhole Records u ≡ false → seenRecord u ≡ S.Refused 30
   open-is-refused w = record-refused 30 .1 (unframed refl (λ f. clash (framed-whole f) w))
 
+-- a unit that is not whole has none behind it
+only-last : (f : Framing) {s : List ℕ} {us : List (List ℕ)} → Units f s us → (front : List (List ℕ)) (u : List ℕ) (back : List (List ℕ)) → us ≡ front ++ (u ∷ back) → isWhole f u ≡ false → back ≡ []
+only-last f Units.none front u back e w = absurd (omega (arith, ap length e, length-append front (u ∷ back)))
+only-last f (Units.last x some o) [] u back e w = cc
+only-last f (Units.last x some o) (y ∷ front) u back e w = absurd (omega (arith, ap length e, length-append front (u ∷ back)))
+only-last f (Units.next x r i cut rest) [] u back e w = let same : x ≡ u = cc in absurd (clash (rw same at (i .whole)) w)
+only-last f (Units.next x r i cut rest) (y ∷ front) u back e w = only-last f rest front u back (cc) w
+
+pub only-the-last-open : (s : List ℕ) (front : List (List ℕ)) (u : List ℕ) (back : List (List ℕ)) → unitsOf Records s ≡ front ++ (u ∷ back) → isWhole Records u ≡ false → back ≡ []
+only-the-last-open s front u back e w = only-last Records (units-are Records s) front u back e w
+
 pub texts-mean : TextsMean
 texts-mean =
     record {
@@ -182,5 +196,6 @@ texts-mean =
       record-row = record-row;
       record-refused = record-refused;
       whole-is-framed = whole-is-framed;
+      only-the-last-open = only-the-last-open;
       open-is-refused = open-is-refused;
     }

@@ -3,7 +3,7 @@
 use Prim.Native.Nat.{ℕ}
 use mathlib.Core.Path.{_≡_}
 use mathlib.Core.Bool.{true, false}
-use mathlib.Core.List.{List, []}
+use mathlib.Core.List.{List, [], _∷_, _++_}
 use mathlib.Core.Logic.{_↔_}
 use lib.ListN.{length}
 use Rattle.tlv.specs.Number.{Bytes}
@@ -12,7 +12,7 @@ use Rattle.scan.specs.Line.{Line, Applies}
 use Rattle.record.specs.Grammar.{recordBytes, IsRecord}
 use Rattle.record.specs.Conditions.{Framed, Breaks}
 use Rattle.framing.specs.declared.Framing.the-variants.{Records}
-use Rattle.framing.specs.Units.{isWhole}
+use Rattle.framing.specs.Units.{isWhole, unitsOf}
 use Rattle.filters.specs.declared.row.Seen.the-variants as S
 use Rattle.filters.specs.Texts.{seenLine, seenRecord, recordOf}
 
@@ -39,5 +39,8 @@ pub record TextsMean : Type 0 where
   pub record-refused : (u : List ℕ) → Bytes u → (k : ℕ) → (seenRecord u ≡ S.Refused k) ↔ Breaks u k
   -- A unit of records is whole exactly when it has its frame: A1, and the length of the rest.
   pub whole-is-framed : (u : List ℕ) → Bytes u → (isWhole Records u ≡ true) ↔ Framed u
-  -- So what is left open at a stream's end is refused with 30.
+  -- Every record of a stream but the last is whole.
+  pub only-the-last-open : (s : List ℕ) (front : List (List ℕ)) (u : List ℕ) (back : List (List ℕ)) → unitsOf Records s ≡ front ++ (u ∷ back)
+      → isWhole Records u ≡ false → back ≡ []
+  -- One that is not, the last then, is refused with 30.
   pub open-is-refused : (u : List ℕ) → Bytes u → isWhole Records u ≡ false → seenRecord u ≡ S.Refused 30

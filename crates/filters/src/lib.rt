@@ -3,8 +3,8 @@
 //     take_some   as much of a part as the outputs have room for
 //     finish      what the end of the input puts out
 //     whole_in    how many rows or records stand whole in what was put out
-mod row;
 mod packing;
+mod row;
 
 use crate::packing::pack_line;
 use crate::row::put_row;
@@ -143,13 +143,7 @@ pub fn take_some(
 }
 
 // What the end of the input puts out: that of the open unit, if one is held, and the totals.
-pub fn finish(
-    filter: Filter,
-    unit: &[u8],
-    out: &mut [u8],
-    told: &mut [u8],
-    run: Run,
-) -> Run
+pub fn finish(filter: Filter, unit: &[u8], out: &mut [u8], told: &mut [u8], run: Run) -> Run
     requires { ⌜ (run .held ≤ length (now unit)) × (Room (length (now out)) (length (now told)) run) ⌝ }
     ensures { λ r. ⌜ Finished filter (take (run .held) (now (unit .entry))) (now (out .entry)) (now (told .entry)) run (now (out .exit)) (now (told .exit)) r ⌝ }
 {

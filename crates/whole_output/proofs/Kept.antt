@@ -25,7 +25,6 @@ use Rattle.filters.specs.Texts.{seenLine, seenRecord, recordOf, recordBy}
 use Rattle.filters.specs.Filter.{outText, toldText, nextCounts}
 
 module _ (cap : ℕ) (enough : 65539 ≤ cap) (u : List ℕ) (bytes : Bytes u) where
-
   first-kept : getD (take cap u) 0 0 ≡ getD u 0 0
   first-kept = getD-take cap u 0 0 (omega arith)
 

@@ -3,8 +3,8 @@ use mathlib.Core.Path.{sym}
 use lib.Seq.{length-take-le}
 use native.Mathlib.Omega.{arith}
 use borrow.Author.Needs.{needs}
-use Rattle.show.proofs.show_book.Statement.{statement}
-use Rattle.show.proofs.show_book.Tie as tie
+use Rattle.showing.proofs.show_book.Statement.{statement}
+use Rattle.showing.proofs.show_book.Tie as tie
 
 slice-aggregate-refuse : tie.Need-slice-aggregate-refuse
 slice-aggregate-refuse c = search needs

@@ -40,6 +40,8 @@ static void entries(void) {
     see(is_line_entry(back), "each field of an entry that was handed over by value");
     w = ck_record_write(line, sizeof LINE - 1, a.entry, slots, 16, record, 3);
     see(w.number == CK_SHORT_BUFFER && w.bytes == 0, "and of its refusal");
+    ck_what_answer is = ck_what(line, sizeof LINE - 1), neither = ck_what(line, 20);
+    see(is.number == CK_OK && is.what == CK_IS_LINE && neither.number == CK_NO_COLON && neither.what == CK_IS_NEITHER, "each field of ck_what_answer");
     ck_event_text t = ck_event_name(0);
     see(t.len == 8 && !memcmp(t.bytes, "ERR_CONN\0\0\0\0\0", sizeof t.bytes), "each field of ck_event_text");
 }

@@ -42,6 +42,9 @@ static void entry_rows(void) {
     STRUCT(ck_entry_answer);
     FIELD(ck_entry_answer, number);
     FIELD(ck_entry_answer, entry);
+    STRUCT(ck_what_answer);
+    FIELD(ck_what_answer, number);
+    FIELD(ck_what_answer, what);
     STRUCT(ck_write_answer);
     FIELD(ck_write_answer, number);
     FIELD(ck_write_answer, bytes);

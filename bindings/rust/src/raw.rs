@@ -408,6 +408,7 @@ mod layout {
                 len, port, config, seq, unplug, dwords
             }
             ck_entry_answer EntryAnswer { number, entry }
+            ck_what_answer WhatAnswer { number, what }
             ck_write_answer WriteAnswer { number, bytes }
             ck_event_text EventText { bytes, len }
             ck_packet_answer PacketAnswer { number, start, has_uuid, uuid }

@@ -1,3 +1,4 @@
--- The laws of shown names.
+-- The laws of shown names and of what is said.
 pub mod Escaping
+pub mod Telling
 pub mod Theorems

@@ -1,2 +1,3 @@
 -- What the contracts of `shown` cite.
 pub mod Escape
+pub mod Telling

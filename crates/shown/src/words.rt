@@ -7,6 +7,9 @@ use print::hex::put_dword;
 use print::put::put_decimal;
 ghost use Prim.Native.Nat.{_+_, _≤_, _<_};
 ghost use lib.ListN.{length};
+ghost use Rattle.print.specs.Hex.{dwordText};
+ghost use Rattle.listing_rows.specs.Rows.{wordAndNumber};
+ghost use Rattle.shown.specs.Telling.{Told, nameText};
 
 // How many bytes of a name are escaped at a time, and how many bytes that can be.
 const PIECE: usize = 64;
@@ -21,7 +24,9 @@ pub fn say_if(out: &mut [u8], sink: Sink, holds: bool, text: &[u8]) -> Sink {
 }
 
 // A word and then a name, escaped; nothing for no name.
-pub fn say_name(out: &mut [u8], sink: Sink, word: &[u8], name: &[u8]) -> Sink {
+pub fn say_name(out: &mut [u8], sink: Sink, word: &[u8], name: &[u8]) -> Sink
+    ensures { λ r. ⌜ Told (now (out .entry)) sink (nameText (now (word .entry)) (now (name .entry))) (now (out .exit)) r ⌝ }
+{
     if name.len() == 0 {
         return sink;
     }
@@ -49,7 +54,9 @@ fn next_end(from: usize, end: usize) -> usize
 }
 
 // A word and then a number.
-pub fn say_number(out: &mut [u8], sink: Sink, word: &[u8], n: u64) -> Sink {
+pub fn say_number(out: &mut [u8], sink: Sink, word: &[u8], n: u64) -> Sink
+    ensures { λ r. ⌜ Told (now (out .entry)) sink (wordAndNumber (now (word .entry)) n) (now (out .exit)) r ⌝ }
+{
     let mut room = [0u8; 20];
     let end = put_decimal(&mut room, 0, n);
     let worded = say(out, sink, word);
@@ -57,7 +64,9 @@ pub fn say_number(out: &mut [u8], sink: Sink, word: &[u8], n: u64) -> Sink {
 }
 
 // Eight hex digits.
-pub fn say_dword(out: &mut [u8], sink: Sink, d: u32) -> Sink {
+pub fn say_dword(out: &mut [u8], sink: Sink, d: u32) -> Sink
+    ensures { λ r. ⌜ Told (now (out .entry)) sink (dwordText d) (now (out .exit)) r ⌝ }
+{
     let mut room = [0u8; 8];
     let end = put_dword(&mut room, 0, d);
     say(out, sink, &room[..end])

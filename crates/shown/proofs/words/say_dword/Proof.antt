@@ -1,8 +1,9 @@
--- `words::say_dword` is safe: a dword has eight digits. Assumes nothing.
+-- `words::say_dword` meets its contract: the eight digits that were put are said. Assumes nothing.
 use mathlib.Core.Path.{sym}
 use lib.Seq.{length-take-le}
 use Rattle.listing_rows.proofs.Putting.{put-whole}
 use Rattle.shown.proofs.Escaping.{put-within}
+use Rattle.shown.proofs.Telling.{said-told, told-same, put-front}
 use native.Mathlib.Omega.{arith}
 use borrow.Author.Needs.{needs}
 use Rattle.shown.proofs.words.say_dword.Statement.{statement}
@@ -27,7 +28,7 @@ same-length : tie.Need-same-length
 same-length c = search needs
 
 returns : tie.Need-returns
-returns c = search needs
+returns c = told-same (put-front (put-whole (omega arith) (c .before .before .before .before .before .before .put-dword .ensures))) (said-told (c .before .before .say .ensures))
 
 pub say-dword-spec : {M : Type 1} → statement M
 say-dword-spec =

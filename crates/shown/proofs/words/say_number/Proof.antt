@@ -1,8 +1,10 @@
--- `words::say_number` is safe: no number has more than 20 digits. Assumes nothing.
+-- `words::say_number` meets its contract: no number has more than 20 digits, and those that were put are said behind the word. Assumes nothing.
 use mathlib.Core.Path.{sym}
 use lib.Seq.{length-take-le}
 use Rattle.listing_rows.proofs.Putting.{decimal-put}
+use Rattle.listing_rows.specs.Rows.{wordAndNumber}
 use Rattle.shown.proofs.Escaping.{put-within}
+use Rattle.shown.proofs.Telling.{said-told, told-then, told-same, put-front}
 use native.Mathlib.Omega.{arith}
 use borrow.Author.Needs.{needs}
 use Rattle.shown.proofs.words.say_number.Statement.{statement}
@@ -30,7 +32,10 @@ same-length : tie.Need-same-length
 same-length c = search needs
 
 returns : tie.Need-returns
-returns c = search needs
+unfolding wordAndNumber
+returns c =
+    told-then (said-told (c .before .before .before .before .before .before .before .say .ensures))
+    (told-same (put-front (decimal-put _ (omega arith) (c .before .before .before .before .before .before .before .before .before .before .put-decimal .ensures))) (said-told (c .before .before .say2 .ensures)))
 
 pub say-number-spec : {M : Type 1} → statement M
 say-number-spec =

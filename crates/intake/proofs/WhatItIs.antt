@@ -87,7 +87,7 @@ line-number-range t k a = (low, high)
         ]
 
 -- a text whose record is refused with k is one to which k applies: 256 slots are enough, so 35 is not due
-refused-record : (t : List ℕ) → Bytes t → (k : ℕ) → fromRecord (readOf t 256) ≡ A.Refused k → Breaks t k
+pub refused-record : (t : List ℕ) → Bytes t → (k : ℕ) → fromRecord (readOf t 256) ≡ A.Refused k → Breaks t k
 unfolding readOf fromRecord
 refused-record t bytes k q = go (eqb (refusalOf t) 0) (leb (dwordCount t) 256) refl refl q
   where

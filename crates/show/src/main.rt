@@ -1,75 +1,8 @@
 // Shows the lines on standard input as packets over a book, whose file the argument names: of each entry its time, function, kind and route,
 // each dword with what the book says of it, and where the data starts; of each other line why it is none. A book that cannot be read or breaks
 // its grammar is told, and nothing is shown.
-use book::Checked;
-use channel::fault::last_fault;
-use channel::reading::Filled;
-use channel::reading::read_whole;
-use channel::sentence::tell;
-use channel::sentence::tell_failed;
-use channel::status::Status;
-use channel::status::give_status;
-use moving::Program;
-use moving::give_usage;
-use moving::run_program;
-use text::same::same;
+use showing::run_show;
 
 fn main() {
-    let mut path = io::buffer();
-    let n = os::arg(1, &mut path);
-    if os::arg_count() != 2 {
-        give_usage(Program::Show);
-        return;
-    }
-    if same(&path[..n], b"--help") {
-        give_usage(Program::Show);
-        return;
-    }
-    show_by(&path[..n]);
-}
-
-// Where the argument is longer than a path may be, the path is empty, and no file has that name.
-fn show_by(path: &[u8]) {
-    let fd = os::open_read(path);
-    if fd < 0 {
-        refuse_with(b"opening the book");
-        return;
-    }
-    let mut book = io::large_buffer();
-    let filled = read_whole(fd, &mut book);
-    libc::close(fd);
-    show_filled(&book, filled);
-}
-
-fn show_filled(book: &[u8], filled: Filled) {
-    match filled {
-        Filled::Bytes(n) => show_book(book, n),
-        Filled::Failed(errno) => {
-            tell_failed(b"show", b"reading the book", errno);
-            give_status(Status::BadCall);
-        }
-    }
-}
-
-// A book has at most 65,535 bytes, so one that fills the buffer is too long.
-fn show_book(buffer: &[u8], n: usize) {
-    if buffer.len() <= n {
-        refuse(b"show: the book has more than 65535 bytes\n");
-        return;
-    }
-    let book = &buffer[..n];
-    match book::check(book) {
-        Checked::Accepted => run_program(Program::Show, book),
-        Checked::Refused(_) => refuse(b"show: the book breaks its grammar (20)\n"),
-    }
-}
-
-fn refuse(sentence: &[u8]) {
-    tell(sentence);
-    give_status(Status::BadCall);
-}
-
-fn refuse_with(what: &[u8]) {
-    tell_failed(b"show", what, last_fault());
-    give_status(Status::BadCall);
+    run_show();
 }

@@ -3,3 +3,6 @@ pub mod Kept
 pub mod Streaming
 pub mod Counting
 pub mod Whole
+pub mod Sample
+pub mod Meaning
+pub mod Joined

@@ -16,7 +16,7 @@ abbrev μ-loop : tie.MeasureT-loop
 μ-loop program book part unit₀ out₀ told₀ now₀ unit out told now = length part - now .from
 
 loop-holds : tie.Need-loop-holds Inv-loop μ-loop
-loop-holds c = (record { unit-is = refl; out-is = refl; told-is = refl; unit-size = c .before .before .before .before .before .pre .0; out-size = c .before .before .before .before .before .pre .1; told-size = c .before .before .before .before .before .pre .2 }, omega arith, record { held = c .before .before .before .before .before .pre .3 .held; at = c .before .before .before .before .before .pre .3 .at; told-at = c .before .before .before .before .before .pre .3 .told-at })
+loop-holds c = (record { unit-is = refl; out-is = refl; told-is = refl; unit-size = c .before .before .before .before .before .pre .0; out-size = c .before .before .before .before .before .pre .1; told-size = c .before .before .before .before .before .pre .2 }, omega arith, record { held = omega (arith, c .before .before .before .before .before .pre .3 .held); at = omega (arith, c .before .before .before .before .before .pre .3 .at); told-at = omega (arith, c .before .before .before .before .before .pre .3 .told-at) })
 
 make-room-requires : tie.Need-make-room-requires Inv-loop μ-loop
 make-room-requires c κs = (omega (arith, c .before .before .before .before .before .loop .inv .0 .out-is, c .before .before .before .before .before .loop .inv .0 .out-size), omega (arith, c .before .before .before .before .before .loop .inv .0 .told-is, c .before .before .before .before .before .loop .inv .0 .told-size), fits-now (c .before .before .before .before .before .loop .inv .0) (c .before .before .before .before .before .loop .inv .2))

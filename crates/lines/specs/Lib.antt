@@ -1,2 +1,0 @@
--- The lines of a stream.
-pub mod Lines

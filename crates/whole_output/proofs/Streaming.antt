@@ -15,6 +15,10 @@ use Rattle.framing.proofs.Parts.{ended-append, left-append, stream-units}
 use Rattle.filters.specs.Filter.{after, texts}
 use Rattle.filters.proofs.Parts.{texts-append, after-append}
 
+-- the units behind what was taken, given what is held of the open one
+unfoldable pub behind : Framing → ℕ → List ℕ → List ℕ → List ℕ → List (List ℕ)
+behind f cap taken held rest = ended f cap held rest ++ closed (left f cap [] (taken ++ rest))
+
 module _ {S : Type 0} (next : S → List ℕ → S) (text : S → List ℕ → List ℕ) where
   -- where texts depend only on what is kept of a unit, they do so one after the other
   module _ (cap : ℕ) (Good : List ℕ → Type 0) (same-text : (c : S) (u : List ℕ) → Good u → text c (take cap u) ≡ text c u) (same-next : (c : S) (u : List ℕ) → Good u → next c (take cap u) ≡ next c u) where
@@ -61,3 +65,27 @@ module _ {S : Type 0} (next : S → List ℕ → S) (text : S → List ℕ → L
         whole-after =
             rw (x .kept-is, x .held-is)
             (sym (after-append next c₀ (ended f cap [] input) (closed (left f cap [] input))) ∙ ap (after next c₀) (stream-units f cap enough input) ∙ after-kept cap Good same-text same-next c₀ (unitsOf f input) good)
+
+      -- with more behind what was taken: the whole stream's texts are those put out so far, and then those of what is behind
+      module _ {taken put held : List ℕ} {c : S} (x : SoFar taken put held c) (rest : List ℕ) (good : All Good (unitsOf f (taken ++ rest))) where
+        split : ended f cap [] taken ++ behind f cap taken held rest ≡ map (take cap) (unitsOf f (taken ++ rest))
+        unfolding behind
+        split =
+            let ends : ended f cap [] (taken ++ rest) ≡ ended f cap [] taken ++ ended f cap held rest = ended-append f cap [] taken rest ∙ rw (x .held-is) in
+            sym (append-assoc (ended f cap [] taken) (ended f cap held rest) (closed (left f cap [] (taken ++ rest))))
+            ∙ ap (λ (l : List (List ℕ)). l ++ closed (left f cap [] (taken ++ rest))) (sym ends)
+            ∙ stream-units f cap enough (taken ++ rest)
+
+        pub ahead-texts : texts next text c₀ (unitsOf f (taken ++ rest)) ≡ put ++ texts next text c (behind f cap taken held rest)
+        ahead-texts =
+            sym (texts-kept cap Good same-text same-next c₀ (unitsOf f (taken ++ rest)) good)
+            ∙ ap (texts next text c₀) (sym split)
+            ∙ texts-append next text c₀ (ended f cap [] taken) (behind f cap taken held rest)
+            ∙ rw (x .put-is, x .kept-is)
+
+        pub ahead-after : after next c₀ (unitsOf f (taken ++ rest)) ≡ after next c (behind f cap taken held rest)
+        ahead-after =
+            sym (after-kept cap Good same-text same-next c₀ (unitsOf f (taken ++ rest)) good)
+            ∙ ap (after next c₀) (sym split)
+            ∙ after-append next c₀ (ended f cap [] taken) (behind f cap taken held rest)
+            ∙ rw (x .kept-is)

@@ -18,10 +18,10 @@ use Rattle.filters.specs.Filter.{outText, toldText, nextCounts, lastOut, lastTo
 use Rattle.filters.specs.Calls.{Took, Finished}
 use Rattle.filters.proofs.Parts.{put-between}
 use Rattle.whole_output.specs.Output.{entriesIn, linesBefore, hasRecord, refusedRows, listingOf, unpackingOf, packingOf, packingTells}
-use Rattle.whole_output.specs.Chains.{fresh, Calls, Went, WholeOutput}
+use Rattle.whole_output.specs.Chains.{fresh, Calls, Went, StoppedAfter, WholeOutput}
 use Rattle.whole_output.proofs.Kept.{out-kept, told-kept, next-kept, units-bytes}
-use Rattle.whole_output.proofs.Streaming.{SoFar, so-far-none, so-far-then, whole-texts, whole-after}
-use Rattle.whole_output.proofs.Counting.{listed-is, tells-nothing, records-are, tells-are}
+use Rattle.whole_output.proofs.Streaming.{SoFar, so-far-none, so-far-then, whole-texts, whole-after, behind, ahead-texts, ahead-after}
+use Rattle.whole_output.proofs.Counting.{listed-is, tells-nothing, records-are, tells-are, out-stopped, told-stopped, after-stopped}
 
 -- both outputs of a chain of calls
 put-so-far : (f : Filter) {cap : ℕ} {taken put told held : List ℕ} {c : Counts} → Calls f cap taken put told held c → SoFar (nextCounts f) (outText f) (framingOf f) cap fresh taken put held c
@@ -76,18 +76,53 @@ unfolding outText toldText nextCounts lastOut lastTold unpackingOf
 unpacking-is-whole input put told w =
     (put-whole F.Unpack w ∙ listed-is F.Unpack seenRecord (λ c u. refl) (λ c u. refl) (λ c. refl) (unitsOf (framingOf F.Unpack) input) (w .few), told-whole F.Unpack w ∙ tells-nothing F.Unpack (λ c u. refl) (λ c. refl) fresh (unitsOf (framingOf F.Unpack) input))
 
+-- the definitions of packing, from the texts of all lines
+module _ (input : List ℕ) (few : length (unitsOf (framingOf F.Pack) input) < 2 ^ 64) where
+  abbrev lines : List (List ℕ)
+  lines = unitsOf (framingOf F.Pack) input
+
+  small : 0 + length (unitsOf (framingOf F.Pack) input) < 2 ^ 64
+  small = omega (arith, few)
+
+  records-packed : texts (nextCounts F.Pack) (outText F.Pack) fresh lines ≡ packingOf input
+  unfolding packingOf
+  records-packed = records-are lines 0 0 small small
+
+  tells-packed : texts (nextCounts F.Pack) (toldText F.Pack) fresh lines ++ lastTold F.Pack (after (nextCounts F.Pack) fresh lines) ≡ packingTells input
+  unfolding packingTells
+  tells-packed =
+      let a : 0 + length (unitsOf (framingOf F.Pack) input) ≡ length (unitsOf (framingOf F.Pack) input) = omega arith in
+      let b : 0 + entriesIn seenLine (unitsOf (framingOf F.Pack) input) ≡ entriesIn seenLine (unitsOf (framingOf F.Pack) input) = omega arith in
+      let d : 0 + length (linesBefore (unitsOf (framingOf F.Pack) input)) + 1 ≡ length (linesBefore (unitsOf (framingOf F.Pack) input)) + 1 = omega arith in
+      tells-are lines 0 0 small small ∙ rw (a, b, d)
+
 pub packing-is-whole : (input put told : List ℕ) → Went F.Pack input put told → (put ≡ packingOf input) × (told ≡ packingTells input)
-unfolding lastOut packingOf packingTells
+unfolding lastOut
 packing-is-whole input put told w =
-    let us : List (List ℕ) = unitsOf (framingOf F.Pack) input in
-    let k : 0 + length (unitsOf (framingOf F.Pack) input) < 2 ^ 64 = omega (arith, w .few) in
-    let a : 0 + length (unitsOf (framingOf F.Pack) input) ≡ length (unitsOf (framingOf F.Pack) input) = omega arith in
-    let b : 0 + entriesIn seenLine (unitsOf (framingOf F.Pack) input) ≡ entriesIn seenLine (unitsOf (framingOf F.Pack) input) = omega arith in
-    let d : 0 + length (linesBefore (unitsOf (framingOf F.Pack) input)) + 1 ≡ length (linesBefore (unitsOf (framingOf F.Pack) input)) + 1 = omega arith in
-    (put-whole F.Pack w ∙ records-end input k, told-whole F.Pack w ∙ tells-are (unitsOf (framingOf F.Pack) input) 0 0 k k ∙ rw (a, b, d))
-  where
-    records-end : (input : List ℕ) → 0 + length (unitsOf (framingOf F.Pack) input) < 2 ^ 64 → texts (nextCounts F.Pack) (outText F.Pack) fresh (unitsOf (framingOf F.Pack) input) ++ lastOut F.Pack (after (nextCounts F.Pack) fresh (unitsOf (framingOf F.Pack) input)) ≡ packingOf input
-    records-end input k = append-nil (texts (nextCounts F.Pack) (outText F.Pack) fresh (unitsOf (framingOf F.Pack) input)) ∙ records-are (unitsOf (framingOf F.Pack) input) 0 0 k k
+    (put-whole F.Pack w ∙ append-nil (texts (nextCounts F.Pack) (outText F.Pack) fresh (unitsOf (framingOf F.Pack) input)) ∙ records-packed input (w .few), told-whole F.Pack w ∙ tells-packed input (w .few))
+
+-- a stop: what is behind puts out and tells nothing
+pub stopped-is-whole : (taken rest put told : List ℕ) → StoppedAfter taken rest put told → (put ≡ packingOf (taken ++ rest)) × (told ≡ packingTells (taken ++ rest))
+unfolding lastTold
+stopped-is-whole taken rest put told w =
+    let good = units-bytes (framingOf F.Pack) (taken ++ rest) (w .bytes) in
+    let out-same : (c : Counts) (u : List ℕ) → Bytes u → outText F.Pack c (take (w .cap) u) ≡ outText F.Pack c u = λ c u b. out-kept (w .cap) (w .enough) u b F.Pack c in
+    let told-same : (c : Counts) (u : List ℕ) → Bytes u → toldText F.Pack c (take (w .cap) u) ≡ toldText F.Pack c u = λ c u b. told-kept (w .cap) (w .enough) u b F.Pack c in
+    let next-same : (c : Counts) (u : List ℕ) → Bytes u → nextCounts F.Pack c (take (w .cap) u) ≡ nextCounts F.Pack c u = λ c u b. next-kept (w .cap) (w .enough) u b F.Pack c in
+    let x = put-so-far F.Pack (w .calls) in
+    let y = told-so-far F.Pack (w .calls) in
+    let xs = behind (framingOf F.Pack) (w .cap) taken (w .held) rest in
+    let puts = ahead-texts (nextCounts F.Pack) (outText F.Pack) (framingOf F.Pack) (w .cap) fresh (w .enough) Bytes out-same next-same x rest good in
+    let tells = ahead-texts (nextCounts F.Pack) (toldText F.Pack) (framingOf F.Pack) (w .cap) fresh (w .enough) Bytes told-same next-same y rest good in
+    let end = ahead-after (nextCounts F.Pack) (toldText F.Pack) (framingOf F.Pack) (w .cap) fresh (w .enough) Bytes told-same next-same y rest good in
+    let none : lastTold F.Pack (after (nextCounts F.Pack) fresh (unitsOf (framingOf F.Pack) (taken ++ rest))) ≡ [] =
+    ap (lastTold F.Pack) (end ∙ after-stopped (w .counts) (w .stopped) xs) ∙ rw (w .stopped) in (
+      sym (append-nil put) ∙ sym (puts ∙ ap (λ (t : List ℕ). put ++ t) (out-stopped (w .counts) (w .stopped) _)) ∙ records-packed (taken ++ rest) (w .few),
+      sym (append-nil told)
+          ∙ sym (tells ∙ ap (λ (t : List ℕ). told ++ t) (told-stopped (w .counts) (w .stopped) _))
+          ∙ sym (ap (λ (t : List ℕ). texts (nextCounts F.Pack) (toldText F.Pack) fresh (unitsOf (framingOf F.Pack) (taken ++ rest)) ++ t) none ∙ append-nil _)
+          ∙ tells-packed (taken ++ rest) (w .few),
+    )
 
 pub whole-output : WholeOutput
-whole-output = record { listing = listing-is-whole; packing = packing-is-whole; unpacking = unpacking-is-whole }
+whole-output = record { listing = listing-is-whole; packing = packing-is-whole; stopped-packing = stopped-is-whole; unpacking = unpacking-is-whole }

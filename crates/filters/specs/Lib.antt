@@ -1,4 +1,4 @@
--- What the filters put out: of a whole input, of each unit, and of each call.
+-- What the filters put out: of each unit, and of each call.
 pub mod Texts
 pub mod Bounds
 pub mod Filter

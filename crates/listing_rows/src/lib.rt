@@ -1,4 +1,4 @@
-// The listing's rows of text. No row takes more than 64 bytes, which is what a caller makes room for.
+// The listing's rows of text. No row takes more than 64 bytes, which is what a caller makes room for; that of a stop takes at most 160.
 use print::put::put;
 use print::put::put_decimal;
 ghost use Prim.Native.Nat.{_+_, _≤_};

@@ -1,5 +1,5 @@
 -- What each filter puts out for a whole input.
--- How to read it: `a ++ b` is a and then b; `unitsOf Lines s` are the lines of s, each with its newline, and `unitsOf Records s` its records
+-- How to read it: `a ++ b` is a and then b; `unitsOf Lines s` are the lines of s, each with its newline, the last with or without, and `unitsOf Records s` its records
 -- (crates/framing/specs/Units.antt has the relation that says so).
 use Prim.Native.Nat.{ℕ, _+_}
 use mathlib.Core.Bool.{Bool, true, false, cond}

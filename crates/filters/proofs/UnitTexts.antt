@@ -4,8 +4,7 @@ use mathlib.Core.Path.{_≡_, refl, sym, ap, _∙_}
 use mathlib.Core.Bool.{Bool, true, false, cond}
 use mathlib.Core.List.{List, [], _∷_, _++_}
 use native.Mathlib.Omega.{arith}
-use lib.ListN.{length, getD, length-append}
-use borrow.Author.Tests.{eq-eqb, ne-eqb}
+use lib.ListN.{length, length-append}
 use Rattle.text.specs.Decimal.{decimalText}
 use Rattle.text.specs.Quote.{bytes}
 use Rattle.entry.specs.declared.Entry.{Entry}
@@ -53,15 +52,6 @@ module _ (u : List ℕ) {k : ℕ} (enough : k ≡ 256) where
   pub refused-record : {r : Answer} {n : ℕ} → r ≡ parseOf u k → r ≡ A.Refused n → recordOf u ≡ []
   unfolding recordOf recordBy
   refused-record a q = rw (← enough, ← a, q)
-
--- whether a line starts with A1
-pub starts-so : (u : List ℕ) {b : ℕ} → b ≡ getD u 0 0 → b ≡ 0xA1 → startsA1 u ≡ true
-unfolding startsA1
-starts-so u a q = eq-eqb _ _ (sym a ∙ q)
-
-pub starts-not : (u : List ℕ) {b : ℕ} → b ≡ getD u 0 0 → (b ≡ 0xA1 → ⊥) → startsA1 u ≡ false
-unfolding startsA1
-starts-not u a q = ne-eqb _ _ (λ e. q (a ∙ e))
 
 -- one unit more
 module _ (c : Counts) {seen : Seen} {n : ℕ} (a : n ≡ oneMore (c .units)) where

@@ -5,11 +5,11 @@ use crate::row::Seen;
 use crate::row::count;
 use crate::row::more;
 use entry::Entry;
+use intake::starts_a1;
 use listing_rows::put_refused;
 use listing_rows::put_stop;
 use scan::Answer;
 use scan::parse;
-use text::place::byte_at;
 use writer::Written;
 use writer::write;
 ghost use mathlib.Core.Path.{_≡_};
@@ -30,7 +30,7 @@ pub fn pack_line(line: &[u8], out: &mut [u8], told: &mut [u8], run: Run) -> Run
     if run.counts.stopped {
         return run;
     }
-    if byte_at(line, 0) == 0xA1 {
+    if starts_a1(line) {
         return stop(told, run);
     }
     let mut slots = [0u32; 256];

@@ -35,7 +35,7 @@ pub fn read(text: &[u8], slots: &mut [u32]) -> Answer
 }
 
 // Byte A1 is first, as it is in every record and in no line.
-fn starts_a1(text: &[u8]) -> bool
+pub fn starts_a1(text: &[u8]) -> bool
     ensures { λ r. ⌜ r ≡ startsA1 (now (text .entry)) ⌝ }
 {
     byte_at(text, 0) == 0xA1

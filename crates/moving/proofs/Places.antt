@@ -7,8 +7,11 @@ use lib.ListN.{length, take}
 use lib.Seq.{length-take-le}
 use Rattle.filters.specs.declared.Run.{Run}
 use Rattle.filters.specs.Bounds.{Within, Goes}
+use Rattle.channel.specs.declared.writing.Wrote.{Wrote}
+use Rattle.channel.specs.Moving.{Written}
 use Rattle.moving.specs.declared.state.State.{State}
-use Rattle.moving.specs.Bounds.{Fits, Roomy, Ready, Went, Alike, Runs}
+use Rattle.moving.specs.Bounds.{Fits, Roomy, Ready, Went}
+use Rattle.moving.specs.Steps.{Shut, Runs}
 
 -- between two calls: the buffers are as long as they were, and long enough
 pub record Sized (unit out told unit′ out′ told′ : ℕ) : Type 0 where
@@ -60,8 +63,8 @@ module _ {unit out told unit′ out′ told′ : ℕ} (k : Sized unit out told u
       }
 
 -- a state whose places are another's
-pub alike-fits : {unit out told : ℕ} {s r : State} → Alike s r → Fits unit out told s → Fits unit out told r
-alike-fits a f =
+pub shut-fits : {unit out told errno : ℕ} {s r : State} → Shut errno s r → Fits unit out told s → Fits unit out told r
+shut-fits a f =
     record {
       held = omega (arith, a .held, f .held);
       at = omega (arith, a .at, f .at);
@@ -77,6 +80,10 @@ filter-went k a w g b =
       within = omega (arith, w .from-within, b .from);
       fits = record { held = omega (arith, w .held-within, b .held); at = omega (arith, w .at-within, b .at); told-at = omega (arith, w .told-within, b .told-at) };
     }
+
+-- what was written of a front, by the front's length
+pub written-front : (l : List ℕ) (at : ℕ) {w : Wrote} → at ≤ length l → Written (length (take at l)) w → Written at w
+written-front l at h k = rw (length-take-le at l h) at k
 
 -- what was written of a front lies in the whole
 pub bytes-within : (l : List ℕ) (at : ℕ) {n : ℕ} → at ≤ length l → n ≤ length (take at l) → n ≤ length l

@@ -1,7 +1,6 @@
 -- What is held and what waits lies in the buffers. All numbers but the states are lengths.
 use Prim.Native.Nat.{ℕ, _+_, _≤_, _<_}
 use mathlib.Core.Path.{_≡_}
-use Rattle.filters.specs.declared.Run.{Run}
 use Rattle.moving.specs.declared.state.State.{State}
 
 -- each lies in its buffer
@@ -30,17 +29,3 @@ pub record Went (part unit out told : ℕ) (s r : State) : Type 0 where
   pub up : s .from < r .from
   pub within : r .from ≤ part
   pub fits : Fits unit out told r
-
--- all places are as they were
-pub record Alike (s r : State) : Type 0 where
-  pub from : r .from ≡ s .from
-  pub held : r .held ≡ s .held
-  pub at : r .at ≡ s .at
-  pub told-at : r .told ≡ s .told
-
--- the run's places are the state's
-pub record Runs (s : State) (run : Run) : Type 0 where
-  pub from : s .from ≡ run .from
-  pub held : s .held ≡ run .held
-  pub at : s .at ≡ run .at
-  pub told-at : s .told ≡ run .told

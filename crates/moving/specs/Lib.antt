@@ -1,2 +1,3 @@
 -- What the contracts of `moving` cite.
 pub mod Bounds
+pub mod Steps

@@ -12,6 +12,7 @@ ghost use mathlib.Core.Path.{_≡_};
 ghost use Prim.Native.Nat.{_+_, _≤_};
 ghost use lib.ListN.{length};
 ghost use Rattle.moving.specs.Bounds.{Fits, Roomy};
+ghost use Rattle.moving.specs.Steps.{wholeIn, OutWritten, ToldWritten, Drained};
 
 // Room for what one unit may put out: what waits is written where there is less.
 pub fn make_room(program: Program, unit: &[u8], out: &[u8], told: &[u8], state: State) -> State
@@ -45,6 +46,7 @@ fn told_room(told: &[u8], state: State) -> State
 // All that waits; after a write to standard output that failed nothing.
 pub fn drain(program: Program, out: &[u8], told: &[u8], state: State) -> State
     requires { ⌜ (state .at ≤ length (now out)) × (state .told ≤ length (now told)) ⌝ }
+    ensures { λ r. ⌜ Drained program (now (out .entry)) state r ⌝ }
 {
     if 0 < state.unwritten {
         return state;
@@ -58,7 +60,7 @@ pub fn drain(program: Program, out: &[u8], told: &[u8], state: State) -> State
 
 fn write_out(program: Program, out: &[u8], state: State) -> State
     requires { ⌜ state .at ≤ length (now out) ⌝ }
-    ensures { λ r. ⌜ (r .at ≡ 0) × (r .from ≡ state .from) × (r .held ≡ state .held) × (r .told ≡ state .told) ⌝ }
+    ensures { λ r. ⌜ OutWritten program (now (out .entry)) state r ⌝ }
 {
     let at = state.at;
     let wrote = write_whole(STDOUT_FILENO, &out[..at]);
@@ -73,7 +75,7 @@ fn write_out(program: Program, out: &[u8], state: State) -> State
 // Told are refused lines, and the totals of `pack`. They are told where they can be: a program goes on without, and its status says so.
 fn write_told(told: &[u8], state: State) -> State
     requires { ⌜ state .told ≤ length (now told) ⌝ }
-    ensures { λ r. ⌜ (r .told ≡ 0) × (r .from ≡ state .from) × (r .held ≡ state .held) × (r .at ≡ state .at) ⌝ }
+    ensures { λ r. ⌜ ToldWritten state r ⌝ }
 {
     let end = state.told;
     let wrote = write_whole(STDERR_FILENO, &told[..end]);
@@ -87,7 +89,9 @@ fn write_told(told: &[u8], state: State) -> State
 }
 
 // What waits starts with a row or a record, so those that are whole in each write add up.
-fn count_whole(program: Program, put: &[u8]) -> u64 {
+fn count_whole(program: Program, put: &[u8]) -> u64
+    ensures { λ r. ⌜ r ≡ wholeIn program (now (put .entry)) ⌝ }
+{
     match program {
         Program::Listing => whole_in(Filter::Listing, put) as u64,
         Program::Pack => whole_in(Filter::Pack, put) as u64,

@@ -19,6 +19,7 @@ ghost use mathlib.Core.Path.{_≡_};
 ghost use Prim.Native.Nat.{_+_, _≤_, _<_};
 ghost use lib.ListN.{length};
 ghost use Rattle.moving.specs.Bounds.{Fits, Ready, Went};
+ghost use Rattle.moving.specs.Steps.{Counted};
 
 // All of it, with room made where too little is left.
 pub fn move_part(
@@ -125,7 +126,7 @@ pub fn show_held(book: &[u8], unit: &[u8], out: &mut [u8], state: State) -> Stat
 }
 
 fn counted(state: State, lines: u64, stopped: bool) -> State
-    ensures { λ r. ⌜ (r .from ≡ state .from) × (r .held ≡ 0) × (r .at ≡ state .at) × (r .told ≡ state .told) ⌝ }
+    ensures { λ r. ⌜ Counted lines stopped state r ⌝ }
 {
     let counts = Counts {
         units: lines,

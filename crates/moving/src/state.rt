@@ -2,7 +2,7 @@
 use filters::Counts;
 use filters::Run;
 use filters::start;
-ghost use Rattle.moving.specs.Bounds.{Fits, Alike, Runs};
+ghost use Rattle.moving.specs.Steps.{Begun, Shut, Over, Runs, Kept};
 
 // The filter's run; how many rows or records were written whole; 0 or the errno of the write to standard output that failed; whether one to
 // standard error did; 0 or the errno of the read that failed; and whether there may be more input.
@@ -20,7 +20,7 @@ pub struct State {
 }
 
 pub fn begin() -> State
-    ensures { λ r. ⌜ Fits 0 0 0 r ⌝ }
+    ensures { λ r. ⌜ Begun r ⌝ }
 {
     let counts = start();
     State {
@@ -38,7 +38,7 @@ pub fn begin() -> State
 }
 
 pub fn unread(state: State, errno: u32) -> State
-    ensures { λ r. ⌜ Alike state r ⌝ }
+    ensures { λ r. ⌜ Shut errno state r ⌝ }
 {
     let mut next = state;
     next.unread = errno;
@@ -47,7 +47,7 @@ pub fn unread(state: State, errno: u32) -> State
 }
 
 pub fn closed(state: State) -> State
-    ensures { λ r. ⌜ Alike state r ⌝ }
+    ensures { λ r. ⌜ Shut (state .unread) state r ⌝ }
 {
     let mut next = state;
     next.open = false;
@@ -55,7 +55,9 @@ pub fn closed(state: State) -> State
 }
 
 // Nothing more is put out: a write failed, or a record came among lines.
-pub fn is_over(state: State) -> bool {
+pub fn is_over(state: State) -> bool
+    ensures { λ r. ⌜ Over state r ⌝ }
+{
     if 0 < state.unwritten {
         return true;
     }
@@ -76,7 +78,7 @@ pub fn run_of(state: State) -> Run
 }
 
 pub fn with_run(state: State, run: Run) -> State
-    ensures { λ r. ⌜ Runs r run ⌝ }
+    ensures { λ r. ⌜ (Runs r run) × (Kept state r) ⌝ }
 {
     let counts = run.counts;
     State {

@@ -2,7 +2,7 @@
 use mathlib.Core.Path.{_≡_, refl}
 use lib.ListN.{length}
 use Rattle.moving.specs.Bounds.{Fits}
-use Rattle.moving.proofs.Places.{Sized, fits-now, fits-before, sized-again, alike-fits}
+use Rattle.moving.proofs.Places.{Sized, fits-now, fits-before, sized-again, shut-fits}
 use borrow.Author.Needs.{needs}
 use native.Mathlib.Omega.{arith}
 use Rattle.moving.proofs.move_all.Statement.{statement}
@@ -63,7 +63,7 @@ same-length-8 : tie.Need-same-length-8 Inv-loop μ-loop
 same-length-8 c = omega (arith, c .before .before .loop .inv .1 .told-is)
 
 returns-2 : tie.Need-returns-2 Inv-loop μ-loop
-returns-2 c = alike-fits (c .unread .ensures) (c .before .before .loop .inv .2)
+returns-2 c = shut-fits (c .unread .ensures) (c .before .before .loop .inv .2)
 
 pub move-all-spec : {M : Type 1} → statement M
 move-all-spec =

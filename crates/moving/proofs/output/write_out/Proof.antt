@@ -1,7 +1,8 @@
--- `output::write_out` meets its contract: what waits lies in the buffer, and so does what was written of it. Assumes nothing.
-use mathlib.Core.Path.{sym}
+-- `output::write_out` meets its contract: what waits lies in the buffer, and so does what was written of it; the fault is that of the write. Assumes nothing.
+use Prim.Native.Nat.{ℕ, _+_, _-_, _^_, min}
+use mathlib.Core.Path.{refl, sym, ap, _∙_}
 use lib.Seq.{length-take-le}
-use Rattle.moving.proofs.Places.{bytes-within}
+use Rattle.moving.proofs.Places.{bytes-within, written-front}
 use borrow.Author.Needs.{needs}
 use Rattle.moving.proofs.output.write_out.Statement.{statement}
 use Rattle.moving.proofs.output.write_out.Tie as tie
@@ -22,7 +23,7 @@ sum-requires : tie.Need-sum-requires
 sum-requires c κs = search needs
 
 returns : tie.Need-returns
-returns c = search needs
+returns c = record { wrote = _; written = written-front (c .before .before .before .before .before .before .args .out .now) (c .before .before .before .before .before .before .args .state .at) (c .before .before .before .before .before .before .pre) (c .before .before .before .write-whole .ensures); unwritten = refl; whole = c .sum .ensures ∙ ap (λ (k : ℕ). min (c .before .before .before .before .before .before .args .state .whole + k) (2 ^ 64 - 1)) (c .before .count-whole .ensures); from = refl; held = refl; at = refl; told-at = refl; counts = refl; untold = refl; unread = refl; as-open = refl }
 
 pub write-out-spec : {M : Type 1} → statement M
 write-out-spec =

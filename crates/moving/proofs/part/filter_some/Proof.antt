@@ -23,7 +23,7 @@ same-length-3 : tie.Need-same-length-3
 same-length-3 c = search needs
 
 returns : tie.Need-returns
-returns c = filter-went (c .before .before .before .before .before .before .before .before .before .before .before .before .before .before .before .before .pre) (c .before .before .before .before .before .before .before .before .run-of .ensures) (c .before .before .before .before .before .before .before .take-some .ensures .1 .1 .0) (c .before .before .before .before .before .before .before .take-some .ensures .1 .1 .1) (c .with-run .ensures)
+returns c = filter-went (c .before .before .before .before .before .before .before .before .before .before .before .before .before .before .before .before .pre) (c .before .before .before .before .before .before .before .before .run-of .ensures) (c .before .before .before .before .before .before .before .take-some .ensures .1 .1 .0) (c .before .before .before .before .before .before .before .take-some .ensures .1 .1 .1) (c .with-run .ensures .0)
 
 pub filter-some-spec : {M : Type 1} → statement M
 filter-some-spec =

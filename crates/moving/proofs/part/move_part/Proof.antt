@@ -1,6 +1,6 @@
 -- `part::move_part` meets its contract: room is made before each step, and each step takes some of the part. Assumes nothing.
 use Rattle.moving.specs.Bounds.{Fits}
-use Rattle.moving.proofs.Places.{Sized, fits-now, fits-before, sized-again, ready, alike-fits}
+use Rattle.moving.proofs.Places.{Sized, fits-now, fits-before, sized-again, ready, shut-fits}
 use Prim.Native.Nat.{_-_, _≤_}
 use mathlib.Core.Path.{refl}
 use lib.ListN.{length}
@@ -40,7 +40,7 @@ same-length-3 : tie.Need-same-length-3 Inv-loop μ-loop
 same-length-3 c = omega (arith, c .before .before .before .before .before .before .before .before .before .before .before .before .before .before .before .before .before .before .before .loop .inv .0 .told-is)
 
 returns : tie.Need-returns Inv-loop μ-loop
-returns c = alike-fits (c .closed .ensures) (fits-before (c .before .before .before .before .before .before .before .before .before .before .before .before .before .before .before .before .before .before .before .loop .inv .0) (c .before .before .before .before .before .before .before .before .before .move-some .ensures .fits))
+returns c = shut-fits (c .closed .ensures) (fits-before (c .before .before .before .before .before .before .before .before .before .before .before .before .before .before .before .before .before .before .before .loop .inv .0) (c .before .before .before .before .before .before .before .before .before .move-some .ensures .fits))
 
 loop-less : tie.Need-loop-less Inv-loop μ-loop
 loop-less c = omega (arith, c .before .before .before .before .before .before .before .before .before .before .before .before .before .before .before .before .if1 .taken, c .before .before .before .before .before .before .before .before .before .before .before .before .make-room .ensures .from, c .before .before .before .before .before .before .before .before .move-some .ensures .up, c .before .before .before .before .before .before .before .before .move-some .ensures .within)

@@ -15,10 +15,15 @@ use text::same::same;
 
 // The whole program.
 pub fn run_show() {
-    let mut path = io::buffer();
-    let n = os::arg(1, &mut path);
     if os::arg_count() != 2 {
         give_usage(Program::Show);
+        return;
+    }
+    let mut path = io::buffer();
+    let n = os::arg(1, &mut path);
+    // An argument that is longer than a path may be is none of the file's names.
+    if os::errno() != 0 {
+        refuse_with(b"opening the book");
         return;
     }
     if same(&path[..n], b"--help") {
@@ -28,7 +33,6 @@ pub fn run_show() {
     show_by(&path[..n]);
 }
 
-// Where the argument is longer than a path may be, the path is empty, and no file has that name.
 fn show_by(path: &[u8]) {
     let fd = os::open_read(path);
     if fd < 0 {

@@ -13,8 +13,8 @@ use filters::Filter;
 use filters::take_some;
 use framing::Framing;
 use framing::feed;
+use intake::starts_a1;
 use shown::show_line;
-use text::place::byte_at;
 ghost use mathlib.Core.Path.{_≡_};
 ghost use Prim.Native.Nat.{_+_, _≤_, _<_};
 ghost use lib.ListN.{length};
@@ -104,7 +104,7 @@ pub fn show_held(book: &[u8], unit: &[u8], out: &mut [u8], state: State) -> Stat
     let held = state.held;
     let line = &unit[..held];
     let lines = sum(state.counts.units, 1);
-    if byte_at(line, 0) == 0xA1 {
+    if starts_a1(line) {
         return counted(state, lines, true);
     }
     let sink = show_line(

@@ -11,8 +11,8 @@ slice-aggregate-line c = sym (length-take-le _ _ (c .before .before .before .bef
 sum-requires : tie.Need-sum-requires
 sum-requires c κs = search needs
 
-byte-at-requires : tie.Need-byte-at-requires
-byte-at-requires c κs = search needs
+starts-a1-requires : tie.Need-starts-a1-requires
+starts-a1-requires c κs = search needs
 
 counted-requires : tie.Need-counted-requires
 counted-requires c κs = search needs
@@ -41,7 +41,7 @@ show-held-spec =
     (tie.spec
     slice-aggregate-line
     sum-requires
-    byte-at-requires
+    starts-a1-requires
     counted-requires
     returns
     show-line-requires

@@ -87,7 +87,7 @@ pub fn rows_in(text: &[u8]) -> u64
 fn row_end(b: u8) -> u64
     ensures { λ r. ⌜ (r ≡ rowEnd b) × (r ≤ 1) ⌝ }
 {
-    if b == 10 {
+    if b == b'\n' {
         return 1;
     }
     0

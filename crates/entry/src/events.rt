@@ -100,17 +100,17 @@ pub fn name_of(e: Event) -> Name
 fn decimal(code: u8) -> Name
     ensures { λ r. ⌜ r ≡ padded (decimalText code) ⌝ }
 {
-    let ones = 48 + code % 10;
+    let ones = b'0' + code % 10;
     if code < 10 {
         let digits = [ones];
         return pad(&digits);
     }
-    let tens = 48 + code / 10 % 10;
+    let tens = b'0' + code / 10 % 10;
     if code < 100 {
         let digits = [tens, ones];
         return pad(&digits);
     }
-    let digits = [48 + code / 100, tens, ones];
+    let digits = [b'0' + code / 100, tens, ones];
     pad(&digits)
 }
 

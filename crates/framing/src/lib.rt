@@ -79,7 +79,7 @@ fn line_end(part: &[u8], from: usize, held: &[u8]) -> UnitEnd
     requires { ⌜ from < length (now part) ⌝ }
     ensures { λ r. ⌜ Ends F.Lines (now (part .entry)) from (now (held .entry)) r ⌝ }
 {
-    match first(part, 10, from) {
+    match first(part, b'\n', from) {
         Found::At(k) => UnitEnd {
             at: k + 1,
             whole: true,

@@ -28,7 +28,7 @@ fn is_cpu(h: &[u8], i: usize) -> bool
     requires { ⌜ i < length (now h) ⌝ }
     ensures { λ r. ⌜ r ≡ cpuAt (now (h .entry)) i ⌝ }
 {
-    if byte_at(h, i) != 91 {
+    if byte_at(h, i) != b'[' {
         return false;
     }
     if !is_digit(byte_at(h, i + 1)) {
@@ -40,5 +40,5 @@ fn is_cpu(h: &[u8], i: usize) -> bool
     if !is_digit(byte_at(h, i + 3)) {
         return false;
     }
-    byte_at(h, i + 4) == 93
+    byte_at(h, i + 4) == b']'
 }

@@ -58,7 +58,7 @@ fn is_dash(h: &[u8], k: usize, numbered: bool) -> bool
     if k == 0 {
         return false;
     }
-    if byte_at(h, k) != 45 {
+    if byte_at(h, k) != b'-' {
         return false;
     }
     if numbered {

@@ -18,7 +18,7 @@ pub fn parse_function(h: &[u8]) -> Found
     if blank == word {
         return Found::Nothing;
     }
-    if byte_before(h, blank) != 58 {
+    if byte_before(h, blank) != b':' {
         return Found::Nothing;
     }
     Found::At(word)

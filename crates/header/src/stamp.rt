@@ -61,14 +61,14 @@ fn is_followed(h: &[u8], j: usize) -> bool
     requires { ⌜ j ≤ length (now h) ⌝ }
     ensures { λ r. ⌜ r ≡ followed (now (h .entry)) j ⌝ }
 {
-    if byte_at(h, j) != 46 {
+    if byte_at(h, j) != b'.' {
         return false;
     }
     let k = run_end(h, Class::Digit, j + 1);
     if k == j + 1 {
         return false;
     }
-    if byte_at(h, k) != 58 {
+    if byte_at(h, k) != b':' {
         return false;
     }
     is_blank(byte_at(h, k + 1))

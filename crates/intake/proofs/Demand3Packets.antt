@@ -18,7 +18,7 @@ use Rattle.scan.proofs.Values.{dwords-part}
 use Rattle.packet.specs.declared.Answer.{Answer}
 use Rattle.packet.specs.declared.Answer.the-variants as P
 use Rattle.packet.specs.declared.Packet.{Packet}
-use Rattle.packet.specs.Packet.{viewed, entriesOf, numberChecked, after, numberOf, placesOf, viewFrom, packetOf, unless, parseOf, listBy}
+use Rattle.packet.specs.Packet.{isReadResponseOrWriteRequest, entriesOf, numberChecked, after, numberOf, placesOf, viewFrom, packetOf, unless, parseOf, listBy}
 use Rattle.packet.proofs.Packets.{passed-whole, length-places}
 use Rattle.questions.specs.Questions.{refusal, viewOf}
 use Rattle.questions.proofs.Views.{view-is-from-n}
@@ -140,7 +140,7 @@ same-packet v book {slots} {places} {slots′} {places′} {a} {b} g h =
 -- ---- the cut
 
 -- no packet of kind 2 or 3 has fewer dwords than there are control entries
-enough-dwords : (kind : ℕ) (s : List ℕ) (count room : ℕ) → viewed kind ≡ true → numberOf kind s count room ≡ 0 → entriesOf s kind ≤ count
+enough-dwords : (kind : ℕ) (s : List ℕ) (count room : ℕ) → isReadResponseOrWriteRequest kind ≡ true → numberOf kind s count room ≡ 0 → entriesOf s kind ≤ count
 enough-dwords kind s count room view none =
     ltb-false count (entriesOf s kind)
     (subst (λ (b : Bool). (b && ltb count (entriesOf s kind)) ≡ false) view (passed-whole kind s count room none .enough))
@@ -154,7 +154,7 @@ accepted-number kind s ds room {p} q = by (numberOf kind s (length ds) room) q
     by (suc n) h = absurd (let z : _≡_ {A = ℕ} 0 1 = cc in omega arith)
 
 -- the view of kinds 2 and 3 starts at n, which is within the dwords
-cut-at : (v : EntryValue) (book : List ℕ) → viewed (v .kind) ≡ true → length (v .dwords) ≤ 256 → {p : Packet} → packetFor v book ≡ P.Packet p
+cut-at : (v : EntryValue) (book : List ℕ) → isReadResponseOrWriteRequest (v .kind) ≡ true → length (v .dwords) ≤ 256 → {p : Packet} → packetFor v book ≡ P.Packet p
     → (p .start ≡ Word.Is (entriesOf book (v .kind))) × (entriesOf book (v .kind) ≤ length (v .dwords))
 unfolding packetFor packetOf viewFrom
 cut-at v book view few {p} q =
@@ -169,7 +169,7 @@ unfolding packetFor refusal
 no-refusal v book q = accepted-number (v .kind) book (v .dwords) (length (v .dwords)) q
 
 -- a packet of kind 2 or 3 has its view from n onward, as the text says
-cut-once : (text : List ℕ) (v : EntryValue) → Belongs text v → viewed (v .kind) ≡ true
+cut-once : (text : List ℕ) (v : EntryValue) → Belongs text v → isReadResponseOrWriteRequest (v .kind) ≡ true
     → (book slots places : List ℕ) (p : Packet) (slots-left places-left : List ℕ) → PacketCall text book slots places (P.Packet p) slots-left places-left
     → CutOnce v book p slots-left
 cut-once text v b view book slots places p slots-left places-left c =

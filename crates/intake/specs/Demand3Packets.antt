@@ -14,7 +14,7 @@ use Rattle.scan.specs.Line.{Line}
 use Rattle.packet.specs.declared.Answer.{Answer}
 use Rattle.packet.specs.declared.Answer.the-variants as P
 use Rattle.packet.specs.declared.Packet.{Packet}
-use Rattle.packet.specs.Packet.{viewed, entriesOf, placesOf, parseOf, listBy}
+use Rattle.packet.specs.Packet.{isReadResponseOrWriteRequest, entriesOf, placesOf, parseOf, listBy}
 use Rattle.questions.specs.Questions.{viewOf}
 use Rattle.record.specs.Grammar.{IsRecord}
 use Rattle.writer.specs.declared.Written.the-variants as W
@@ -108,7 +108,7 @@ pub record OnePacket : Type 0 where
       → (slots′ places′ : List ℕ) (b : Answer) (slots-b places-b : List ℕ) → PacketCall record-text book slots′ places′ b slots-b places-b
       → SamePacket a slots-a places-a b slots-b places-b
   -- The data view of kinds 2 and 3 is cut once, from what the text says.
-  pub cut-once : (text : List ℕ) (v : EntryValue) → Belongs text v → viewed (v .kind) ≡ true
+  pub cut-once : (text : List ℕ) (v : EntryValue) → Belongs text v → isReadResponseOrWriteRequest (v .kind) ≡ true
       → (book slots places : List ℕ) (p : Packet) (slots-left places-left : List ℕ) → PacketCall text book slots places (P.Packet p) slots-left places-left
       → CutOnce v book p slots-left
   -- Never a second cut: however often a text is read, written as a record and fed again, its packet stays the same.

@@ -66,7 +66,7 @@ unfolding named plain typed packetType latchBook threeEntries uuidBook threeUuid
     Finders.innerFrom Finders.seekOf Finders.countInside Finders.nthInside Finders.nameOf Finders.typeOf
     Field.rangeIn Field.valueIn Field.namedIn Field.asks
     Steps.mapFrom Steps.entryOf Steps.filled Steps.controlPlaces Steps.headerPlaces Steps.valuesNamed Steps.gathered Steps.fitting Steps.typeIn Steps.latchBehind Steps.protocolFrom Steps.protocolPlaces Steps.uuidPlaces
-    Packet.viewed Packet.crosses Packet.controlAt Packet.headerAt Packet.entriesOf Packet.numberChecked Packet.numberOf Packet.stepOne Packet.placesOf Packet.uuidOf Packet.firstFrom Packet.viewFrom Packet.packetOf Packet.parseOf
+    Packet.isReadResponseOrWriteRequest Packet.isXdomain Packet.controlAt Packet.headerAt Packet.entriesOf Packet.numberChecked Packet.numberOf Packet.stepOne Packet.placesOf Packet.uuidOf Packet.firstFrom Packet.viewFrom Packet.packetOf Packet.parseOf
 packets-open = tt
 
 -- n = 3: five dwords start their view at 3, three as well, two give 25

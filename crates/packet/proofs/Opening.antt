@@ -17,13 +17,13 @@ use Rattle.packet.specs.declared.Header.the-variants as H
 use Rattle.packet.specs.declared.Opened.{Opened}
 use Rattle.packet.specs.declared.Opened.the-variants as O
 use Rattle.packet.specs.Field.{asks}
-use Rattle.packet.specs.Packet.{viewed, crosses, zeroUuid, isNothing, controlAt, entriesOf, numberChecked, firstFrom, viewFrom, word}
+use Rattle.packet.specs.Packet.{isReadResponseOrWriteRequest, isXdomain, zeroUuid, isNothing, controlAt, entriesOf, numberChecked, firstFrom, viewFrom, word}
 use Rattle.packet.specs.Inner.{headerOf, headerFor, isMissing, openOf}
 
 -- the header table is missing just where it is asked for and the book has none
-pub missing-is : (kind : ℕ) (s : List ℕ) → isMissing (headerFor kind s) ≡ (crosses kind && isNothing (uuidTable s zeroUuid))
+pub missing-is : (kind : ℕ) (s : List ℕ) → isMissing (headerFor kind s) ≡ (isXdomain kind && isNothing (uuidTable s zeroUuid))
 unfolding headerFor
-missing-is kind s = by (crosses kind) (uuidTable s zeroUuid)
+missing-is kind s = by (isXdomain kind) (uuidTable s zeroUuid)
   where
     by : (b : Bool) (f : Found) → isMissing (cond b (headerOf f) H.Unasked) ≡ (b && isNothing f)
     by true (At p) = refl
@@ -63,17 +63,17 @@ module _ (kind : ℕ) (s : List ℕ) (count room : ℕ) where
         entries-is = ap (λ (f : Found). entryCount s (placeOf f)) table
 
         module _ (few : count ≤ 256) where
-          pub open-25 : (viewed kind && ltb count (entryCount s control)) ≡ true → O.Refused 25 ≡ openOf kind s count room
+          pub open-25 : (isReadResponseOrWriteRequest kind && ltb count (entryCount s control)) ≡ true → O.Refused 25 ≡ openOf kind s count room
           unfolding numberChecked
           open-25 e =
-              let short : (viewed kind && ltb count (entriesOf s kind)) ≡ true = rw entries-is e in
+              let short : (isReadResponseOrWriteRequest kind && ltb count (entriesOf s kind)) ≡ true = rw entries-is e in
               let test : numberChecked kind s count room ≡ 25 =
               rw (ne-eqb kind 0 some, table, ← missing-is kind s, there, le-ltb 256 count few, short)
               in
               refused 24 test
 
-          module _ (enough : (viewed kind && ltb count (entryCount s control)) ≡ false) where
-            whole : (viewed kind && ltb count (entriesOf s kind)) ≡ false
+          module _ (enough : (isReadResponseOrWriteRequest kind && ltb count (entryCount s control)) ≡ false) where
+            whole : (isReadResponseOrWriteRequest kind && ltb count (entriesOf s kind)) ≡ false
             whole = rw entries-is enough
 
             pub open-26 : room < count → O.Refused 26 ≡ openOf kind s count room
@@ -97,16 +97,16 @@ module _ (kind : ℕ) (s : List ℕ) (count room : ℕ) where
 -- ---- where the data view starts
 
 module _ (kind : ℕ) (s : List ℕ) (ps : List ℕ) where
-  pub start-viewed : viewed kind ≡ true → {n : ℕ} → n ≡ entryCount s (controlAt s kind) → W.Is (n % 65536) ≡ word (viewFrom kind s ps)
+  pub start-viewed : isReadResponseOrWriteRequest kind ≡ true → {n : ℕ} → n ≡ entryCount s (controlAt s kind) → W.Is (n % 65536) ≡ word (viewFrom kind s ps)
   unfolding viewFrom entriesOf
   start-viewed v e = rw v (ap (λ (k : ℕ). W.Is (k % 65536)) e)
 
-  module _ (v : viewed kind ≡ false) where
-    pub start-other : crosses kind ≡ false → W.Absent ≡ word (viewFrom kind s ps)
+  module _ (v : isReadResponseOrWriteRequest kind ≡ false) where
+    pub start-other : isXdomain kind ≡ false → W.Absent ≡ word (viewFrom kind s ps)
     unfolding viewFrom
     start-other x = rw (v, x)
 
-    module _ (x : crosses kind ≡ true) where
+    module _ (x : isXdomain kind ≡ true) where
       pub start-behind : {i : ℕ} → firstFrom (asks Holds s (bytes "Properties Block Generation")) 0 ps ≡ At i
           → W.Is ((i + 1) % 65536) ≡ word (viewFrom kind s ps)
       unfolding viewFrom

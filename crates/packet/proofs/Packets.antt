@@ -27,12 +27,12 @@ use Rattle.packet.specs.declared.MaybeUuid.the-variants.{Is, Absent}
 use Rattle.packet.specs.declared.fill.Pick.the-variants.{Any, Typed}
 use Rattle.packet.specs.Steps.{entryOf, filled, controlPlaces, headerPlaces, gathered, placesIn, placesBy, uuidPlaces, protocolPlaces, protocolFrom}
 use Rattle.packet.specs.Packet.{
-  crosses,
+  isXdomain,
   zeroUuid,
   isNothing,
   controlAt,
   headerAt,
-  viewed,
+  isReadResponseOrWriteRequest,
   entriesOf,
   numberChecked,
   after,
@@ -75,7 +75,7 @@ length-by s Absent ds ps = refl
 -- each dword has its place
 pub length-places : (kind : ℕ) (s ds : List ℕ) → length (placesOf kind s ds) ≡ length ds
 unfolding placesOf uuidPlaces stepOne headerPlaces controlPlaces
-length-places kind s ds = by (crosses kind)
+length-places kind s ds = by (isXdomain kind)
   where
     control : length (controlPlaces s (controlAt s kind) ds) ≡ length ds
     control = length-map-from (λ i d. entryOf Any [] s (controlAt s kind) i) 0 ds
@@ -119,21 +119,21 @@ module _ (kind : ℕ) (s : List ℕ) (count room : ℕ) where
   -- no number applies: what four of the tests then say
   pub record Passed : Type 0 where
     pub few : count ≤ 256
-    pub enough : (viewed kind && ltb count (entriesOf s kind)) ≡ false
+    pub enough : (isReadResponseOrWriteRequest kind && ltb count (entriesOf s kind)) ≡ false
     pub fit : count ≤ room
-    pub there : (crosses kind && isNothing (uuidTable s zeroUuid)) ≡ false
+    pub there : (isXdomain kind && isNothing (uuidTable s zeroUuid)) ≡ false
 
   pub passed : numberChecked kind s count room ≡ 0 → Passed
   unfolding numberChecked
   passed e =
-      by (eqb kind 0) (isNothing (controlTable s kind)) (crosses kind && isNothing (uuidTable s zeroUuid)) refl (ltb 256 count) refl
-      (viewed kind && ltb count (entriesOf s kind)) refl (ltb room count) refl e
+      by (eqb kind 0) (isNothing (controlTable s kind)) (isXdomain kind && isNothing (uuidTable s zeroUuid)) refl (ltb 256 count) refl
+      (isReadResponseOrWriteRequest kind && ltb count (entriesOf s kind)) refl (ltb room count) refl e
     where
       hit : {n : ℕ} → suc n ≡ 0 → Passed
       hit h = absurd (omega arith)
 
-      by : (a b c : Bool) → (crosses kind && isNothing (uuidTable s zeroUuid)) ≡ c → (d : Bool) → ltb 256 count ≡ d
-          → (x : Bool) → (viewed kind && ltb count (entriesOf s kind)) ≡ x → (f : Bool) → ltb room count ≡ f
+      by : (a b c : Bool) → (isXdomain kind && isNothing (uuidTable s zeroUuid)) ≡ c → (d : Bool) → ltb 256 count ≡ d
+          → (x : Bool) → (isReadResponseOrWriteRequest kind && ltb count (entriesOf s kind)) ≡ x → (f : Bool) → ltb room count ≡ f
           → _≡_ {A = ℕ} (cond a 21 (cond b 22 (cond c 23 (cond d 24 (cond x 25 (cond f 26 0)))))) 0 → Passed
       by true b c p d q x v f r h = hit h
       by false true c p d q x v f r h = hit h
@@ -160,7 +160,7 @@ module _ (kind : ℕ) (s : List ℕ) (count room : ℕ) where
     pub fit : count ≤ room
     pub control : t .control ≡ controlAt s kind
     pub header : t .header ≡ headerFor kind s
-    pub there : (crosses kind && isNothing (uuidTable s zeroUuid)) ≡ false
+    pub there : (isXdomain kind && isNothing (uuidTable s zeroUuid)) ≡ false
 
   pub opened-tables : {t : Tables} → openOf kind s count room ≡ O.Tables t → Open t
   unfolding openOf
@@ -192,7 +192,7 @@ module _ (kind : ℕ) (s : List ℕ) (count room : ℕ) where
 
 module _ (kind : ℕ) (s ds : List ℕ) {t : Tables} {room : ℕ} (o : Open kind s (length ds) room t) where
   -- kinds 8 and 9 have the header table, all others none
-  header-at : (b : Bool) → crosses kind ≡ b → t .header ≡ cond b (H.At (headerAt s)) H.Unasked
+  header-at : (b : Bool) → isXdomain kind ≡ b → t .header ≡ cond b (H.At (headerAt s)) H.Unasked
   unfolding headerFor headerAt
   header-at true x = o .header ∙ rw x (by (uuidTable s zeroUuid) (subst (λ b. (b && isNothing (uuidTable s zeroUuid)) ≡ false) x (o .there)))
     where
@@ -204,7 +204,7 @@ module _ (kind : ℕ) (s ds : List ℕ) {t : Tables} {room : ℕ} (o : Open kind
   control-is : controlPlaces s (t .control) ds ≡ controlPlaces s (controlAt s kind) ds
   control-is = ap (λ (c : ℕ). controlPlaces s c ds) (o .control)
 
-  with-header : (b : Bool) → crosses kind ≡ b
+  with-header : (b : Bool) → isXdomain kind ≡ b
       → (placesWith (t .header) s ds (controlPlaces s (t .control) ds) ≡ placesOf kind s ds)
       × (uuidWith (t .header) s ds (controlPlaces s (t .control) ds) ≡ uuidOf kind s ds)
   unfolding placesOf uuidOf stepOne
@@ -218,10 +218,10 @@ module _ (kind : ℕ) (s ds : List ℕ) {t : Tables} {room : ℕ} (o : Open kind
   )
 
   pub described-places : placesWith (t .header) s ds (controlPlaces s (t .control) ds) ≡ placesOf kind s ds
-  described-places = with-header (crosses kind) refl .0
+  described-places = with-header (isXdomain kind) refl .0
 
   pub described-uuid : uuidWith (t .header) s ds (controlPlaces s (t .control) ds) ≡ uuidOf kind s ds
-  described-uuid = with-header (crosses kind) refl .1
+  described-uuid = with-header (isXdomain kind) refl .1
 
 module _ (kind : ℕ) (s ds out : List ℕ) (fits : length s ≤ 65535) where
   number-is : numberOver kind s (length ds) (length out) ≡ numberChecked kind s (length ds) (length out)

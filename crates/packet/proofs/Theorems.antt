@@ -28,8 +28,8 @@ use Rattle.packet.specs.declared.Packet.{Packet}
 use Rattle.packet.specs.declared.Answer.{Answer}
 use Rattle.packet.specs.declared.Answer.the-variants as A
 use Rattle.packet.specs.Packet.{
-  viewed,
-  crosses,
+  isReadResponseOrWriteRequest,
+  isXdomain,
   zeroUuid,
   isNothing,
   controlAt,
@@ -127,12 +127,12 @@ module _ (k : ℕ) (s : List ℕ) (count room : ℕ) where
     some-control (At p) e h n = let f = control-table-is s b k p e in n (f .value) (found-has s b (kind k) f)
     some-control Nothing e h n = absurd (false-true (sym h))
 
-    no-header : (f : Found) → uuidTable s zeroUuid ≡ f → (c : Bool) → crosses k ≡ c → (c && isNothing f) ≡ true → NoHeader k s
+    no-header : (f : Found) → uuidTable s zeroUuid ≡ f → (c : Bool) → isXdomain k ≡ c → (c && isNothing f) ≡ true → NoHeader k s
     no-header (At p) e true x h = absurd (false-true h)
     no-header Nothing e true x h = record { crossing = x; none = none-has s b (uuid zeroUuid) (uuid-table-none s b zeroUuid e) }
     no-header f e false x h = absurd (false-true h)
 
-    some-header : (f : Found) → uuidTable s zeroUuid ≡ f → (c : Bool) → crosses k ≡ c → (c && isNothing f) ≡ false → NoHeader k s → ⊥
+    some-header : (f : Found) → uuidTable s zeroUuid ≡ f → (c : Bool) → isXdomain k ≡ c → (c && isNothing f) ≡ false → NoHeader k s → ⊥
     some-header (At p) e true x h n = let f = uuid-table-is s b zeroUuid p e in n .none (f .value) (found-has s b (uuid zeroUuid) f)
     some-header Nothing e true x h n = false-true (sym h)
     some-header f e false x h n = false-true (sym x ∙ n .crossing)
@@ -149,7 +149,7 @@ module _ (k : ℕ) (s : List ℕ) (count room : ℕ) where
             count-entries-is s (f .value) p (first-good GoodTable f (b .tables-good)) (first-stands f) ∙ ap (λ (u : Table). length (u .entries)) same
         by Nothing e = absurd (none-has s b (kind k) (control-table-none s b k e) t h)
 
-    too-few : (HasNot s (kind k) → ⊥) → (f : Found) → controlTable s k ≡ f → (v : Bool) → viewed k ≡ v → (v && ltb count (entriesOf s k)) ≡ true → TooFew k s count
+    too-few : (HasNot s (kind k) → ⊥) → (f : Found) → controlTable s k ≡ f → (v : Bool) → isReadResponseOrWriteRequest k ≡ v → (v && ltb count (entriesOf s k)) ≡ true → TooFew k s count
     too-few some Nothing e v x l = absurd (some (none-has s b (kind k) (control-table-none s b k e)))
     too-few some (At p) e false x l = absurd (false-true l)
     too-few some (At p) e true x l =
@@ -157,7 +157,7 @@ module _ (k : ℕ) (s : List ℕ) (count room : ℕ) where
         let h = found-has s b (kind k) f in
         record { viewing = x; table = f .value; has = h; fewer = omega (arith, entries-are (f .value) h, ltb-true count (entriesOf s k) l) }
 
-    enough : (v : Bool) → viewed k ≡ v → (v && ltb count (entriesOf s k)) ≡ false → TooFew k s count → ⊥
+    enough : (v : Bool) → isReadResponseOrWriteRequest k ≡ v → (v && ltb count (entriesOf s k)) ≡ false → TooFew k s count → ⊥
     enough false x l t = false-true (sym x ∙ t .viewing)
     enough true x l t = absurd (let le = ltb-false count (entriesOf s k) l in omega (arith, le, entries-are (t .table) (t .has), t .fewer))
 
@@ -167,9 +167,9 @@ module _ (k : ℕ) (s : List ℕ) (count room : ℕ) where
   checked-chain b c21 =
       test 21 (omega arith) (eqb k 0) _ (eqb-true k 0) (eqb-false k 0) c21
       (λ c22. test 22 (omega arith) (isNothing (controlTable s k)) _ (no-control b (controlTable s k) refl) (some-control b (controlTable s k) refl) c22
-      (λ c23. test 23 (omega arith) (crosses k && isNothing (uuidTable s zeroUuid)) _ (no-header b (uuidTable s zeroUuid) refl (crosses k) refl) (some-header b (uuidTable s zeroUuid) refl (crosses k) refl) c23
+      (λ c23. test 23 (omega arith) (isXdomain k && isNothing (uuidTable s zeroUuid)) _ (no-header b (uuidTable s zeroUuid) refl (isXdomain k) refl) (some-header b (uuidTable s zeroUuid) refl (isXdomain k) refl) c23
       (λ c24. test 24 (omega arith) (ltb 256 count) _ (ltb-true 256 count) (λ h l. absurd (let le = ltb-false 256 count h in omega (arith, le, l))) c24
-      (λ c25. test 25 (omega arith) (viewed k && ltb count (entriesOf s k)) _ (too-few b (c25 22 (omega arith)) (controlTable s k) refl (viewed k) refl) (enough b (viewed k) refl) c25
+      (λ c25. test 25 (omega arith) (isReadResponseOrWriteRequest k && ltb count (entriesOf s k)) _ (too-few b (c25 22 (omega arith)) (controlTable s k) refl (isReadResponseOrWriteRequest k) refl) (enough b (isReadResponseOrWriteRequest k) refl) c25
       (λ c26. test 26 (omega arith) (ltb room count) 0 (ltb-true room count) (λ h l. absurd (let le = ltb-false room count h in omega (arith, le, l))) c26 packet)))))
 
   chain : Bytes s → Answered (numberOf k s count room)

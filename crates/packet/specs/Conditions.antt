@@ -7,7 +7,7 @@ use mathlib.Core.List.{List, _∷_, _++_}
 use lib.Dec.{eqb}
 use lib.ListN.{length}
 use Rattle.book.specs.Grammar.{Owner, kind, uuid, Table, IsBook}
-use Rattle.packet.specs.Packet.{viewed, crosses, zeroUuid}
+use Rattle.packet.specs.Packet.{isReadResponseOrWriteRequest, isXdomain, zeroUuid}
 
 -- the book has a table of that kind or UUID
 pub record Has (s : List ℕ) (owner : Owner) (table : Table) : Type 0 where
@@ -23,12 +23,12 @@ HasNot s owner = (table : Table) → Has s owner table → ⊥
 
 -- number 23: kind 8 or 9 and no header table
 pub record NoHeader (k : ℕ) (s : List ℕ) : Type 0 where
-  pub crossing : crosses k ≡ true
+  pub crossing : isXdomain k ≡ true
   pub none : HasNot s (uuid zeroUuid)
 
 -- number 25: kind 2 or 3, fewer dwords than table entries
 pub record TooFew (k : ℕ) (s : List ℕ) (count : ℕ) : Type 0 where
-  pub viewing : viewed k ≡ true
+  pub viewing : isReadResponseOrWriteRequest k ≡ true
   pub table : Table
   pub has : Has s (kind k) table
   pub fewer : count < length (table .entries)

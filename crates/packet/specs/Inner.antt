@@ -27,7 +27,7 @@ use Rattle.packet.specs.declared.fill.Pick.{Pick}
 use Rattle.packet.specs.declared.fill.Pick.the-variants.{Any, Typed}
 use Rattle.packet.specs.Field.{nameIn}
 use Rattle.packet.specs.Steps.{entryOf, filled, controlPlaces, headerPlaces, gathered, uuidPlaces, latchBehind}
-use Rattle.packet.specs.Packet.{crosses, zeroUuid, controlAt, numberChecked, viewFrom, word}
+use Rattle.packet.specs.Packet.{isXdomain, zeroUuid, controlAt, numberChecked, viewFrom, word}
 
 -- ---- one walk over a table
 
@@ -81,7 +81,7 @@ headerOf (At table) = H.At table
 headerOf Nothing = H.Missing
 
 unfoldable pub headerFor : ℕ → List ℕ → Header
-headerFor kind s = cond (crosses kind) (headerOf (uuidTable s zeroUuid)) H.Unasked
+headerFor kind s = cond (isXdomain kind) (headerOf (uuidTable s zeroUuid)) H.Unasked
 
 abbrev pub isMissing : Header → Bool
 isMissing (H.At table) = false

@@ -25,11 +25,11 @@ use Rattle.packet.specs.Field.{asks}
 use Rattle.packet.specs.Steps.{controlPlaces, headerPlaces, gathered, uuidPlaces}
 
 -- kinds 2 and 3 have a data view from n onward; kinds 8 and 9 cross domains
-unfoldable pub viewed : ℕ → Bool
-viewed kind = eqb kind 2 || eqb kind 3
+unfoldable pub isReadResponseOrWriteRequest : ℕ → Bool
+isReadResponseOrWriteRequest kind = eqb kind 2 || eqb kind 3
 
-unfoldable pub crosses : ℕ → Bool
-crosses kind = eqb kind 8 || eqb kind 9
+unfoldable pub isXdomain : ℕ → Bool
+isXdomain kind = eqb kind 8 || eqb kind 9
 
 -- the all-zero UUID is the header table's
 abbrev pub zeroUuid : Uuid
@@ -57,9 +57,9 @@ unfoldable pub numberChecked : ℕ → List ℕ → ℕ → ℕ → ℕ
 numberChecked kind s count room =
     cond (eqb kind 0) 21
     (cond (isNothing (controlTable s kind)) 22
-    (cond (crosses kind && isNothing (uuidTable s zeroUuid)) 23
+    (cond (isXdomain kind && isNothing (uuidTable s zeroUuid)) 23
     (cond (ltb 256 count) 24
-    (cond (viewed kind && ltb count (entriesOf s kind)) 25
+    (cond (isReadResponseOrWriteRequest kind && ltb count (entriesOf s kind)) 25
     (cond (ltb room count) 26
     0)))))
 
@@ -84,11 +84,11 @@ stepOne kind s ds = headerPlaces s (headerAt s) (controlPlaces s (controlAt s ki
 
 -- the place of each dword's entry, 0 for none: kinds 8 and 9 go on, all others have the control entries
 unfoldable pub placesOf : ℕ → List ℕ → List ℕ → List ℕ
-placesOf kind s ds = cond (crosses kind) (uuidPlaces s ds (stepOne kind s ds)) (controlPlaces s (controlAt s kind) ds)
+placesOf kind s ds = cond (isXdomain kind) (uuidPlaces s ds (stepOne kind s ds)) (controlPlaces s (controlAt s kind) ds)
 
 -- the UUID that step 2 gathers
 unfoldable pub uuidOf : ℕ → List ℕ → List ℕ → MaybeUuid
-uuidOf kind s ds = cond (crosses kind) (gathered s (bytes "UUID") ds (stepOne kind s ds)) Absent
+uuidOf kind s ds = cond (isXdomain kind) (gathered s (bytes "UUID") ds (stepOne kind s ds)) Absent
 
 -- the first index from i on at which an entry is as asked
 unfoldable pub firstFrom : (ℕ → Bool) → ℕ → List ℕ → Found
@@ -103,8 +103,8 @@ behind Nothing = Nothing
 -- where the data view starts: for kinds 2 and 3 at n; for kinds 8 and 9 just after the first field with `Properties Block Generation`
 unfoldable pub viewFrom : ℕ → List ℕ → List ℕ → Found
 viewFrom kind s ps =
-    cond (viewed kind) (At (entriesOf s kind))
-    (cond (crosses kind) (behind (firstFrom (asks Holds s (bytes "Properties Block Generation")) 0 ps))
+    cond (isReadResponseOrWriteRequest kind) (At (entriesOf s kind))
+    (cond (isXdomain kind) (behind (firstFrom (asks Holds s (bytes "Properties Block Generation")) 0 ps))
     Nothing)
 
 -- a start, cut to 16 bits

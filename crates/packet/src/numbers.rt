@@ -12,12 +12,12 @@ ghost use mathlib.Core.Path.{_≡_};
 ghost use mathlib.Core.Bool.{_&&_};
 ghost use lib.Dec.{ltb};
 ghost use Rattle.book.specs.Finders.{entryCount};
-ghost use Rattle.packet.specs.Packet.{viewed, crosses, controlAt, viewFrom, word};
+ghost use Rattle.packet.specs.Packet.{isReadResponseOrWriteRequest, isXdomain, controlAt, viewFrom, word};
 ghost use Rattle.packet.specs.Inner.{headerFor, isMissing, openOf};
 
 // Read responses and write requests: the data view starts behind the control entries.
-pub fn is_viewed(kind: u8) -> bool
-    ensures { λ r. ⌜ r ≡ viewed kind ⌝ }
+pub fn is_read_response_or_write_request(kind: u8) -> bool
+    ensures { λ r. ⌜ r ≡ isReadResponseOrWriteRequest kind ⌝ }
 {
     if kind == 2 {
         return true;
@@ -26,8 +26,8 @@ pub fn is_viewed(kind: u8) -> bool
 }
 
 // Inter-domain requests and responses.
-pub fn is_crossing(kind: u8) -> bool
-    ensures { λ r. ⌜ r ≡ crosses kind ⌝ }
+pub fn is_xdomain_kind(kind: u8) -> bool
+    ensures { λ r. ⌜ r ≡ isXdomain kind ⌝ }
 {
     if kind == 8 {
         return true;
@@ -65,7 +65,7 @@ pub fn open(kind: u8, book: &[u8], count: usize, room: usize) -> Opened
 fn header_for(kind: u8, book: &[u8]) -> Header
     ensures { λ r. ⌜ r ≡ headerFor kind (now (book .entry)) ⌝ }
 {
-    if !is_crossing(kind) {
+    if !is_xdomain_kind(kind) {
         return Header::Unasked;
     }
     let found = find::uuid_table(
@@ -96,9 +96,9 @@ fn is_missing(header: Header) -> bool
 
 // Has a packet with a data view fewer dwords than its table has entries?
 fn is_short(kind: u8, book: &[u8], control: usize, count: usize) -> bool
-    ensures { λ r. ⌜ r ≡ (viewed kind && ltb count (entryCount (now (book .entry)) control)) ⌝ }
+    ensures { λ r. ⌜ r ≡ (isReadResponseOrWriteRequest kind && ltb count (entryCount (now (book .entry)) control)) ⌝ }
 {
-    if !is_viewed(kind) {
+    if !is_read_response_or_write_request(kind) {
         return false;
     }
     count < find::count_entries(book, control)
@@ -109,11 +109,11 @@ pub fn start_of(kind: u8, book: &[u8], control: usize, places: &[u32]) -> MaybeW
     requires { ⌜ control ≡ controlAt (now book) kind ⌝ }
     ensures { λ r. ⌜ r ≡ word (viewFrom kind (now (book .entry)) (now (places .entry))) ⌝ }
 {
-    if is_viewed(kind) {
+    if is_read_response_or_write_request(kind) {
         let n = find::count_entries(book, control);
         return MaybeWord::Is((n % 65_536) as u16);
     }
-    if !is_crossing(kind) {
+    if !is_xdomain_kind(kind) {
         return MaybeWord::Absent;
     }
     let found = first_asked(book, Ask::Holds, b"Properties Block Generation", places, 0);

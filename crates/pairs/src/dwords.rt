@@ -21,7 +21,7 @@ pub enum Piece {
 pub fn inside(value: &[u8]) -> Span
     ensures { λ r. ⌜ Bracketed (now (value .entry)) r ⌝ }
 {
-    if byte_at(value, 0) != 91 {
+    if byte_at(value, 0) != b'[' {
         return Span::Nothing;
     }
     let c = run_end(value, Class::NotClose, 1);
@@ -113,8 +113,8 @@ fn piece_end(inner: &[u8], from: usize) -> usize
 fn is_comma_space(l: &[u8], k: usize) -> bool
     ensures { λ r. ⌜ r ≡ commaSpace (now (l .entry)) k ⌝ }
 {
-    if byte_at(l, k) != 44 {
+    if byte_at(l, k) != b',' {
         return false;
     }
-    byte_at(l, k + 1) == 32
+    byte_at(l, k + 1) == b' '
 }

@@ -76,7 +76,7 @@ pub fn pair_without_equals(s: &[u8]) -> bool
                 equals: m,
                 end: e,
             } => {
-                if byte_at(s, m) != 61 {
+                if byte_at(s, m) != b'=' {
                     return true;
                 }
                 at = e;
@@ -116,7 +116,7 @@ fn try_at(s: &[u8], i: usize, m: usize, tail: usize) -> Pair
     if m <= i {
         return Pair::Miss;
     }
-    if byte_at(s, m) != 61 {
+    if byte_at(s, m) != b'=' {
         return Pair::Miss;
     }
     match value_end(s, m + 1, tail) {
@@ -149,7 +149,7 @@ fn value_end(s: &[u8], v: usize, tail: usize) -> Found
 fn bracket_end(s: &[u8], v: usize) -> Found
     ensures { λ r. ⌜ r ≡ bracketEnd (now (s .entry)) v ⌝ }
 {
-    if byte_at(s, v) != 91 {
+    if byte_at(s, v) != b'[' {
         return Found::Nothing;
     }
     let c = run_end(s, Class::NotClose, v + 1);

@@ -10,15 +10,15 @@ pub struct Digits {
 pub fn digits_of(n: u64) -> Digits
     ensures { λ r. ⌜ DigitsOf n (r .bytes) (r .from) ⌝ }
 {
-    let mut bytes = [48u8; 20];
+    let mut bytes = [b'0'; 20];
     let mut rest = n;
     let mut i: usize = 19;
     while 10 <= rest {
-        bytes[i] = 48 + (rest % 10) as u8;
+        bytes[i] = b'0' + (rest % 10) as u8;
         rest = rest / 10;
         i -= 1;
     }
-    bytes[i] = 48 + (rest % 10) as u8;
+    bytes[i] = b'0' + (rest % 10) as u8;
     Digits {
         bytes: bytes,
         from: i,

@@ -61,7 +61,7 @@ pub fn digit(n: u8) -> u8
     ensures { λ r. ⌜ r ≡ hexDigit n ⌝ }
 {
     if n < 10 {
-        return 48 + n;
+        return b'0' + n;
     }
     87 + n
 }

@@ -16,7 +16,7 @@ use Rattle.text.specs.declared.place.Found.{Found}
 use Rattle.text.specs.declared.place.Found.the-variants.{At, Nothing}
 use Rattle.packet.specs.declared.field.Ask.the-variants.{Holds}
 use Rattle.packet.specs.Field.{asks}
-use Rattle.packet.specs.Packet.{viewed, crosses, entriesOf, placesOf, firstFrom, behind, viewFrom, word}
+use Rattle.packet.specs.Packet.{isReadResponseOrWriteRequest, isXdomain, entriesOf, placesOf, firstFrom, behind, viewFrom, word}
 use Rattle.packet.proofs.Packets.{length-places}
 use Rattle.packet.proofs.Gathering.{first-within}
 use Rattle.questions.proofs.WordAnswer
@@ -43,15 +43,15 @@ module _ (kind : ℕ) (s ds : List ℕ) where
 
   pub start-within : refusal kind s ds ≡ 0 → (n : ℕ) → viewFrom kind s (placesOf kind s ds) ≡ At n → n ≤ length ds
   unfolding viewFrom
-  start-within none n e = by (viewed kind) refl (crosses kind) e
+  start-within none n e = by (isReadResponseOrWriteRequest kind) refl (isXdomain kind) e
     where
       ok : ℕ → Bool
       ok = asks Holds s (bytes "Properties Block Generation")
 
-      control : (b : Bool) → viewed kind ≡ b → ltb (length ds) (entriesOf s kind) ≡ false → At (entriesOf s kind) ≡ At n → n ≤ length ds
+      control : (b : Bool) → isReadResponseOrWriteRequest kind ≡ b → ltb (length ds) (entriesOf s kind) ≡ false → At (entriesOf s kind) ≡ At n → n ≤ length ds
       control b v l h = let same : entriesOf s kind ≡ n = cc in omega (arith, ltb-false (length ds) (entriesOf s kind) l, same)
 
-      by : (v : Bool) → viewed kind ≡ v → (x : Bool)
+      by : (v : Bool) → isReadResponseOrWriteRequest kind ≡ v → (x : Bool)
           → cond v (At (entriesOf s kind)) (cond x (behind (firstFrom ok 0 (placesOf kind s ds))) Nothing) ≡ At n → n ≤ length ds
       by true v x h = control true v (ap (λ (b : Bool). b && ltb (length ds) (entriesOf s kind)) (sym v) ∙ passed kind s ds none .enough) h
       by false v true h =
@@ -92,25 +92,25 @@ module _ (kind : ℕ) (s ds : List ℕ) where
   unfolding viewOf
   view-from none e = ap (viewAt kind s ds) (start-is-not-cut none ∙ ap started e)
 
-  viewed-from : viewed kind ≡ true → viewFrom kind s (placesOf kind s ds) ≡ At (entriesOf s kind)
+  viewed-from : isReadResponseOrWriteRequest kind ≡ true → viewFrom kind s (placesOf kind s ds) ≡ At (entriesOf s kind)
   unfolding viewFrom
   viewed-from v = rw v
 
-  crossing-from : viewed kind ≡ false → crosses kind ≡ true
+  crossing-from : isReadResponseOrWriteRequest kind ≡ false → isXdomain kind ≡ true
       → viewFrom kind s (placesOf kind s ds) ≡ behind (firstFrom (asks Holds s (bytes "Properties Block Generation")) 0 (placesOf kind s ds))
   unfolding viewFrom
   crossing-from v x = rw (v, x)
 
-  other-from : viewed kind ≡ false → crosses kind ≡ false → viewFrom kind s (placesOf kind s ds) ≡ Nothing
+  other-from : isReadResponseOrWriteRequest kind ≡ false → isXdomain kind ≡ false → viewFrom kind s (placesOf kind s ds) ≡ Nothing
   unfolding viewFrom
   other-from v x = rw (v, x)
 
   -- kinds 2 and 3: the caller's own dwords from n onward, n being the number of control entries
-  pub view-is-from-n : viewed kind ≡ true → refusal kind s ds ≡ 0 → viewOf kind s ds ≡ drop (entriesOf s kind) ds
+  pub view-is-from-n : isReadResponseOrWriteRequest kind ≡ true → refusal kind s ds ≡ 0 → viewOf kind s ds ≡ drop (entriesOf s kind) ds
   view-is-from-n v none = view-from none (viewed-from v)
 
   -- empty exactly when there are n dwords
-  pub view-is-empty-at-n : viewed kind ≡ true → refusal kind s ds ≡ 0
+  pub view-is-empty-at-n : isReadResponseOrWriteRequest kind ≡ true → refusal kind s ds ≡ 0
       → ((viewOf kind s ds ≡ []) → length ds ≡ entriesOf s kind) × (length ds ≡ entriesOf s kind → viewOf kind s ds ≡ [])
   view-is-empty-at-n v none = (
     λ e. omega (arith, enough, length-drop (entriesOf s kind) ds, ap length (sym (view-is-from-n v none) ∙ e)),
@@ -127,12 +127,12 @@ module _ (kind : ℕ) (s ds : List ℕ) where
       no-more (x ∷ l) z = absurd (omega arith)
 
   -- kinds 8 and 9: from just after the first field with `Properties Block Generation`, else none
-  pub view-is-behind-generation : viewed kind ≡ false → crosses kind ≡ true → refusal kind s ds ≡ 0
+  pub view-is-behind-generation : isReadResponseOrWriteRequest kind ≡ false → isXdomain kind ≡ true → refusal kind s ds ≡ 0
       → startOf kind s ds ≡ started (behind (firstFrom (asks Holds s (bytes "Properties Block Generation")) 0 (placesOf kind s ds)))
   view-is-behind-generation v x none = start-is-not-cut none ∙ ap started (crossing-from v x)
 
   -- other kinds: none
-  pub others-have-no-view : viewed kind ≡ false → crosses kind ≡ false → refusal kind s ds ≡ 0
+  pub others-have-no-view : isReadResponseOrWriteRequest kind ≡ false → isXdomain kind ≡ false → refusal kind s ds ≡ 0
       → (startOf kind s ds ≡ absent) × (viewOf kind s ds ≡ [])
   others-have-no-view v x none = (start-is-not-cut none ∙ ap started (other-from v x), view-from none (other-from v x))
 

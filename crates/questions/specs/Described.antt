@@ -14,7 +14,7 @@ use Rattle.packet.specs.declared.field.Ask.{Ask}
 use Rattle.packet.specs.declared.field.Ask.the-variants.{Holds}
 use Rattle.packet.specs.Field.{rangeIn, valueIn, namedIn, asks}
 use Rattle.packet.specs.Steps.{gathered}
-use Rattle.packet.specs.Packet.{crosses, firstFrom}
+use Rattle.packet.specs.Packet.{isXdomain, firstFrom}
 use Rattle.field.specs.declared.Field.{Field}
 use Rattle.field.specs.Source.{fieldOf}
 use Rattle.questions.specs.declared.PacketType.{PacketType}
@@ -70,14 +70,14 @@ module _ (s ds ps : List ℕ) where
 
   -- address and offset to 16: kinds 8 and 9 have an `Offset`, all others an `Address`
   unfoldable pub addressIn : ℕ → Told ℕ
-  addressIn kind = cut 16 (asked (cond (crosses kind) (bytes "Offset") (bytes "Address")))
+  addressIn kind = cut 16 (asked (cond (isXdomain kind) (bytes "Offset") (bytes "Address")))
 
   -- sizes to 16: by the kind, and none for the rest
   unfoldable pub sizeIn : ℕ → Told ℕ
   sizeIn kind =
       cond (isRead kind) (cut 16 (asked (bytes "Read Size")))
       (cond (isWrite kind) (cut 16 (asked (bytes "Write Size")))
-      (cond (crosses kind) (cut 16 (asked (bytes "Properties Block Size")))
+      (cond (isXdomain kind) (cut 16 (asked (bytes "Properties Block Size")))
       absent))
 
   -- a UUID by name gathers as step 2 does

@@ -7,7 +7,7 @@ use lib.ListN.{length, drop}
 use Rattle.book.specs.declared.Uuid.{Uuid}
 use Rattle.packet.specs.declared.field.Ask.{Ask}
 use Rattle.packet.specs.Field.{nameIn}
-use Rattle.packet.specs.Packet.{crosses, numberOf, placesOf, uuidOf, viewFrom, word}
+use Rattle.packet.specs.Packet.{isXdomain, numberOf, placesOf, uuidOf, viewFrom, word}
 use Rattle.field.specs.declared.Field.{Field}
 use Rattle.questions.specs.declared.PacketType.{PacketType}
 use Rattle.questions.specs.Answers.{Told, is, absent, refused, unless, maybeUuid, maybeWord}
@@ -64,7 +64,7 @@ module _ (kind : ℕ) (s ds : List ℕ) where
   writeOf = answer (is (described.isWrite kind))
 
   unfoldable pub xdomainOf : Told Bool
-  xdomainOf = answer (is (crosses kind))
+  xdomainOf = answer (is (isXdomain kind))
 
   -- the UUID that step 2 gathered
   unfoldable pub uuidAnswer : Told Uuid

@@ -19,7 +19,7 @@ use packet::field::named_in;
 use packet::field::range_in;
 use packet::field::value_in;
 use packet::field::wide;
-use packet::numbers::is_crossing;
+use packet::numbers::is_xdomain_kind;
 use packet::seek::dword_at;
 use packet::seek::first_asked;
 use packet::seek::gather;
@@ -113,7 +113,7 @@ pub fn adapter_in(book: &[u8], dwords: &[u32], places: &[u32]) -> ByteAnswer
 pub fn address_in(kind: u8, book: &[u8], dwords: &[u32], places: &[u32]) -> WordAnswer
     ensures { λ r. ⌜ wordTold r ≡ addressIn (now (book .entry)) (now (dwords .entry)) (now (places .entry)) kind ⌝ }
 {
-    if is_crossing(kind) {
+    if is_xdomain_kind(kind) {
         return word_asked(book, b"Offset", dwords, places);
     }
     word_asked(book, b"Address", dwords, places)
@@ -129,7 +129,7 @@ pub fn size_in(kind: u8, book: &[u8], dwords: &[u32], places: &[u32]) -> WordAns
     if is_writing(kind) {
         return word_asked(book, b"Write Size", dwords, places);
     }
-    if is_crossing(kind) {
+    if is_xdomain_kind(kind) {
         return word_asked(book, b"Properties Block Size", dwords, places);
     }
     WordAnswer::Absent

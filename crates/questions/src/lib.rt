@@ -32,7 +32,7 @@ use field::Place;
 use packet::Answer;
 use packet::field::Ask;
 use packet::field::name_in;
-use packet::numbers::is_crossing;
+use packet::numbers::is_xdomain_kind;
 ghost use mathlib.Core.Path.{_≡_};
 ghost use Rattle.questions.specs.Answers.{byteTold, wordTold, wideTold, flagTold, uuidTold, typeTold, fieldTold};
 ghost use Rattle.questions.specs.Questions.{
@@ -215,7 +215,7 @@ pub fn is_xdomain(kind: u8, book: &[u8], dwords: &[u32]) -> FlagAnswer
     if number != 0 {
         return FlagAnswer::Refused(number);
     }
-    FlagAnswer::Is(is_crossing(kind))
+    FlagAnswer::Is(is_xdomain_kind(kind))
 }
 
 // The UUID of an inter-domain packet, as step 2 gathered it.

@@ -145,7 +145,7 @@ fn is_letter(letters: Letters, b: u8) -> bool
 {
     match letters {
         Letters::Task => {
-            if b == 32 {
+            if b == b' ' {
                 return false;
             }
             b < 128

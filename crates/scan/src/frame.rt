@@ -23,7 +23,7 @@ pub fn read_frame(line: &[u8]) -> FrameAnswer
     if let Found::At(_) = first_high(line) {
         return FrameAnswer::Refused(3);
     }
-    match last(line, 58) {
+    match last(line, b':') {
         Found::At(k) => FrameAnswer::Colon(k),
         Found::Nothing => FrameAnswer::Refused(4),
     }
@@ -36,11 +36,11 @@ fn is_idle(line: &[u8]) -> bool
     if line.len() == 0 {
         return true;
     }
-    if byte_at(line, 0) == 35 {
+    if byte_at(line, 0) == b'#' {
         return true;
     }
     if line.len() == 1 {
-        return byte_at(line, 0) == 10;
+        return byte_at(line, 0) == b'\n';
     }
     false
 }

@@ -27,18 +27,18 @@ fn put_shown(out: &mut [u8], at: usize, b: u8) -> usize
     if is_plain(b) {
         return put(out, at, &[b]);
     }
-    let text = [92, 120, digit(b / 16), digit(b % 16)];
+    let text = [b'\\', b'x', digit(b / 16), digit(b % 16)];
     put(out, at, &text)
 }
 
 fn is_plain(b: u8) -> bool
     ensures { λ r. ⌜ r ≡ isPlain b ⌝ }
 {
-    if b < 32 {
+    if b < b' ' {
         return false;
     }
-    if 126 < b {
+    if b'~' < b {
         return false;
     }
-    b != 92
+    b != b'\\'
 }

@@ -88,7 +88,7 @@ fn zeros_end(digits: &[u8], most: usize) -> usize
 {
     let mut i: usize = 0;
     while i < most {
-        if digits[i] != 48 {
+        if digits[i] != b'0' {
             return i;
         }
         i += 1;

@@ -20,8 +20,8 @@ pub fn has(c: Class, b: u8) -> bool
         Class::Blank => is_blank(b),
         Class::Digit => is_digit(b),
         Class::Word => is_word(b),
-        Class::NotSpace => b != 32,
-        Class::NotClose => b != 93,
+        Class::NotSpace => b != b' ',
+        Class::NotClose => b != b']',
     }
 }
 
@@ -29,7 +29,7 @@ pub fn has(c: Class, b: u8) -> bool
 pub fn is_blank(b: u8) -> bool
     ensures { λ r. ⌜ r ≡ isBlank b ⌝ }
 {
-    if b == 32 {
+    if b == b' ' {
         return true;
     }
     lies_between(9, 13, b)
@@ -38,7 +38,7 @@ pub fn is_blank(b: u8) -> bool
 pub fn is_digit(b: u8) -> bool
     ensures { λ r. ⌜ r ≡ isDigit b ⌝ }
 {
-    lies_between(48, 57, b)
+    lies_between(b'0', b'9', b)
 }
 
 // A letter, a digit or the underscore.
@@ -51,16 +51,16 @@ pub fn is_word(b: u8) -> bool
     if is_digit(b) {
         return true;
     }
-    b == 95
+    b == b'_'
 }
 
 fn is_letter(b: u8) -> bool
     ensures { λ r. ⌜ r ≡ isLetter b ⌝ }
 {
-    if lies_between(65, 90, b) {
+    if lies_between(b'A', b'Z', b) {
         return true;
     }
-    lies_between(97, 122, b)
+    lies_between(b'a', b'z', b)
 }
 
 pub fn lies_between(low: u8, high: u8, b: u8) -> bool

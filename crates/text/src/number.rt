@@ -52,10 +52,10 @@ fn bare(s: &[u8]) -> &[u8]
     if s.len() < 2 {
         return s;
     }
-    if s[0] != 48 {
+    if s[0] != b'0' {
         return s;
     }
-    if s[1] != 120 {
+    if s[1] != b'x' {
         return s;
     }
     &s[2..]
@@ -95,10 +95,10 @@ fn digit(b: u8) -> u64
     if is_digit(b) {
         return (b as u64) - 48;
     }
-    if lies_between(97, 102, b) {
+    if lies_between(b'a', b'f', b) {
         return (b as u64) - 87;
     }
-    if lies_between(65, 70, b) {
+    if lies_between(b'A', b'F', b) {
         return (b as u64) - 55;
     }
     16

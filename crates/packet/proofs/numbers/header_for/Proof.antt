@@ -1,6 +1,6 @@
 -- `packet::numbers::header_for` meets its contract: sought for the kinds that ask for it. Assumes nothing.
 use mathlib.Core.Bool.{true, false}
-use Rattle.packet.specs.Packet.{crosses}
+use Rattle.packet.specs.Packet.{isXdomain}
 use Rattle.packet.specs.Inner.{headerFor}
 use borrow.Author.Tests.{not-true, not-false}
 use mathlib.Core.Path.{sym, _∙_, _≡_}
@@ -8,12 +8,12 @@ use borrow.Author.Needs.{needs}
 use Rattle.packet.proofs.numbers.header_for.Statement.{statement}
 use Rattle.packet.proofs.numbers.header_for.Tie as tie
 
-is-crossing-requires : tie.Need-is-crossing-requires
-is-crossing-requires c κs = search needs
+is-xdomain-kind-requires : tie.Need-is-xdomain-kind-requires
+is-xdomain-kind-requires c κs = search needs
 
 returns : tie.Need-returns
 unfolding headerFor
-returns c = let e : crosses (c .before .before .before .args .kind) ≡ false = sym (c .before .is-crossing .ensures) ∙ not-true _ (c .if1 .taken) in rw e
+returns c = let e : isXdomain (c .before .before .before .args .kind) ≡ false = sym (c .before .is-xdomain-kind .ensures) ∙ not-true _ (c .if1 .taken) in rw e
 
 uuid-table-requires : tie.Need-uuid-table-requires
 uuid-table-requires c κs = search needs
@@ -26,17 +26,17 @@ enum-told c = search needs
 
 returns-2 : tie.Need-returns-2
 unfolding headerFor
-returns-2 c = let e : crosses (c .before .before .before .before .before .before .before .args .kind) ≡ true = sym (c .before .before .before .before .before .is-crossing .ensures) ∙ not-false _ (c .before .before .before .before .if1 .left) in rw (e, sym (c .before .before .before .uuid-table .ensures), c .before .found .given .1)
+returns-2 c = let e : isXdomain (c .before .before .before .before .before .before .before .args .kind) ≡ true = sym (c .before .before .before .before .before .is-xdomain-kind .ensures) ∙ not-false _ (c .before .before .before .before .if1 .left) in rw (e, sym (c .before .before .before .uuid-table .ensures), c .before .found .given .1)
 
 returns-3 : tie.Need-returns-3
 unfolding headerFor
-returns-3 c = let e : crosses (c .before .before .before .before .before .before .args .kind) ≡ true = sym (c .before .before .before .before .is-crossing .ensures) ∙ not-false _ (c .before .before .before .if1 .left) in rw (e, sym (c .before .before .uuid-table .ensures), c .enum-told .given .1)
+returns-3 c = let e : isXdomain (c .before .before .before .before .before .before .args .kind) ≡ true = sym (c .before .before .before .before .is-xdomain-kind .ensures) ∙ not-false _ (c .before .before .before .if1 .left) in rw (e, sym (c .before .before .uuid-table .ensures), c .enum-told .given .1)
 
 pub header-for-spec : {M : Type 1} → statement M
 header-for-spec =
     tie.close
     (tie.spec
-    is-crossing-requires
+    is-xdomain-kind-requires
     returns
     uuid-table-requires
     enum-known-found

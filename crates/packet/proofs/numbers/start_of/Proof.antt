@@ -11,8 +11,8 @@ use borrow.Author.Needs.{needs}
 use Rattle.packet.proofs.numbers.start_of.Statement.{statement}
 use Rattle.packet.proofs.numbers.start_of.Tie as tie
 
-is-viewed-requires : tie.Need-is-viewed-requires
-is-viewed-requires c κs = search needs
+is-read-response-or-write-request-requires : tie.Need-is-read-response-or-write-request-requires
+is-read-response-or-write-request-requires c κs = search needs
 
 count-entries-requires : tie.Need-count-entries-requires
 count-entries-requires c κs = search needs
@@ -21,13 +21,13 @@ cast-t11 : tie.Need-cast-t11
 cast-t11 c = search needs
 
 returns : tie.Need-returns
-returns c = start-viewed (c .before .before .before .before .before .args .kind) (c .before .before .before .before .before .args .book .now) (c .before .before .before .before .before .args .places .now) (sym (c .before .before .is-viewed .ensures) ∙ c .before .if1 .taken) (c .count-entries .ensures ∙ ap (entryCount (c .before .before .before .before .before .args .book .now)) (c .before .before .before .before .before .pre))
+returns c = start-viewed (c .before .before .before .before .before .args .kind) (c .before .before .before .before .before .args .book .now) (c .before .before .before .before .before .args .places .now) (sym (c .before .before .is-read-response-or-write-request .ensures) ∙ c .before .if1 .taken) (c .count-entries .ensures ∙ ap (entryCount (c .before .before .before .before .before .args .book .now)) (c .before .before .before .before .before .pre))
 
-is-crossing-requires : tie.Need-is-crossing-requires
-is-crossing-requires c κs = search needs
+is-xdomain-kind-requires : tie.Need-is-xdomain-kind-requires
+is-xdomain-kind-requires c κs = search needs
 
 returns-2 : tie.Need-returns-2
-returns-2 c = start-other (c .before .before .before .before .before .before .args .kind) (c .before .before .before .before .before .before .args .book .now) (c .before .before .before .before .before .before .args .places .now) (sym (c .before .before .before .is-viewed .ensures) ∙ c .before .before .if1 .left) (sym (c .before .is-crossing .ensures) ∙ not-true _ (c .if2 .taken))
+returns-2 c = start-other (c .before .before .before .before .before .before .args .kind) (c .before .before .before .before .before .before .args .book .now) (c .before .before .before .before .before .before .args .places .now) (sym (c .before .before .before .is-read-response-or-write-request .ensures) ∙ c .before .before .if1 .left) (sym (c .before .is-xdomain-kind .ensures) ∙ not-true _ (c .if2 .taken))
 
 slice-aggregate-first-asked : tie.Need-slice-aggregate-first-asked
 slice-aggregate-first-asked c = search needs
@@ -50,20 +50,20 @@ enum-told : tie.Need-enum-told
 enum-told c = search needs
 
 returns-3 : tie.Need-returns-3
-returns-3 c = start-behind (c .before .before .before .before .before .before .before .before .before .before .before .args .kind) (c .before .before .before .before .before .before .before .before .before .before .before .args .book .now) (c .before .before .before .before .before .before .before .before .before .before .before .args .places .now) (sym (c .before .before .before .before .before .before .before .before .is-viewed .ensures) ∙ c .before .before .before .before .before .before .before .if1 .left) (sym (c .before .before .before .before .before .before .is-crossing .ensures) ∙ not-false _ (c .before .before .before .before .before .if2 .left)) (sym (c .before .before .before .first-asked .ensures) ∙ c .before .found .given .1)
+returns-3 c = start-behind (c .before .before .before .before .before .before .before .before .before .before .before .args .kind) (c .before .before .before .before .before .before .before .before .before .before .before .args .book .now) (c .before .before .before .before .before .before .before .before .before .before .before .args .places .now) (sym (c .before .before .before .before .before .before .before .before .is-read-response-or-write-request .ensures) ∙ c .before .before .before .before .before .before .before .if1 .left) (sym (c .before .before .before .before .before .before .is-xdomain-kind .ensures) ∙ not-false _ (c .before .before .before .before .before .if2 .left)) (sym (c .before .before .before .first-asked .ensures) ∙ c .before .found .given .1)
 
 returns-4 : tie.Need-returns-4
-returns-4 c = start-none (c .before .before .before .before .before .before .before .before .before .before .args .kind) (c .before .before .before .before .before .before .before .before .before .before .args .book .now) (c .before .before .before .before .before .before .before .before .before .before .args .places .now) (sym (c .before .before .before .before .before .before .before .is-viewed .ensures) ∙ c .before .before .before .before .before .before .if1 .left) (sym (c .before .before .before .before .before .is-crossing .ensures) ∙ not-false _ (c .before .before .before .before .if2 .left)) (sym (c .before .before .first-asked .ensures) ∙ c .enum-told .given .1)
+returns-4 c = start-none (c .before .before .before .before .before .before .before .before .before .before .args .kind) (c .before .before .before .before .before .before .before .before .before .before .args .book .now) (c .before .before .before .before .before .before .before .before .before .before .args .places .now) (sym (c .before .before .before .before .before .before .before .is-read-response-or-write-request .ensures) ∙ c .before .before .before .before .before .before .if1 .left) (sym (c .before .before .before .before .before .is-xdomain-kind .ensures) ∙ not-false _ (c .before .before .before .before .if2 .left)) (sym (c .before .before .first-asked .ensures) ∙ c .enum-told .given .1)
 
 pub start-of-spec : {M : Type 1} → statement M
 start-of-spec =
     tie.close
     (tie.spec
-    is-viewed-requires
+    is-read-response-or-write-request-requires
     count-entries-requires
     cast-t11
     returns
-    is-crossing-requires
+    is-xdomain-kind-requires
     returns-2
     slice-aggregate-first-asked
     first-asked-requires

@@ -5,8 +5,8 @@ use borrow.Author.Needs.{needs}
 use Rattle.questions.proofs.described.address_in.Statement.{statement}
 use Rattle.questions.proofs.described.address_in.Tie as tie
 
-is-crossing-requires : tie.Need-is-crossing-requires
-is-crossing-requires c κs = search needs
+is-xdomain-kind-requires : tie.Need-is-xdomain-kind-requires
+is-xdomain-kind-requires c κs = search needs
 
 slice-aggregate-word-asked : tie.Need-slice-aggregate-word-asked
 slice-aggregate-word-asked c = search needs
@@ -16,7 +16,7 @@ word-asked-requires c κs = search needs
 
 returns : tie.Need-returns
 unfolding addressIn
-returns c = rw (sym (c .before .before .before .is-crossing .ensures) ∙ c .before .before .if1 .taken) (c .word-asked .ensures)
+returns c = rw (sym (c .before .before .before .is-xdomain-kind .ensures) ∙ c .before .before .if1 .taken) (c .word-asked .ensures)
 
 slice-aggregate-word-asked-2 : tie.Need-slice-aggregate-word-asked-2
 slice-aggregate-word-asked-2 c = search needs
@@ -26,13 +26,13 @@ word-asked-requires-2 c κs = search needs
 
 returns-2 : tie.Need-returns-2
 unfolding addressIn
-returns-2 c = rw (sym (c .before .before .before .is-crossing .ensures) ∙ c .before .before .if1 .left) (c .word-asked2 .ensures)
+returns-2 c = rw (sym (c .before .before .before .is-xdomain-kind .ensures) ∙ c .before .before .if1 .left) (c .word-asked2 .ensures)
 
 pub address-in-spec : {M : Type 1} → statement M
 address-in-spec =
     tie.close
     (tie.spec
-    is-crossing-requires
+    is-xdomain-kind-requires
     slice-aggregate-word-asked
     word-asked-requires
     returns

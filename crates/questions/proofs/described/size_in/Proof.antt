@@ -31,8 +31,8 @@ returns-2 : tie.Need-returns-2
 unfolding sizeIn
 returns-2 c = rw (sym (c .before .before .before .before .before .is-reading .ensures) ∙ c .before .before .before .before .if1 .left, sym (c .before .before .before .is-writing .ensures) ∙ c .before .before .if2 .taken) (c .word-asked2 .ensures)
 
-is-crossing-requires : tie.Need-is-crossing-requires
-is-crossing-requires c κs = search needs
+is-xdomain-kind-requires : tie.Need-is-xdomain-kind-requires
+is-xdomain-kind-requires c κs = search needs
 
 slice-aggregate-word-asked-3 : tie.Need-slice-aggregate-word-asked-3
 slice-aggregate-word-asked-3 c = search needs
@@ -42,11 +42,11 @@ word-asked-requires-3 c κs = search needs
 
 returns-3 : tie.Need-returns-3
 unfolding sizeIn
-returns-3 c = rw (sym (c .before .before .before .before .before .before .before .is-reading .ensures) ∙ c .before .before .before .before .before .before .if1 .left, sym (c .before .before .before .before .before .is-writing .ensures) ∙ c .before .before .before .before .if2 .left, sym (c .before .before .before .is-crossing .ensures) ∙ c .before .before .if3 .taken) (c .word-asked3 .ensures)
+returns-3 c = rw (sym (c .before .before .before .before .before .before .before .is-reading .ensures) ∙ c .before .before .before .before .before .before .if1 .left, sym (c .before .before .before .before .before .is-writing .ensures) ∙ c .before .before .before .before .if2 .left, sym (c .before .before .before .is-xdomain-kind .ensures) ∙ c .before .before .if3 .taken) (c .word-asked3 .ensures)
 
 returns-4 : tie.Need-returns-4
 unfolding sizeIn
-returns-4 c = rw (sym (c .before .before .before .before .before .is-reading .ensures) ∙ c .before .before .before .before .if1 .left, sym (c .before .before .before .is-writing .ensures) ∙ c .before .before .if2 .left, sym (c .before .is-crossing .ensures) ∙ c .if3 .left)
+returns-4 c = rw (sym (c .before .before .before .before .before .is-reading .ensures) ∙ c .before .before .before .before .if1 .left, sym (c .before .before .before .is-writing .ensures) ∙ c .before .before .if2 .left, sym (c .before .is-xdomain-kind .ensures) ∙ c .if3 .left)
 
 pub size-in-spec : {M : Type 1} → statement M
 size-in-spec =
@@ -60,7 +60,7 @@ size-in-spec =
     slice-aggregate-word-asked-2
     word-asked-requires-2
     returns-2
-    is-crossing-requires
+    is-xdomain-kind-requires
     slice-aggregate-word-asked-3
     word-asked-requires-3
     returns-3

@@ -19,7 +19,6 @@ use Rattle.packet.specs.declared.MaybeUuid.the-variants as U
 use Rattle.entry.specs.declared.optional.MaybeWord.{MaybeWord}
 use Rattle.entry.specs.declared.optional.MaybeWord.the-variants as W
 use Rattle.packet.specs.declared.field.Ask.the-variants as Ask
-use Rattle.packet.specs.Conditions.{Condition, Applies}
 use Rattle.packet.specs.Field.{rangeIn, valueIn, asks}
 use Rattle.packet.specs.Steps.{valuesNamed, exactlyFour, gathered}
 use Rattle.packet.specs.Packet.{isXdomain, firstFrom, numberOf, placesOf, uuidOf, viewFrom, word}
@@ -28,14 +27,16 @@ use Rattle.packet.proofs.Theorems.{packet-number-exactly, packet-answered-exact
 use Rattle.questions.specs.Answers.{Told, is, absent, refused, unless, maybeUuid, maybeWord}
 use Rattle.questions.specs.Described.{isRead, isWrite, routeIn, topBit, cut, askedAt, asked, adapterIn, addressIn, sizeIn, uuidIn}
 use Rattle.questions.specs.Questions.{refusal, answer, adapterOf, addressOf, sizeOf, uuidByName, uuidAnswer, startOf, routeOf, cmOf}
-use Rattle.meaning.specs.Relation.{First, None, Description, RangeNamed, valueOf, Each, IsUuid, Holds, FoundAt, IsPacket, Stays, GoesOn}
-use Rattle.meaning.specs.Stands.{optionUuid, optionWord}
-use Rattle.meaning.specs.Questions.{Asked, Tells, Adapter, Address, Size, UuidNamed, Kept, Told-of, Question}
+use Rattle.meaning.specs.First.{First, None}
+use Rattle.meaning.specs.Packet.{Description, RangeNamed, valueOf, Each, IsUuid, Holds, FoundAt, IsPacket, Refuses}
+use Rattle.meaning.specs.Call.{Applies, NoNumber, optionUuid, optionWord}
+use Rattle.meaning.specs.Questions.{Asked, Tells, Adapter, Address, Size, UuidNamed, Kept, Sentence, Answers, Question}
 use Rattle.meaning.proofs.One.{first-some, one-first, one-range, one-uuid, one-packet}
 use Rattle.meaning.proofs.Bridge.{Got, Stood, Place, At, range-got, value-at}
 use Rattle.meaning.proofs.Describing.{AllAt, GotEach, gathers}
 use Rattle.meaning.proofs.Meaning.{PacketGot, packet-got, four-or-none, asks-holds, holds-asks, Told as FirstTold, first-told, all-long}
-use Rattle.meaning.proofs.Exactly.{NoNumber, no-number}
+use Rattle.meaning.proofs.Numbers.{none-applies, number-is}
+use Rattle.meaning.proofs.Exactly.{no-number}
 
 -- ---- one answer
 
@@ -73,13 +74,19 @@ module _ (ds : List ℕ) (os : List (Option Description)) where
   one-uuid-named name (is v) (refused n) f g = absurd g
   one-uuid-named name absent (refused n) f g = absurd g
 
+-- no number applies where none of the tables' does
+no-number-applies : (k : ℕ) (s ds : List ℕ) (b : IsBook s) → NoNumber k s (length ds) (length ds) b → (n : ℕ) → Applies k s (length ds) (length ds) n → ⊥
+no-number-applies k s ds b f n (Applies.no-book unlike e) = unlike b
+no-number-applies k s ds b f n (Applies.of-tables c r) =
+    f .none n (subst (λ t. Refuses k t (length ds) (length ds) n) (one-book c b) r)
+
 -- a question has one answer if its sentence has
-pub one-question : (k : ℕ) (s ds : List ℕ) {A : Type 0} (Say : List Table → List (Option Description) → Option Uuid → Option ℕ → Told A → Type 0) → ((b : IsBook s) (os : List (Option Description)) (u : Option Uuid) (n : Option ℕ) → Sole (Say (b .tables) os u n))
+pub one-question : (k : ℕ) (s ds : List ℕ) {A : Type 0} (Say : Sentence A) → ((b : IsBook s) (os : List (Option Description)) (u : Option Uuid) (n : Option ℕ) → Sole (Say (b .tables) os u n))
     → Sole (Question k s ds Say)
 one-question k s ds Say one a c (Question.number n f) (Question.number m g) =
-    by-order n m (λ l. absurd (g .first n l (f .holds))) (λ e. ap refused e) (λ l. absurd (f .first m l (g .holds)))
-one-question k s ds Say one a c (Question.number n f) (Question.answer r g) = absurd (g .no-number n (f .holds))
-one-question k s ds Say one a c (Question.answer r f) (Question.number m g) = absurd (f .no-number m (g .holds))
+    by-order n m (λ l. absurd (g .first n l (f .applies))) (λ e. ap refused e) (λ l. absurd (f .first m l (g .applies)))
+one-question k s ds Say one a c (Question.number n f) (Question.answer r g) = absurd (no-number-applies k s ds (g .book) (g .no-number) n (f .applies))
+one-question k s ds Say one a c (Question.answer r f) (Question.number m g) = absurd (no-number-applies k s ds (f .book) (f .no-number) m (g .applies))
 one-question k s ds Say one a c (Question.answer r f) (Question.answer q g) =
     let same = one-packet k (g .book .tables) ds (subst (λ l. IsPacket k l ds (f .descriptions) (f .uuid) (f .start)) (one-book (f .book) (g .book)) (f .is)) (g .is) in
     one (g .book) (g .descriptions) (g .uuid) (g .start) r q
@@ -142,7 +149,7 @@ lined i (d ∷ ds) (o ∷ os) e = (tt, lined (suc i) ds os (omega arith))
 
 -- ---- questions
 
-module _ (k : ℕ) (s : List ℕ) (s-bytes : Bytes s) (ds : List ℕ) {A : Type 0} (Say : List Table → List (Option Description) → Option Uuid → Option ℕ → Told A → Type 0) where
+module _ (k : ℕ) (s : List ℕ) (s-bytes : Bytes s) (ds : List ℕ) {A : Type 0} (Say : Sentence A) where
   pub asks-exactly : (told : Told A) → ((b : IsBook s) (os : List (Option Description)) → AllAt (b .tables) s os (placesOf k s ds) → IsPacket k (b .tables) ds os (optionUuid (uuidOf k s ds)) (optionWord (word (viewFrom k s (placesOf k s ds)))) → length (placesOf k s ds) ≤ 256
       → Say (b .tables) os (optionUuid (uuidOf k s ds)) (optionWord (word (viewFrom k s (placesOf k s ds)))) told)
       → Question k s ds Say (answer k s ds told)
@@ -156,14 +163,16 @@ module _ (k : ℕ) (s : List ℕ) (s-bytes : Bytes s) (ds : List ℕ) {A : Type 
           Question.answer told
           (record {
             book = w .book;
-            no-number = packet-answered-exactly k s s-bytes (length ds) (length ds) .0 e;
+            no-number = none-applies s (w .book) k (length ds) (length ds) .0 (packet-answered-exactly k s s-bytes (length ds) (length ds) .0 e);
             descriptions = g .values;
             uuid = _;
             start = _;
             is = g .is;
             says = say (w .book) (g .values) (g .there) (g .is) (omega (arith, length-places k s ds, passed k s (length ds) (length ds) (w .checked) .few));
           })
-      by (suc n) e = Question.number (suc n) (packet-number-exactly k s s-bytes (length ds) (length ds) (suc n) (omega arith) .0 e)
+      by (suc n) e =
+          Question.number (suc n)
+          (number-is k s (length ds) (length ds) s-bytes (suc n) .0 (packet-number-exactly k s s-bytes (length ds) (length ds) (suc n) (omega arith) .0 e))
 
 module _ (k : ℕ) (s : List ℕ) (s-bytes : Bytes s) (ds : List ℕ) where
   pub adapter-is : Question k s ds (λ ts os u n. Adapter ds os) (adapterOf k s ds)
@@ -259,8 +268,3 @@ module _ (k : ℕ) (s : List ℕ) (s-bytes : Bytes s) (ds : List ℕ) where
 
   pub start-only : (r : Told ℕ) → Question k s ds (λ ts os u n. Kept n) r → r ≡ startOf k s ds
   start-only r q = one-question k s ds (λ ts os u n. Kept n) (λ b os u n. one-kept n) r (startOf k s ds) q start-is
-
-  -- the route is the dwords' own: the first above the second, 27 under two
-  pub route-is : Question k s ds (λ ts os u n told. told ≡ routeIn ds) (routeOf k s ds)
-  unfolding routeOf
-  route-is = asks-exactly k s s-bytes ds (λ ts os u n told. told ≡ routeIn ds) _ (λ b os a p few. refl)

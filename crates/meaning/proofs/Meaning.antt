@@ -25,31 +25,9 @@ use Rattle.packet.specs.Field.{rangeIn, asks}
 use Rattle.packet.specs.Steps.{controlPlaces, headerPlaces, valuesNamed, exactlyFour, gathered, protocolFrom, protocolPlaces, placesIn, placesBy, uuidPlaces}
 use Rattle.packet.proofs.Packets.{Passed, passed, length-places}
 use Rattle.packet.specs.Packet.{isNothing, numberChecked, isReadResponseOrWriteRequest, isXdomain, zeroUuid, controlAt, headerAt, entriesOf, stepOne, placesOf, uuidOf, firstFrom, behind, viewFrom, word}
-use Rattle.meaning.specs.Relation.{
-  First,
-  FirstOf,
-  None,
-  Description,
-  RangeNamed,
-  Each,
-  Gathers,
-  four,
-  IsUuid,
-  Control,
-  StepOne,
-  TableOf,
-  ProtocolTable,
-  Behind,
-  GoesOn,
-  Stays,
-  Holds,
-  FoundAt,
-  FirstAt,
-  Next,
-  View,
-  IsPacket,
-}
-use Rattle.meaning.specs.Stands.{optionUuid, optionWord}
+use Rattle.meaning.specs.First.{First, FirstOf, None}
+use Rattle.meaning.specs.Packet.{Description, RangeNamed, Each, Gathers, four, IsUuid, Control, StepOne, TableOf, ProtocolTable, Behind, GoesOn, Stays, Holds, FoundAt, JustAfter, View, IsPacket}
+use Rattle.meaning.specs.Call.{optionUuid, optionWord}
 use Rattle.meaning.proofs.One.{one-gather, one-range, one-step}
 use Rattle.meaning.proofs.Bridge.{Got, Place, At, TableAt, table-place, range-got}
 use Rattle.meaning.proofs.Describing.{AllAt, GotEach, control-got, header-got, gathers, Latch, protocol-got}
@@ -250,17 +228,17 @@ module _ (s : List ℕ) (b : IsBook s) where
 
   -- just after the first that holds a range
   behind-first : (os : List (Option Description)) (ps : List ℕ) → AllAt (b .tables) s os ps → length ps ≤ 256 → (name : List ℕ)
-      → Next (FirstAt (Holds name) os) (optionWord (word (behind (firstFrom (asks Ask.Holds s name) 0 ps))))
+      → JustAfter (Holds name) os (optionWord (word (behind (firstFrom (asks Ask.Holds s name) 0 ps))))
   behind-first os ps a few name =
       by (firstFrom (asks Ask.Holds s name) 0 ps)
       (first-told (asks Ask.Holds s name) (Holds name) (asks-holds name) (holds-asks name) 0 os ps a)
     where
-      by : (f : Found) → Told (asks Ask.Holds s name) (Holds name) (asks-holds name) (holds-asks name) os 0 f → Next (FirstAt (Holds name) os) (optionWord (word (behind f)))
+      by : (f : Found) → Told (asks Ask.Holds s name) (Holds name) (asks-holds name) (holds-asks name) os 0 f → JustAfter (Holds name) os (optionWord (word (behind f)))
       by (F.At j) t =
           let near : t .0 < length os = first-near (Holds name) os (t .0) (t .2) in
           let small : j + 1 < 65536 = omega (arith, near, few, all-long os ps a, t .1) in
           let is : suc (t .0) ≡ (j + 1) % 65536 = omega (arith, t .1, cut-none small) in
-          subst (λ n. Next (FirstAt (Holds name) os) (some n)) is (t .2)
+          (t .0, t .2, sym is)
       by F.Nothing t = t
 
   pub view-got : (k : ℕ) (control : Table) (p : ℕ) → TableAt (b .tables) s control p → controlAt s k ≡ p → (os : List (Option Description)) (ps : List ℕ) → AllAt (b .tables) s os ps
@@ -273,7 +251,7 @@ module _ (s : List ℕ) (b : IsBook s) where
 
       by : (v c : Bool) → (v && ltb (length ps) (entryCount s (controlAt s k))) ≡ false
           → cond v (optionWord (word (cond v (F.At (entryCount s (controlAt s k))) (cond c (behind (firstFrom (asks Ask.Holds s (bytes "Properties Block Generation")) 0 ps)) F.Nothing))) ≡ some (length (control .entries)))
-          (cond c (Next (FirstAt (Holds (bytes "Properties Block Generation")) os) (optionWord (word (cond v (F.At (entryCount s (controlAt s k))) (cond c (behind (firstFrom (asks Ask.Holds s (bytes "Properties Block Generation")) 0 ps)) F.Nothing)))))
+          (cond c (JustAfter (Holds (bytes "Properties Block Generation")) os (optionWord (word (cond v (F.At (entryCount s (controlAt s k))) (cond c (behind (firstFrom (asks Ask.Holds s (bytes "Properties Block Generation")) 0 ps)) F.Nothing)))))
           (optionWord (word (cond v (F.At (entryCount s (controlAt s k))) (cond c (behind (firstFrom (asks Ask.Holds s (bytes "Properties Block Generation")) 0 ps)) F.Nothing))) ≡ none))
       by true c e =
           let le = ltb-false (length ps) (entryCount s (controlAt s k)) e in

@@ -1,20 +1,30 @@
--- The numbers of the relation are the conditions of the packet call. Assumes nothing.
-use Prim.Native.Nat.{ℕ, _<_}
+-- The numbers of the relation are those of the packet call: on a book each condition of the one is that of the other, and both run in number order.
+-- Assumes nothing.
+use Prim.Native.Nat.{ℕ, zero, suc, _<_}
 use mathlib.Core.Path.{_≡_, refl, sym, ap, subst, _∙_}
 use mathlib.Core.Bool.{Bool, true, false, cond}
 use mathlib.Core.List.{List, [], _∷_, _++_}
 use mathlib.Core.Logic.{_↔_}
 use mathlib.Core.Option.{Option, some, none}
 use native.Mathlib.Omega.{arith}
-use borrow.Author.Tests.{eqb-true}
+use borrow.Author.Tests.{eqb-true, ne-eqb}
 use lib.Dec.{eqb}
 use lib.ListN.{length}
+use Rattle.text.proofs.Places.{by-order}
+use Rattle.tlv.specs.Number.{Bytes}
 use Rattle.tlv.specs.Grammar.{All, Apart}
+use Rattle.book.specs.declared.Checked.{Checked}
+use Rattle.book.specs.declared.Checked.the-variants as C
+use Rattle.book.specs.Reading.{checkOf, refusalOf}
 use Rattle.book.specs.Grammar.{Owner, kind, uuid, Table, IsBook}
+use Rattle.book.proofs.Book.{book-is, book-all}
 use Rattle.book.proofs.Unique.{one-book}
-use Rattle.packet.specs.Conditions.{Has, HasNot, NoHeader, TooFew, Condition}
+use Rattle.packet.specs.Conditions.{Has, HasNot, NoHeader, TooFew as FewDwords, Condition, Applies as PacketApplies}
 use Rattle.packet.specs.Packet.{isReadResponseOrWriteRequest, isXdomain, zeroUuid}
-use Rattle.meaning.specs.Relation.{First, None, TableOf, Refuses}
+use Rattle.packet.proofs.Packets.{number-20}
+use Rattle.meaning.specs.First.{First, None}
+use Rattle.meaning.specs.Packet.{TableOf, TooFew, Refuses}
+use Rattle.meaning.specs.Call.{Applies, IsNumber, NoNumber}
 use Rattle.meaning.proofs.One.{among-all}
 
 -- none is so, if of each that stands among them it is not
@@ -50,15 +60,21 @@ module _ (s : List ℕ) (b : IsBook s) where
     λ f. record { book = b; before = f .before; behind = f .behind; among = f .among; owner-is = f .so },
   )
 
+  too-few : (k count : ℕ) → FewDwords k s count ↔ TooFew k (b .tables) count
+  too-few k count = (
+    λ x. record { viewing = x .viewing; control = x .table; control-is = has (kind k) (x .table) .0 (x .has); fewer = x .fewer },
+    λ x. record { viewing = x .viewing; table = x .control; has = has (kind k) (x .control) .1 (x .control-is); fewer = x .fewer },
+  )
+
   -- of a book each condition is the relation's
-  pub number-is : (k count room n : ℕ) → Condition k s count room n ↔ Refuses k (b .tables) count room n
+  pub condition-is : (k count room n : ℕ) → Condition k s count room n ↔ Refuses k (b .tables) count room n
   unfolding Condition
-  number-is k count room n = at (eqb n 20) refl
+  condition-is k count room n = at (eqb n 20) refl
     where
       by : (c d e f g h : Bool)
-          → cond c (k ≡ 0) (cond d (HasNot s (kind k)) (cond e (NoHeader k s) (cond f (256 < count) (cond g (TooFew k s count) (cond h (room < count) ⊥)))))
+          → cond c (k ≡ 0) (cond d (HasNot s (kind k)) (cond e (NoHeader k s) (cond f (256 < count) (cond g (FewDwords k s count) (cond h (room < count) ⊥)))))
           ↔ cond c (k ≡ 0) (cond d (TableOf (b .tables) (kind k) none) (cond e ((isXdomain k ≡ true) × TableOf (b .tables) (uuid zeroUuid) none) (cond f (256 < count)
-          (cond g ((isReadResponseOrWriteRequest k ≡ true) × ((t : Table) × (TableOf (b .tables) (kind k) (some t) × (count < length (t .entries))))) (cond h (room < count) ⊥)))))
+          (cond g (TooFew k (b .tables) count) (cond h (room < count) ⊥)))))
       by true d e f g h = (λ x. x, λ x. x)
       by false true e f g h = has-not (kind k)
       by false false true f g h = (
@@ -66,13 +82,82 @@ module _ (s : List ℕ) (b : IsBook s) where
         λ x. record { crossing = x .0; none = has-not (uuid zeroUuid) .1 (x .1) },
       )
       by false false false true g h = (λ x. x, λ x. x)
-      by false false false false true h = (
-        λ x. (x .viewing, (x .table, (has (kind k) (x .table) .0 (x .has), x .fewer))),
-        λ x. record { viewing = x .0; table = x .1 .0; has = has (kind k) (x .1 .0) .1 (x .1 .1 .0); fewer = x .1 .1 .1 },
-      )
+      by false false false false true h = too-few k count
       by false false false false false true = (λ x. x, λ x. x)
       by false false false false false false = (λ x. x, λ x. x)
 
       at : (a : Bool) → eqb n 20 ≡ a → Condition k s count room n ↔ Refuses k (b .tables) count room n
       at true q = subst (λ m. Condition k s count room m ↔ Refuses k (b .tables) count room m) (sym (eqb-true n 20 q)) (λ f. absurd (f b), λ x. absurd x)
       at false q = rw q (by (eqb n 21) (eqb n 22) (eqb n 23) (eqb n 24) (eqb n 25) (eqb n 26))
+
+  -- none of the one applies where none of the other does
+  pub none-applies : (k count room : ℕ) → ((n : ℕ) → Condition k s count room n → ⊥) ↔ NoNumber k s count room b
+  none-applies k count room = (
+    λ f. record { none = λ j r. f j (condition-is k count room j .1 r) },
+    λ f n c. f .none n (condition-is k count room n .0 c),
+  )
+
+module _ (k : ℕ) (s : List ℕ) (count room : ℕ) where
+  -- no number is below 20
+  below-20 : (j : ℕ) → j < 20 → Condition k s count room j → ⊥
+  unfolding Condition
+  below-20 j l c =
+      rw (
+        ne-eqb j 20 (λ e. absurd (omega (arith, l, e))),
+        ne-eqb j 21 (λ e. absurd (omega (arith, l, e))),
+        ne-eqb j 22 (λ e. absurd (omega (arith, l, e))),
+        ne-eqb j 23 (λ e. absurd (omega (arith, l, e))),
+        ne-eqb j 24 (λ e. absurd (omega (arith, l, e))),
+        ne-eqb j 25 (λ e. absurd (omega (arith, l, e))),
+        ne-eqb j 26 (λ e. absurd (omega (arith, l, e))),
+      ) at c
+
+  condition-20 : (IsBook s → ⊥) → Condition k s count room 20
+  unfolding Condition
+  condition-20 h = h
+
+  number-packet : (n : ℕ) → IsNumber k s count room n → PacketApplies k s count room n
+  number-packet n f = by (f .applies)
+    where
+      by : Applies k s count room n → PacketApplies k s count room n
+      by (Applies.no-book unlike e) =
+          record {
+            holds = subst (Condition k s count room) (sym e) (condition-20 unlike);
+            first = λ j l c. below-20 j (omega (arith, l, e)) c;
+          }
+      by (Applies.of-tables b r) =
+          record {
+            holds = condition-is s b k count room n .1 r;
+            first = λ j l c. f .first j l (Applies.of-tables b (condition-is s b k count room j .0 c));
+          }
+
+  packet-number : Bytes s → (n : ℕ) → PacketApplies k s count room n → IsNumber k s count room n
+  packet-number s-bytes n f = by (checkOf s) refl
+    where
+      with-book : IsBook s → IsNumber k s count room n
+      with-book b =
+          record {
+            applies = Applies.of-tables b (condition-is s b k count room n .0 (f .holds));
+            first = earlier;
+          }
+        where
+          earlier : (j : ℕ) → j < n → Applies k s count room j → ⊥
+          earlier j l (Applies.no-book unlike e) = unlike b
+          earlier j l (Applies.of-tables c r) = f .first j l (condition-is s c k count room j .1 r)
+
+      without : (IsBook s → ⊥) → n ≡ 20 → IsNumber k s count room n
+      without unlike e = record { applies = Applies.no-book unlike e; first = earlier }
+        where
+          earlier : (j : ℕ) → j < n → Applies k s count room j → ⊥
+          earlier j l (Applies.no-book h q) = absurd (omega (arith, l, e, q))
+          earlier j l (Applies.of-tables c r) = unlike c
+
+      by : (r : Checked) → checkOf s ≡ r → IsNumber k s count room n
+      by C.Accepted q = with-book (book-is s s-bytes q)
+      by (C.Refused m) q =
+          let unlike : IsBook s → ⊥ = λ b. absurd (omega (arith, number-20 s q, ap refusalOf (sym (book-all s b) ∙ q))) in
+          without unlike
+          (by-order n 20 (λ l. absurd (below-20 n l (f .holds))) (λ e. e) (λ l. absurd (f .first 20 l (condition-20 unlike))))
+
+  pub number-is : Bytes s → (n : ℕ) → PacketApplies k s count room n ↔ IsNumber k s count room n
+  number-is s-bytes n = (λ f. packet-number s-bytes n f, λ f. number-packet n f)

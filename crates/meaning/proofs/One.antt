@@ -13,42 +13,8 @@ use Rattle.tlv.specs.Grammar.{All}
 use Rattle.book.specs.declared.Uuid.{Uuid}
 use Rattle.book.specs.Grammar.{Value, Range, Entry, Owner, kind, uuid, Table}
 use Rattle.packet.specs.Packet.{isReadResponseOrWriteRequest, isXdomain, zeroUuid}
-use Rattle.meaning.specs.Relation.{
-  First,
-  FirstOf,
-  None,
-  Else,
-  Description,
-  OfOffset,
-  OfType,
-  Taken,
-  Named,
-  RangeNamed,
-  valueOf,
-  ValueNamed,
-  TypeNamed,
-  Each,
-  Gathers,
-  four,
-  IsUuid,
-  Control,
-  StepOne,
-  Fits,
-  Takes,
-  Latches,
-  Governs,
-  StepThree,
-  TableOf,
-  ProtocolTable,
-  Behind,
-  GoesOn,
-  Stays,
-  Holds,
-  FirstAt,
-  Next,
-  View,
-  IsPacket,
-}
+use Rattle.meaning.specs.First.{First, FirstOf, None, Else}
+use Rattle.meaning.specs.Packet.{Description, OfOffset, OfType, Taken, Named, rangesOf, RangeNamed, valueOf, ValueNumbered, TypeNamed, Each, Gathers, four, IsUuid, Control, StepOne, Fits, Takes, Latches, Governs, StepThree, TableOf, ProtocolTable, Behind, GoesOn, Stays, Holds, FoundAt, JustAfter, View, IsPacket}
 
 -- at most one answer
 abbrev pub Single : {X : Type 0} → (Option X → Type 0) → Type 0
@@ -106,8 +72,12 @@ one-taken So t none (some e) f g = absurd (first-some So (g .1) f)
 one-taken So t none none f g = refl
 
 pub one-range : (name : List ℕ) (o : Option Description) → Single (RangeNamed name o)
-one-range name (some d) = one-of (λ q. q .name ≡ name) (d .entry .ranges)
-one-range name none = λ a b f g. f ∙ sym g
+one-range name o = one-of (λ q. q .name ≡ name) (rangesOf o)
+
+-- the book's row for the value of a range that may be there
+abbrev pub ValueNamed : Option Range → ℕ → Option Value → Type 0
+ValueNamed (some r) dword v = ValueNumbered r (valueOf r dword) v
+ValueNamed none dword v = v ≡ none
 
 pub one-value : (r : Option Range) (dword : ℕ) → Single (ValueNamed r dword)
 one-value (some r) dword = one-of (λ w. w .number ≡ valueOf r dword) (r .values)
@@ -201,30 +171,22 @@ one-protocol tables none = λ a b f g. f ∙ sym g
 
 -- ---- the view
 
-pub one-at : (So : Option Description → Type 0) (os : List (Option Description)) → Single (FirstAt So os)
-one-at So os (some n) (some m) f g = ap some (sym (f .so-many) ∙ ap length (one-first So (f .first) (g .first) .1) ∙ g .so-many)
-one-at So os (some n) none f g = absurd (first-some So (f .first) g)
-one-at So os none (some m) f g = absurd (first-some So (g .first) f)
-one-at So os none none f g = refl
-
-one-next : {P : Option ℕ → Type 0} → Single P → Single (Next P)
-one-next p (some zero) b f g = absurd f
-one-next p (some (suc n)) (some zero) f g = absurd g
-one-next p (some (suc n)) (some (suc m)) f g = ap (λ (k : ℕ). some (suc k)) (Option·some-injective n m (p (some n) (some m) f g))
-one-next p (some (suc n)) none f g = absurd (Option·some-ne-none n (p (some n) none f g))
-one-next p none (some zero) f g = absurd g
-one-next p none (some (suc m)) f g = absurd (Option·some-ne-none m (p (some m) none g f))
-one-next p none none f g = refl
+pub one-after : (So : Option Description → Type 0) (os : List (Option Description)) → Single (JustAfter So os)
+one-after So os (some n) (some m) f g =
+    ap some (f .2 ∙ ap suc (sym (f .1 .so-many) ∙ ap length (one-first So (f .1 .first) (g .1 .first) .1) ∙ g .1 .so-many) ∙ sym (g .2))
+one-after So os (some n) none f g = absurd (first-some So (f .1 .first) g)
+one-after So os none (some m) f g = absurd (first-some So (g .1 .first) f)
+one-after So os none none f g = refl
 
 pub one-view : (k : ℕ) (control : Table) (os : List (Option Description)) → Single (View k control os)
 one-view k control os a b = by (isReadResponseOrWriteRequest k) (isXdomain k)
   where
     by : (v c : Bool)
-        → cond v (a ≡ some (length (control .entries))) (cond c (Next (FirstAt (Holds (bytes "Properties Block Generation")) os) a) (a ≡ none))
-        → cond v (b ≡ some (length (control .entries))) (cond c (Next (FirstAt (Holds (bytes "Properties Block Generation")) os) b) (b ≡ none))
+        → cond v (a ≡ some (length (control .entries))) (cond c (JustAfter (Holds (bytes "Properties Block Generation")) os a) (a ≡ none))
+        → cond v (b ≡ some (length (control .entries))) (cond c (JustAfter (Holds (bytes "Properties Block Generation")) os b) (b ≡ none))
         → a ≡ b
     by true c f g = f ∙ sym g
-    by false true f g = one-next (one-at (Holds (bytes "Properties Block Generation")) os) a b f g
+    by false true f g = one-after (Holds (bytes "Properties Block Generation")) os a b f g
     by false false f g = f ∙ sym g
 
 -- ---- the packet

@@ -20,8 +20,9 @@ use Rattle.packet.specs.Packet.{isXdomain, zeroUuid}
 use Rattle.field.specs.declared.Source.{Source}
 use Rattle.field.specs.declared.Source.the-variants as S
 use Rattle.field.specs.Source.{standsIn, sourceOf}
-use Rattle.meaning.specs.Relation.{First, None, Else, Description, Taken, TableOf, Each, Behind, Control, StepOne, StepThree, GoesOn, Stays, ProtocolTable, IsPacket}
-use Rattle.meaning.specs.Stands.{Stands}
+use Rattle.meaning.specs.First.{First, None, Else}
+use Rattle.meaning.specs.Packet.{Description, Taken, TableOf, Each, Behind, Control, StepOne, StepThree, GoesOn, Stays, ProtocolTable, IsPacket}
+use Rattle.meaning.specs.Places.{Stands}
 use Rattle.meaning.specs.Questions.{IsSource}
 use Rattle.meaning.proofs.One.{among-all, one-split}
 use Rattle.meaning.proofs.Bridge.{At, Located, TableAt, some-bytes, fields-both, owner-both}

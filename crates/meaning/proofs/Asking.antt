@@ -151,6 +151,7 @@ lined i (d ∷ ds) (o ∷ os) e = (tt, lined (suc i) ds os (omega arith))
 
 module _ (k : ℕ) (s : List ℕ) (s-bytes : Bytes s) (ds : List ℕ) {A : Type 0} (Say : Sentence A) where
   pub asks-exactly : (told : Told A) → ((b : IsBook s) (os : List (Option Description)) → AllAt (b .tables) s os (placesOf k s ds) → IsPacket k (b .tables) ds os (optionUuid (uuidOf k s ds)) (optionWord (word (viewFrom k s (placesOf k s ds)))) → length (placesOf k s ds) ≤ 256
+      → numberOf k s (length ds) (length ds) ≡ 0
       → Say (b .tables) os (optionUuid (uuidOf k s ds)) (optionWord (word (viewFrom k s (placesOf k s ds)))) told)
       → Question k s ds Say (answer k s ds told)
   unfolding answer refusal
@@ -168,7 +169,7 @@ module _ (k : ℕ) (s : List ℕ) (s-bytes : Bytes s) (ds : List ℕ) {A : Type 
             uuid = _;
             start = _;
             is = g .is;
-            says = say (w .book) (g .values) (g .there) (g .is) (omega (arith, length-places k s ds, passed k s (length ds) (length ds) (w .checked) .few));
+            says = say (w .book) (g .values) (g .there) (g .is) (omega (arith, length-places k s ds, passed k s (length ds) (length ds) (w .checked) .few)) e;
           })
       by (suc n) e =
           Question.number (suc n)
@@ -177,14 +178,14 @@ module _ (k : ℕ) (s : List ℕ) (s-bytes : Bytes s) (ds : List ℕ) {A : Type 
 module _ (k : ℕ) (s : List ℕ) (s-bytes : Bytes s) (ds : List ℕ) where
   pub adapter-is : Question k s ds (λ ts os u n. Adapter ds os) (adapterOf k s ds)
   unfolding adapterOf adapterIn
-  adapter-is = asks-exactly k s s-bytes ds (λ ts os u n. Adapter ds os) _ (λ b os a p few. tells s b ds os (placesOf k s ds) a 8 (bytes "Adapter Num"))
+  adapter-is = asks-exactly k s s-bytes ds (λ ts os u n. Adapter ds os) _ (λ b os a p few clear. tells s b ds os (placesOf k s ds) a 8 (bytes "Adapter Num"))
 
   pub adapter-only : (r : Told ℕ) → Question k s ds (λ ts os u n. Adapter ds os) r → r ≡ adapterOf k s ds
   adapter-only r q = one-question k s ds (λ ts os u n. Adapter ds os) (λ b os u n. one-tells ds os 8 (bytes "Adapter Num")) r (adapterOf k s ds) q adapter-is
 
   pub address-is : Question k s ds (λ ts os u n. Address ds os k) (addressOf k s ds)
   unfolding addressOf addressIn
-  address-is = asks-exactly k s s-bytes ds (λ ts os u n. Address ds os k) _ (λ b os a p few. tells s b ds os (placesOf k s ds) a 16 (cond (isXdomain k) (bytes "Offset") (bytes "Address")))
+  address-is = asks-exactly k s s-bytes ds (λ ts os u n. Address ds os k) _ (λ b os a p few clear. tells s b ds os (placesOf k s ds) a 16 (cond (isXdomain k) (bytes "Offset") (bytes "Address")))
 
   pub address-only : (r : Told ℕ) → Question k s ds (λ ts os u n. Address ds os k) r → r ≡ addressOf k s ds
   address-only r q = one-question k s ds (λ ts os u n. Address ds os k) (λ b os u n. one-tells ds os 16 (cond (isXdomain k) (bytes "Offset") (bytes "Address"))) r (addressOf k s ds) q address-is
@@ -218,7 +219,7 @@ module _ (k : ℕ) (s : List ℕ) (s-bytes : Bytes s) (ds : List ℕ) where
 
   pub size-is : Question k s ds (λ ts os u n. Size ds os k) (sizeOf k s ds)
   unfolding sizeOf
-  size-is = asks-exactly k s s-bytes ds (λ ts os u n. Size ds os k) _ (λ b os a p few. size-says b os a)
+  size-is = asks-exactly k s s-bytes ds (λ ts os u n. Size ds os k) _ (λ b os a p few clear. size-says b os a)
 
   pub size-only : (r : Told ℕ) → Question k s ds (λ ts os u n. Size ds os k) r → r ≡ sizeOf k s ds
   size-only r q = one-question k s ds (λ ts os u n. Size ds os k) (λ b os u n. one-size os) r (sizeOf k s ds) q size-is
@@ -237,7 +238,7 @@ module _ (k : ℕ) (s : List ℕ) (s-bytes : Bytes s) (ds : List ℕ) where
 
   pub uuid-by-name-is : (name : List ℕ) → Question k s ds (λ ts os u n. UuidNamed ds os name) (uuidByName k s ds name)
   unfolding uuidByName
-  uuid-by-name-is name = asks-exactly k s s-bytes ds (λ ts os u n. UuidNamed ds os name) _ (λ b os a p few. uuid-says name b os a)
+  uuid-by-name-is name = asks-exactly k s s-bytes ds (λ ts os u n. UuidNamed ds os name) _ (λ b os a p few clear. uuid-says name b os a)
 
   pub uuid-by-name-only : (name : List ℕ) (r : Told Uuid) → Question k s ds (λ ts os u n. UuidNamed ds os name) r → r ≡ uuidByName k s ds name
   uuid-by-name-only name r q = one-question k s ds (λ ts os u n. UuidNamed ds os name) (λ b os u n. one-uuid-named ds os name) r (uuidByName k s ds name) q (uuid-by-name-is name)
@@ -245,7 +246,7 @@ module _ (k : ℕ) (s : List ℕ) (s-bytes : Bytes s) (ds : List ℕ) where
   -- the UUID that step 2 gathered, and where the view starts
   pub uuid-is : Question k s ds (λ ts os u n. Kept u) (uuidAnswer k s ds)
   unfolding uuidAnswer
-  uuid-is = asks-exactly k s s-bytes ds (λ ts os u n. Kept u) _ (λ b os a p few. by (uuidOf k s ds))
+  uuid-is = asks-exactly k s s-bytes ds (λ ts os u n. Kept u) _ (λ b os a p few clear. by (uuidOf k s ds))
     where
       by : (u : MaybeUuid) → Kept (optionUuid u) (maybeUuid u)
       by (U.Is u) = refl
@@ -253,7 +254,7 @@ module _ (k : ℕ) (s : List ℕ) (s-bytes : Bytes s) (ds : List ℕ) where
 
   pub start-is : Question k s ds (λ ts os u n. Kept n) (startOf k s ds)
   unfolding startOf
-  start-is = asks-exactly k s s-bytes ds (λ ts os u n. Kept n) _ (λ b os a p few. by (word (viewFrom k s (placesOf k s ds))))
+  start-is = asks-exactly k s s-bytes ds (λ ts os u n. Kept n) _ (λ b os a p few clear. by (word (viewFrom k s (placesOf k s ds))))
     where
       by : (u : MaybeWord) → Kept (optionWord u) (maybeWord u)
       by (W.Is u) = refl

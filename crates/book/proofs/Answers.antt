@@ -358,6 +358,11 @@ module _ (s : List ℕ) (e : Entry) (place : ℕ) (good : GoodEntry e) (a : Stan
       let is : nameAt u (p .from) ≡ name = range-reads r u (p .from) (ap (λ (x : Piece). x .body) (sym (q .is))) .name-is ∙ h in
       rw (eq-eqb (p .tag) 6 (ap (λ (x : Piece). x .tag) (sym (q .is))), is) (same-refl name))
 
+  -- how many bit ranges it has
+  pub count-ranges-is : countInside s place ≡ length (e .ranges)
+  count-ranges-is =
+      count-is entryPiece s e place a rangePiece GoodRange (e .ranges) (good .ranges-good) ranges-start ranges-some ranges-inner ranges-made
+
   -- its bit ranges by their number
   pub nth-range-is : (before : List Range) (r : Range) (behind : List Range) → e .ranges ≡ before ++ (r ∷ behind)
       → drop (nthRange s place (length before)) (take (a .part .to) s) ≡ fieldsBytes (map rangePiece (r ∷ behind))

@@ -92,6 +92,20 @@ range-made : (r : Range) (values : List Value)
 unfolding range-head
 range-made r values = refl
 
+-- what the entry's text ends with from one of its ranges on
+pub range-rest : (s : List ℕ) (e : Entry) (place : ℕ) (a : StandsAt s entryPiece e place) (before : List Range) (r : Range) (behind : List Range)
+    → e .ranges ≡ before ++ (r ∷ behind)
+    → drop (place + 3 + entryUpTo e before) (take (a .part .to) s) ≡ fieldsBytes (map rangePiece (r ∷ behind))
+range-rest s e place a before r behind among =
+    let u : List ℕ = take (a .part .to) s in
+    let f : FieldFound s (a .part .at) (a .part .tag) (a .part .from) (a .part .to) = field-found s (a .part .at) (a .stands) in
+    let start : place + 3 ≡ a .part .from = omega (arith, a .here) in
+    let body : drop (a .part .from) u ≡ entry-head e ++ fieldsBytes (map rangePiece (e .ranges)) =
+    ap (λ (p : Piece). p .body) (sym (a .is)) ∙ entry-made e (e .ranges) in
+    ap (λ (n : ℕ). drop (n + entryUpTo e before) u) start
+    ∙ ap (λ (l : List ℕ). drop (a .part .from + length l) u) (entry-made e before)
+    ∙ rest-from rangePiece u (entry-head e) (a .part .from) (e .ranges) before (r ∷ behind) among body
+
 -- ---- the levels
 
 module _ (s : List ℕ) (b : IsBook s) where

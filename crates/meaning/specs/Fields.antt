@@ -7,10 +7,13 @@ use mathlib.Core.Logic.{_⊎_}
 use mathlib.Core.Option.{Option, some, none}
 use lib.ListN.{length}
 use Rattle.book.specs.Grammar.{textOf, Value, Range, Table}
+use Rattle.tlv.specs.Reading.{between}
+use Rattle.field.specs.declared.Field.{Field}
 use Rattle.field.specs.declared.Span.{Span}
 use Rattle.field.specs.declared.Range.{Range as RangeAnswer}
 use Rattle.field.specs.declared.MaybeRange.{MaybeRange}
 use Rattle.field.specs.declared.MaybeRange.the-variants as M
+use Rattle.field.specs.Ranges.{fieldName, rangeCount, nthRange, rangeNamed, rangeName, valuePlace, valueName}
 use Rattle.meaning.specs.First.{None, First}
 use Rattle.meaning.specs.Packet.{Description, rangesOf, valueOf, ValueNumbered}
 use Rattle.meaning.specs.Places.{RangeStands, ValueStands}
@@ -78,3 +81,23 @@ NumberName range number name =
 abbrev pub SpanOf : ℕ → ℕ → List ℕ → Span → Type 0
 SpanOf behind place [] span = (span .at ≡ 0) × (span .len ≡ 0)
 SpanOf behind place (b ∷ name) span = (span .at ≡ place + behind) × (span .len ≡ length (b ∷ name))
+
+-- ---- the calls
+
+-- of a field: its name, how many bit ranges it has, the k-th of them, and the first of a name
+pub record FieldSays (s : List ℕ) (tables : List Table) (o : Option Description) (f : Field) : Type 0 where
+  pub name-is : NameOf o (fieldName s f)
+  pub count-is : RangeCount o (rangeCount s f)
+  pub nth-is : (k : ℕ) → RangeAt tables o (f .value) k (nthRange s f k)
+  pub named-is : (name : List ℕ) → RangeOfName tables o (f .value) name (rangeNamed s f name)
+
+-- of a bit range that a field answered: its name, the name of its value, and the place of any number among its values
+pub record RangeSays (s : List ℕ) (tables : List Table) (d : Description) (before : List Range) (range : Range) (r : RangeAnswer) : Type 0 where
+  pub name-is : rangeName s r ≡ range .name
+  pub value-name-is : NumberName range (r .value) (valueName s r)
+  pub value-place-is : (number : ℕ) → NumberPlace tables d before range number (valuePlace s (r .place .at) number)
+
+-- of a place: where the name stands of the entry, range or value there, and that its bytes are the name
+pub record NameSays (s : List ℕ) (behind place : ℕ) (name : List ℕ) (span : Span) : Type 0 where
+  pub span-is : SpanOf behind place name span
+  pub bytes-are : between s (span .at) (span .at + span .len) ≡ name

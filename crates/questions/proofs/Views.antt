@@ -26,7 +26,7 @@ use Rattle.questions.specs.declared.WordAnswer.the-variants as Word
 use Rattle.questions.specs.declared.TypeAnswer.{TypeAnswer}
 use Rattle.questions.specs.declared.TypeAnswer.the-variants as TypeA
 use Rattle.questions.specs.Answers.{Told, is, absent, unless, maybeWord, wordTold, typeTold}
-use Rattle.questions.specs.Questions.{refusal, answer, startOf, viewAt, viewOf, nameBy}
+use Rattle.questions.specs.Questions.{refusal, answer, startOf, viewAt, viewOf, viewPlace, nameBy}
 use Rattle.questions.proofs.Over.{passed, no-number}
 
 -- the view of what was found, with no cut
@@ -137,6 +137,12 @@ module _ (kind : ℕ) (s ds : List ℕ) where
   others-have-no-view v x none = (start-is-not-cut none ∙ ap started (other-from v x), view-from none (other-from v x))
 
 -- ---- where there is none
+
+-- no start, no place
+pub no-place : (r : WordAnswer) → OneOf (1 ∷ 2 ∷ []) (Declared.tagOf WordAnswer.the-type r) → viewPlace (wordTold r) ≡ 0
+no-place (Word.Is n) h = absurd (⊎-elim (λ k. omega arith) (λ k. omega arith) h)
+no-place Word.Absent h = refl
+no-place (Word.Refused k) h = refl
 
 module _ (kind : ℕ) (s ds : List ℕ) where
   -- no start, no view

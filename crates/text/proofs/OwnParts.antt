@@ -14,6 +14,11 @@ unfolding orStart
 some-place place [] h = absurd (omega (arith, h))
 some-place place (b ∷ text) h = refl
 
+-- no second part: two that are so lie at one place and have the same elements
+pub one-part : {size : ℕ} {lent a b : Slice} {from : ℕ} {elements : List ℕ} → OwnPart size lent from elements a → OwnPart size lent from elements b
+    → (a .ptr .0 ≡ b .ptr .0) × (a .ptr .1 ≡ b .ptr .1) × (a .now ≡ b .now)
+one-part h k = (h .memory ∙ sym (k .memory), h .place ∙ sym (k .place), h .is ∙ sym (k .is))
+
 module _ {size : ℕ} {lent part : Slice} where
   -- so many elements from one onward, as code cuts them
   pub own-cut : {from : ℕ} (count : ℕ) {elements : List ℕ}
@@ -36,11 +41,11 @@ module _ {size : ℕ} {lent part : Slice} where
       → part .now ≡ elements → OwnPart size lent from elements part
   own-rest {from} fits cut memory place is = own-cut (length (lent .now) - from) cut memory place (omega (arith, fits)) is
 
-  -- the same elements, said otherwise
+  -- the same elements in other words
   pub own-is : {from : ℕ} {a b : List ℕ} → a ≡ b → OwnPart size lent from a part → OwnPart size lent from b part
   own-is {from} e h = subst (λ (l : List ℕ). OwnPart size lent from l part) e h
 
-  -- the same place, said otherwise
+  -- the same place in other words
   pub own-from : {from other : ℕ} {a : List ℕ} → from ≡ other → OwnPart size lent from a part → OwnPart size lent other a part
   own-from {a = a} e h = subst (λ (n : ℕ). OwnPart size lent n a part) e h
 
@@ -101,6 +106,6 @@ module _ {lent part : Slice} (place : ℕ) {text : List ℕ} where
   no-text none memory there is =
       subst (λ (t : List ℕ). OwnText lent place t part) is (own-cut 0 none memory (omega (arith, there)) (omega arith) none)
 
-  -- the same text, and the same place, said otherwise
+  -- the same text and the same place in other words
   pub text-is : (from : ℕ) {other : List ℕ} → other ≡ text → from ≡ place → OwnText lent from other part → OwnText lent place text part
   text-is from {other} e p h = subst (λ (t : List ℕ). OwnText lent place t part) e (subst (λ (n : ℕ). OwnText lent n other part) p h)

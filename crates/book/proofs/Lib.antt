@@ -1,6 +1,7 @@
 -- The laws that the proofs of `book` cite, and its theorems.
 pub mod Steps
 pub mod Names
+pub mod NamePlaces
 pub mod Searching
 pub mod Marks
 pub mod Rows

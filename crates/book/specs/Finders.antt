@@ -5,7 +5,8 @@ use mathlib.Core.Path.{_≡_}
 use mathlib.Core.Bool.{cond}
 use mathlib.Core.List.{List, [], _∷_, _++_, map}
 use lib.Dec.{eqb}
-use lib.ListN.{length, take, drop}
+use lib.ListN.{length, getD, take, drop}
+use Rattle.text.specs.Part.{Slice, OwnText}
 use Rattle.text.specs.declared.place.Found.{Found}
 use Rattle.text.specs.declared.place.Found.the-variants.{At, Nothing}
 use Rattle.tlv.specs.Grammar.{Piece, fieldsBytes, All}
@@ -118,3 +119,22 @@ nameOf s place =
 -- the type of an entry, empty where it has none
 unfoldable pub typeOf : List ℕ → ℕ → List ℕ
 typeOf s place = atField (λ tag from to. typeAt (take to s) from) [] (fieldAt s place)
+
+-- ---- where a name lies
+
+-- the bytes before a name: of a value tag, length and number; of an entry or a bit range tag, length, offset or bits, and the name's own tag and
+-- length
+abbrev pub beforeName : ℕ → ℕ
+beforeName tag = cond (eqb tag 7) 7 8
+
+-- where the name of what stands at a place lies, if it has one
+abbrev pub namePlace : List ℕ → ℕ → ℕ
+namePlace s place = place + beforeName (getD s place 0)
+
+-- that name, the caller's own bytes of the book
+abbrev pub OwnName : Slice → ℕ → List ℕ → Slice → Type 0
+OwnName book place name part = OwnText book (namePlace (book .now) place) name part
+
+-- where the type of an entry lies, if it has one: behind offset and name, and behind its own tag and length
+unfoldable pub typePlace : List ℕ → ℕ → ℕ
+typePlace s place = atField (λ tag from to. after 4 (take to s) (from + 2) + 3) 0 (fieldAt s place)

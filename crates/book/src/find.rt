@@ -11,6 +11,7 @@ use tlv::Step;
 ghost use mathlib.Core.Path.{_≡_};
 ghost use Prim.Native.Nat.{_+_, _≤_};
 ghost use lib.ListN.{length, getD};
+ghost use Rattle.text.specs.Part.{OwnText};
 ghost use Rattle.tlv.specs.Number.{Read};
 ghost use Rattle.tlv.specs.Reading.{parts};
 ghost use Rattle.book.specs.Finders.{
@@ -28,6 +29,8 @@ ghost use Rattle.book.specs.Finders.{
   valueOfNumber,
   nameOf,
   typeOf,
+  OwnName,
+  typePlace,
 };
 
 // The control table of a kind.
@@ -96,9 +99,9 @@ pub fn nth_range(book: &[u8], entry: usize, k: usize) -> usize
     nth(body, inner(body, tag, from), k)
 }
 
-// The name of an entry, a bit range or a value, empty where it has none: a part of the book.
+// The name of an entry, a bit range or a value: the caller's own bytes of the book, and an empty part at its start where there is none.
 pub fn name_of(book: &[u8], place: usize) -> &[u8]
-    ensures { λ r. ⌜ now r ≡ nameOf (now (book .entry)) place ⌝ }
+    ensures { λ r. ⌜ OwnName (book .entry) place (nameOf (now (book .entry)) place) r ⌝ }
 {
     let step = tlv::field_at(book, place);
     let Step::Field { tag, from, to } = step else {
@@ -108,15 +111,15 @@ pub fn name_of(book: &[u8], place: usize) -> &[u8]
     if tag != 7 {
         return name_at(body, from);
     }
-    if to - from < 4 {
+    if to - from < 5 {
         return &book[..0];
     }
     &body[from + 4..]
 }
 
-// The packet type of an entry, empty where it has none: a part of the book.
+// The packet type of an entry, likewise.
 pub fn type_of(book: &[u8], entry: usize) -> &[u8]
-    ensures { λ r. ⌜ now r ≡ typeOf (now (book .entry)) entry ⌝ }
+    ensures { λ r. ⌜ OwnText (book .entry) (typePlace (now (book .entry)) entry) (typeOf (now (book .entry)) entry) r ⌝ }
 {
     let step = tlv::field_at(book, entry);
     let Step::Field { tag: _, from, to } = step else {

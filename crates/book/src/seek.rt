@@ -5,10 +5,13 @@ use crate::field::body_at;
 use text::place::Found;
 use text::same::same;
 use tlv::Step;
+ghost use Prim.Native.Nat.{_+_};
 ghost use mathlib.Core.Path.{_≡_};
 ghost use mathlib.Core.Bool.{_&&_};
 ghost use lib.Dec.{eqb};
+ghost use Rattle.text.specs.Part.{OwnText};
 ghost use Rattle.book.specs.Search.{
+  after,
   nameAt,
   typeAt,
   uuidAt,
@@ -102,7 +105,7 @@ fn tag_of(want: Want) -> u8
 
 // The name of an entry or a range whose body starts at the place, empty where it has none.
 pub fn name_at(s: &[u8], from: usize) -> &[u8]
-    ensures { λ r. ⌜ now r ≡ nameAt (now (s .entry)) from ⌝ }
+    ensures { λ r. ⌜ OwnText (s .entry) (from + 2 + 3) (nameAt (now (s .entry)) from) r ⌝ }
 {
     if s.len() <= from {
         return &s[..0];
@@ -112,7 +115,7 @@ pub fn name_at(s: &[u8], from: usize) -> &[u8]
 
 // The type of an entry whose body starts at the place, empty where it has none.
 pub fn type_at(s: &[u8], from: usize) -> &[u8]
-    ensures { λ r. ⌜ now r ≡ typeAt (now (s .entry)) from ⌝ }
+    ensures { λ r. ⌜ OwnText (s .entry) (after 4 (now (s .entry)) (from + 2) + 3) (typeAt (now (s .entry)) from) r ⌝ }
 {
     if s.len() <= from {
         return &s[..0];

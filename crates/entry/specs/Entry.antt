@@ -6,6 +6,7 @@ use mathlib.Core.List.{List, []}
 use mathlib.Core.Option.{Option, some, none}
 use lib.Dec.{leb, eqb}
 use lib.ListN.{length, take, drop}
+use Rattle.text.specs.Part.{Slice, OwnPart}
 use Rattle.entry.specs.Event.{codeOf, eventOf}
 use Rattle.entry.specs.declared.Entry.{Entry}
 use Rattle.entry.specs.declared.optional.MaybeByte.{MaybeByte}
@@ -42,6 +43,14 @@ pub record EntryValue : Type 0 where
 -- the part of a list that starts at a place, of a length; empty where it would lie outside
 unfoldable pub partOf : List ℕ → ℕ → ℕ → List ℕ
 partOf l at n = cond (leb (at + n) (length l)) (take n (drop at l)) []
+
+-- where that part lies: at its place, or at the start where it would lie outside
+unfoldable pub partFrom : List ℕ → ℕ → ℕ → ℕ
+partFrom l at n = cond (leb (at + n) (length l)) at 0
+
+-- that part of what is lent, the caller's own elements, of `size` bytes each
+abbrev pub OwnPartAt : ℕ → Slice → ℕ → ℕ → Slice → Type 0
+OwnPartAt size lent at n part = OwnPart size lent (partFrom (lent .now) at n) (partOf (lent .now) at n) part
 
 -- a byte that may be absent, as a value
 unfoldable pub byteValue : MaybeByte → Option ℕ

@@ -10,7 +10,7 @@ use crate::optional::MaybeEvent;
 use crate::optional::MaybeFlag;
 use crate::optional::MaybeWord;
 ghost use mathlib.Core.Path.{_≡_};
-ghost use Rattle.entry.specs.Entry.{partOf, eventOfCode, adapterOf, unplugOf};
+ghost use Rattle.entry.specs.Entry.{OwnPartAt, eventOfCode, adapterOf, unplugOf};
 
 pub struct Entry {
     pub task_at: usize,
@@ -78,23 +78,23 @@ pub fn unplug(e: Entry) -> MaybeFlag
     }
 }
 
-// The task's bytes, a part of the text that the entry was read from; of another text that is too short, an empty part.
+// The task's bytes, the caller's own: a part of the text that the entry was read from; of another text that is too short, an empty part at its start.
 pub fn task<'a>(e: Entry, text: &'a [u8]) -> &'a [u8]
-    ensures { λ r. ⌜ now r ≡ partOf (now (text .entry)) (e .«task_at») (e .«task_len») ⌝ }
+    ensures { λ r. ⌜ OwnPartAt 1 (text .entry) (e .«task_at») (e .«task_len») r ⌝ }
 {
     part(text, e.task_at, e.task_len)
 }
 
 // The function's bytes, likewise.
 pub fn function<'a>(e: Entry, text: &'a [u8]) -> &'a [u8]
-    ensures { λ r. ⌜ now r ≡ partOf (now (text .entry)) (e .«function_at») (e .«function_len») ⌝ }
+    ensures { λ r. ⌜ OwnPartAt 1 (text .entry) (e .«function_at») (e .«function_len») r ⌝ }
 {
     part(text, e.function_at, e.function_len)
 }
 
-// The packet's dwords, the first of the lent slots; of slots that are too few, an empty part.
+// The packet's dwords, the first of the lent slots; of slots that are too few, an empty part at their start.
 pub fn data<'a>(e: Entry, slots: &'a [u32]) -> &'a [u32]
-    ensures { λ r. ⌜ now r ≡ partOf (now (slots .entry)) 0 (e .dwords) ⌝ }
+    ensures { λ r. ⌜ OwnPartAt 4 (slots .entry) 0 (e .dwords) r ⌝ }
 {
     let n = e.dwords;
     if slots.len() < n {
@@ -103,9 +103,9 @@ pub fn data<'a>(e: Entry, slots: &'a [u32]) -> &'a [u32]
     &slots[..n]
 }
 
-// The part that starts at a place, of a length; empty where it would lie outside.
+// The part that starts at a place, of a length; empty and at the start where it would lie outside.
 fn part<'a>(text: &'a [u8], at: usize, len: usize) -> &'a [u8]
-    ensures { λ r. ⌜ now r ≡ partOf (now (text .entry)) at len ⌝ }
+    ensures { λ r. ⌜ OwnPartAt 1 (text .entry) at len r ⌝ }
 {
     if text.len() < at {
         return &text[..0];

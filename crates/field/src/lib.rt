@@ -7,7 +7,7 @@
 //     range_name, value_name  the names of a bit range and of its value
 //     name_at, value_at       where in the book a name stands, and a value of a bit range
 //
-// Every call takes any book and any place. A name is a part of the lent book, empty for none.
+// Every call takes any book and any place. A name is the caller's own bytes of the lent book, and an empty part at its start for none.
 mod table;
 
 use crate::table::is_in_control;
@@ -17,6 +17,7 @@ use packet::field::name_in;
 use packet::field::range_in;
 use packet::field::value_in;
 ghost use mathlib.Core.Path.{_≡_};
+ghost use Rattle.book.specs.Finders.{OwnName};
 ghost use Rattle.field.specs.Source.{sourceOf, entryOf, fieldOf};
 ghost use Rattle.field.specs.Names.{Names};
 ghost use Rattle.field.specs.Ranges.{fieldName, rangeCount, rangeAt, nthRange, rangeNamed, rangeName, valuePlace, valueName};
@@ -101,7 +102,7 @@ pub fn entry_of(field: Field) -> usize
 
 // The name of a field.
 pub fn field_name(book: &[u8], field: Field) -> &[u8]
-    ensures { λ r. ⌜ now r ≡ fieldName (now (book .entry)) field ⌝ }
+    ensures { λ r. ⌜ OwnName (book .entry) (entryOf field) (fieldName (now (book .entry)) field) r ⌝ }
 {
     name_in(book, entry_of(field))
 }
@@ -152,14 +153,14 @@ fn range_at(book: &[u8], place: usize, dword: u32) -> MaybeRange
 
 // The name of a bit range.
 pub fn range_name(book: &[u8], range: Range) -> &[u8]
-    ensures { λ r. ⌜ now r ≡ rangeName (now (book .entry)) range ⌝ }
+    ensures { λ r. ⌜ OwnName (book .entry) (range .place .at) (rangeName (now (book .entry)) range) r ⌝ }
 {
     name_in(book, range.place.at)
 }
 
 // The name of a bit range's value.
 pub fn value_name(book: &[u8], range: Range) -> &[u8]
-    ensures { λ r. ⌜ now r ≡ valueName (now (book .entry)) range ⌝ }
+    ensures { λ r. ⌜ OwnName (book .entry) (valuePlace (now (book .entry)) (range .place .at) (range .value)) (valueName (now (book .entry)) range) r ⌝ }
 {
     name_in(book, value_at(book, range.place.at, range.value))
 }

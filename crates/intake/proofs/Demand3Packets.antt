@@ -9,6 +9,8 @@ use borrow.Author.Tests.{le-ltb, ltb-false}
 use lib.Dec.{ltb}
 use lib.ListN.{length, take, drop}
 use lib.Seq.{take-append-seam}
+use Rattle.text.specs.Part.{Slice, OwnDwords}
+use Rattle.text.proofs.OwnParts.{own-is, own-front}
 use Rattle.entry.specs.declared.Entry.{Entry}
 use Rattle.entry.specs.declared.optional.MaybeWord.the-variants as Word
 use Rattle.entry.specs.Entry.{EntryValue, partOf, valueOf}
@@ -20,8 +22,8 @@ use Rattle.packet.specs.declared.Answer.the-variants as P
 use Rattle.packet.specs.declared.Packet.{Packet}
 use Rattle.packet.specs.Packet.{isReadResponseOrWriteRequest, entriesOf, numberChecked, after, numberOf, placesOf, viewFrom, packetOf, unless, parseOf, listBy}
 use Rattle.packet.proofs.Packets.{passed-whole, length-places}
-use Rattle.questions.specs.Questions.{refusal, viewOf}
-use Rattle.questions.proofs.Views.{view-is-from-n}
+use Rattle.questions.specs.Questions.{refusal, viewOf, DataView}
+use Rattle.questions.proofs.Views.{view-is-from-n, view-is-the-callers-own}
 use Rattle.record.specs.Grammar.{recordBytes, IsRecord}
 use Rattle.writer.specs.declared.Written.the-variants as W
 use Rattle.intake.specs.Intake.{Belongs, startsA1, takenOf, takenDwords}
@@ -168,6 +170,17 @@ no-refusal : (v : EntryValue) (book : List ℕ) {p : Packet} → packetFor v boo
 unfolding packetFor refusal
 no-refusal v book q = accepted-number (v .kind) book (v .dwords) (length (v .dwords)) q
 
+-- what `data` hands out of the first slots lies n dwords behind their start
+own-view : (v : EntryValue) (book : List ℕ) (count : ℕ) {left : List ℕ} → isReadResponseOrWriteRequest (v .kind) ≡ true → refusal (v .kind) book (v .dwords) ≡ 0 → take count left ≡ v .dwords
+    → (slots dwords view : Slice) → slots .now ≡ left → OwnDwords slots 0 (take count left) dwords → DataView (v .kind) book dwords view
+    → OwnDwords slots (entriesOf book (v .kind)) (drop (entriesOf book (v .kind)) (v .dwords)) view
+own-view v book count {left} kind none says slots dwords view slots-are first handed =
+    let are : dwords .now ≡ v .dwords = first .is ∙ says in
+    let passed : refusal (v .kind) book (dwords .now) ≡ 0 = ap (refusal (v .kind) book) are ∙ none in
+    own-is (ap (drop (entriesOf book (v .kind))) are)
+    (own-front count (first .is ∙ ap (take count) (sym slots-are)) (first .memory) (omega (arith, first .place))
+    (view-is-the-callers-own (v .kind) book kind passed handed))
+
 -- a packet of kind 2 or 3 has its view from n onward, as the text says
 cut-once : (text : List ℕ) (v : EntryValue) → Belongs text v → isReadResponseOrWriteRequest (v .kind) ≡ true
     → (book slots places : List ℕ) (p : Packet) (slots-left places-left : List ℕ) → PacketCall text book slots places (P.Packet p) slots-left places-left
@@ -177,11 +190,13 @@ cut-once text v b view book slots places p slots-left places-left c =
     let r = says text book slots places (P.Packet p) slots-left places-left c v b in
     let at = cut-at v book view (r .few) (sym (g .is)) in
     let own = dwords-are v book slots places g refl in
+    let none = no-refusal v book (sym (g .is)) in
     record {
       start = at .0;
       enough = at .1;
       view = ap (drop (entriesOf book (v .kind))) own;
-      handed-out = ap (viewOf (v .kind) book) own ∙ view-is-from-n (v .kind) book (v .dwords) view (no-refusal v book (sym (g .is)));
+      handed-out = ap (viewOf (v .kind) book) own ∙ view-is-from-n (v .kind) book (v .dwords) view none;
+      callers-own = own-view v book (p .dwords) view none own;
     }
 
 -- ---- round after round

@@ -1,10 +1,11 @@
--- Demand 3 for packets: a line and its record give one packet, and its data view is cut once. It is stated over the contracts of three calls, `read` and
--- `packet` of crate `intake` and `write` of crate `writer`.
+-- Demand 3 for packets: a line and its record give one packet, and its data view is cut once. It is stated over the contracts of four calls, `read` and
+-- `packet` of crate `intake`, `write` of crate `writer`, and `data` of crate `questions`.
 use Prim.Native.Nat.{ℕ, _≤_}
 use mathlib.Core.Path.{_≡_}
 use mathlib.Core.Bool.{true}
 use mathlib.Core.List.{List}
 use lib.ListN.{length, take, drop}
+use Rattle.text.specs.Part.{Slice, OwnDwords}
 use Rattle.tlv.specs.Number.{Bytes}
 use Rattle.entry.specs.declared.Entry.{Entry}
 use Rattle.entry.specs.declared.optional.MaybeWord.the-variants as Word
@@ -15,7 +16,7 @@ use Rattle.packet.specs.declared.Answer.{Answer}
 use Rattle.packet.specs.declared.Answer.the-variants as P
 use Rattle.packet.specs.declared.Packet.{Packet}
 use Rattle.packet.specs.Packet.{isReadResponseOrWriteRequest, entriesOf, placesOf, parseOf, listBy}
-use Rattle.questions.specs.Questions.{viewOf}
+use Rattle.questions.specs.Questions.{viewOf, DataView}
 use Rattle.record.specs.Grammar.{IsRecord}
 use Rattle.writer.specs.declared.Written.the-variants as W
 use Rattle.intake.specs.Intake.{Belongs}
@@ -66,6 +67,10 @@ pub record CutOnce (v : EntryValue) (book : List ℕ) (p : Packet) (slots-left :
   pub view : drop (entriesOf book (v .kind)) (take (p .dwords) slots-left) ≡ drop (entriesOf book (v .kind)) (v .dwords)
   -- They are what `data` of crate `questions` hands out, asked with the kind, the book and the packet's dwords.
   pub handed-out : viewOf (v .kind) book (take (p .dwords) slots-left) ≡ drop (entriesOf book (v .kind)) (v .dwords)
+  -- What it hands out is the caller's own: lend it the packet's dwords, the first of the slots, and whatever it answers by its contract lies in these
+  -- slots, n dwords behind their start.
+  pub callers-own : (slots dwords view : Slice) → slots .now ≡ slots-left → OwnDwords slots 0 (take (p .dwords) slots-left) dwords → DataView (v .kind) book dwords view
+      → OwnDwords slots (entriesOf book (v .kind)) (drop (entriesOf book (v .kind)) (v .dwords)) view
 
 -- A text was read, its entry was written, and what was written is handed on as a text.
 pub record Round (text next : List ℕ) : Type 0 where

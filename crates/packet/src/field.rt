@@ -5,6 +5,7 @@ use text::same::same;
 ghost use mathlib.Core.Path.{_≡_};
 ghost use Prim.Native.Nat.{_≤_};
 ghost use lib.ListN.{length};
+ghost use Rattle.book.specs.Finders.{OwnName};
 ghost use Rattle.packet.specs.Field.{orElse, nameIn, rangeIn, valueIn, namedIn, asks};
 
 // What an entry is asked for: its own name, or a bit range of that name.
@@ -27,9 +28,9 @@ pub fn wide(place: u32) -> usize
     place as usize
 }
 
-// The name of what stands at the place, a part of the book, empty for none.
+// The name of what stands at the place: the caller's own bytes of the book, and an empty part at its start for none.
 pub fn name_in(book: &[u8], place: usize) -> &[u8]
-    ensures { λ r. ⌜ now r ≡ nameIn (now (book .entry)) place ⌝ }
+    ensures { λ r. ⌜ OwnName (book .entry) place (nameIn (now (book .entry)) place) r ⌝ }
 {
     if place == 0 {
         return &book[..0];

@@ -11,6 +11,8 @@ use types.Run.{OneOf}
 use mathlib.Core.Logic.{⊎-elim}
 use lib.Dec.{ltb}
 use lib.ListN.{length, drop, length-drop}
+use Rattle.text.specs.Part.{Slice, OwnDwords}
+use Rattle.text.proofs.OwnParts.{own-is, own-from}
 use Rattle.text.specs.Quote.{bytes}
 use Rattle.text.specs.declared.place.Found.{Found}
 use Rattle.text.specs.declared.place.Found.the-variants.{At, Nothing}
@@ -26,7 +28,7 @@ use Rattle.questions.specs.declared.WordAnswer.the-variants as Word
 use Rattle.questions.specs.declared.TypeAnswer.{TypeAnswer}
 use Rattle.questions.specs.declared.TypeAnswer.the-variants as TypeA
 use Rattle.questions.specs.Answers.{Told, is, absent, unless, maybeWord, wordTold, typeTold}
-use Rattle.questions.specs.Questions.{refusal, answer, startOf, viewAt, viewOf, nameBy}
+use Rattle.questions.specs.Questions.{refusal, answer, startOf, viewAt, viewOf, viewPlace, DataView, nameBy}
 use Rattle.questions.proofs.Over.{passed, no-number}
 
 -- the view of what was found, with no cut
@@ -109,6 +111,9 @@ module _ (kind : ℕ) (s ds : List ℕ) where
   pub view-is-from-n : isReadResponseOrWriteRequest kind ≡ true → refusal kind s ds ≡ 0 → viewOf kind s ds ≡ drop (entriesOf s kind) ds
   view-is-from-n v none = view-from none (viewed-from v)
 
+  view-starts-at-n : isReadResponseOrWriteRequest kind ≡ true → refusal kind s ds ≡ 0 → startOf kind s ds ≡ is (entriesOf s kind)
+  view-starts-at-n v none = start-is-not-cut none ∙ ap started (viewed-from v)
+
   -- empty exactly when there are n dwords
   pub view-is-empty-at-n : isReadResponseOrWriteRequest kind ≡ true → refusal kind s ds ≡ 0
       → ((viewOf kind s ds ≡ []) → length ds ≡ entriesOf s kind) × (length ds ≡ entriesOf s kind → viewOf kind s ds ≡ [])
@@ -136,7 +141,19 @@ module _ (kind : ℕ) (s ds : List ℕ) where
       → (startOf kind s ds ≡ absent) × (viewOf kind s ds ≡ [])
   others-have-no-view v x none = (start-is-not-cut none ∙ ap started (other-from v x), view-from none (other-from v x))
 
+-- kinds 2 and 3: what is handed out lies n dwords behind the start of what was lent, and is no equal part elsewhere
+pub view-is-the-callers-own : (kind : ℕ) (s : List ℕ) {dwords view : Slice} → isReadResponseOrWriteRequest kind ≡ true → refusal kind s (dwords .now) ≡ 0
+    → DataView kind s dwords view → OwnDwords dwords (entriesOf s kind) (drop (entriesOf s kind) (dwords .now)) view
+view-is-the-callers-own kind s {dwords} v none h =
+    own-is (view-is-from-n kind s (dwords .now) v none) (own-from (ap viewPlace (view-starts-at-n kind s (dwords .now) v none)) h)
+
 -- ---- where there is none
+
+-- no start, no place
+pub no-place : (r : WordAnswer) → OneOf (1 ∷ 2 ∷ []) (Declared.tagOf WordAnswer.the-type r) → viewPlace (wordTold r) ≡ 0
+no-place (Word.Is n) h = absurd (⊎-elim (λ k. omega arith) (λ k. omega arith) h)
+no-place Word.Absent h = refl
+no-place (Word.Refused k) h = refl
 
 module _ (kind : ℕ) (s ds : List ℕ) where
   -- no start, no view

@@ -4,7 +4,9 @@ use Prim.Native.Nat.{ℕ}
 use mathlib.Core.Bool.{Bool}
 use mathlib.Core.List.{List, []}
 use lib.ListN.{length, drop}
+use Rattle.text.specs.Part.{Slice, OwnDwords}
 use Rattle.book.specs.declared.Uuid.{Uuid}
+use Rattle.book.specs.Finders.{OwnName}
 use Rattle.packet.specs.declared.field.Ask.{Ask}
 use Rattle.packet.specs.Field.{nameIn}
 use Rattle.packet.specs.Packet.{isXdomain, numberOf, placesOf, uuidOf, viewFrom, word}
@@ -95,3 +97,25 @@ module _ (kind : ℕ) (s ds : List ℕ) where
   -- the first field of a name, or with a bit range of a name
   unfoldable pub fieldBy : Ask → List ℕ → Told Field
   fieldBy ask name = answer (described.fieldWith s ds (placesOf kind s ds) ask kind name)
+
+-- ---- parts of what is lent
+
+-- where the view lies: at its start; where there is none, an empty part is handed out that lies at the start of the dwords
+abbrev pub viewPlace : Told ℕ → ℕ
+viewPlace (is n) = n
+viewPlace absent = 0
+viewPlace (refused k) = 0
+
+-- the data view of a packet: the caller's own dwords from its start onward
+abbrev pub DataView : ℕ → List ℕ → Slice → Slice → Type 0
+DataView kind s dwords view = OwnDwords dwords (viewPlace (startOf kind s (dwords .now))) (viewOf kind s (dwords .now)) view
+
+-- the place of the value that names a packet type, 0 for none
+abbrev pub namedPlace : Told PacketType → ℕ
+namedPlace (is t) = t .name .at
+namedPlace absent = 0
+namedPlace (refused k) = 0
+
+-- the name of the packet type: the caller's own bytes of the book
+abbrev pub TypeNamePart : ℕ → Slice → List ℕ → Slice → Type 0
+TypeNamePart kind book ds part = OwnName book (namedPlace (typeOf kind (book .now) ds)) (typeName kind (book .now) ds) part

@@ -42,14 +42,14 @@ ghost use Rattle.questions.specs.Questions.{
   addressOf,
   sizeOf,
   startOf,
-  viewOf,
+  DataView,
   readOf,
   writeOf,
   xdomainOf,
   uuidAnswer,
   uuidByName,
   typeOf,
-  typeName,
+  TypeNamePart,
   fieldByOffset,
   fieldBy,
 };
@@ -173,9 +173,10 @@ pub fn data_start(kind: u8, book: &[u8], dwords: &[u32]) -> WordAnswer
     }
 }
 
-// The data view: the caller's own dwords from its start on. Empty also where there is no view, and for a refusal: `data_start` tells which.
+// The data view: the caller's own dwords from its start on. Where there is no view, and for a refusal, an empty part at the start of the dwords:
+// `data_start` tells which.
 pub fn data<'a, 'b>(kind: u8, book: &'b [u8], dwords: &'a [u32]) -> &'a [u32]
-    ensures { λ r. ⌜ now r ≡ viewOf kind (now (book .entry)) (now (dwords .entry)) ⌝ }
+    ensures { λ r. ⌜ DataView kind (now (book .entry)) (dwords .entry) r ⌝ }
 {
     let start = data_start(kind, book, dwords);
     let WordAnswer::Is(n) = start else {
@@ -257,9 +258,9 @@ pub fn packet_type(kind: u8, book: &[u8], dwords: &[u32]) -> TypeAnswer
     }
 }
 
-// The name of the packet type, a part of the book; empty where `packet_type` gives none.
+// The name of the packet type: the caller's own bytes of the book, and an empty part at its start where `packet_type` gives none.
 pub fn packet_type_name<'a, 'b>(kind: u8, book: &'b [u8], dwords: &'a [u32]) -> &'b [u8]
-    ensures { λ r. ⌜ now r ≡ typeName kind (now (book .entry)) (now (dwords .entry)) ⌝ }
+    ensures { λ r. ⌜ TypeNamePart kind (book .entry) (now (dwords .entry)) r ⌝ }
 {
     let told = packet_type(kind, book, dwords);
     let TypeAnswer::Is(named) = told else {

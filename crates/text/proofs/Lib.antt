@@ -2,6 +2,7 @@
 pub mod Places
 pub mod Runs
 pub mod Stripping
+pub mod OwnParts
 pub mod Texts
 pub mod Numbers
 pub mod Decimals

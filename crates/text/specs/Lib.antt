@@ -2,6 +2,7 @@
 pub mod Class
 pub mod Place
 pub mod Run
+pub mod Part
 pub mod Same
 pub mod Number
 pub mod Decimal

@@ -2,7 +2,9 @@
 use crate::class::is_digit;
 use crate::class::lies_between;
 ghost use mathlib.Core.Path.{_≡_};
-ghost use Prim.Native.Nat.{_≤_, _<_};
+ghost use Prim.Native.Nat.{_≤_, _<_, _-_};
+ghost use lib.ListN.{length};
+ghost use Rattle.text.specs.Part.{OwnBytes};
 ghost use Rattle.text.specs.Number.{digitOf, numberOf, bareOf, hexOf};
 
 // The largest value of each width.
@@ -47,7 +49,7 @@ pub fn hex(s: &[u8], limit: u64) -> HexAnswer
 
 // What stands behind a leading `0x`, else the whole text.
 fn bare(s: &[u8]) -> &[u8]
-    ensures { λ r. ⌜ now r ≡ bareOf (now (s .entry)) ⌝ }
+    ensures { λ r. ⌜ OwnBytes (s .entry) (length (now (s .entry)) - length (bareOf (now (s .entry)))) (bareOf (now (s .entry))) r ⌝ }
 {
     if s.len() < 2 {
         return s;

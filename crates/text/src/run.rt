@@ -2,8 +2,9 @@
 use crate::class::Class;
 use crate::class::has;
 ghost use mathlib.Core.Path.{_≡_};
-ghost use Rattle.text.specs.Class.{inClass};
-ghost use Rattle.text.specs.Run.{EndsAt, StartsAt, stripped};
+ghost use Rattle.text.specs.Class.{inClass, isBlank};
+ghost use Rattle.text.specs.Run.{EndsAt, StartsAt, runEnd, stripped};
+ghost use Rattle.text.specs.Part.{OwnBytes};
 
 // Where the longest run of the class from a place ends: the place itself where no byte of the class stands there.
 pub fn run_end(s: &[u8], c: Class, from: usize) -> usize
@@ -35,7 +36,7 @@ pub fn run_start(s: &[u8], c: Class) -> usize
 
 // The text without the blanks at its ends: a part of what is lent.
 pub fn strip(s: &[u8]) -> &[u8]
-    ensures { λ r. ⌜ now r ≡ stripped (now (s .entry)) ⌝ }
+    ensures { λ r. ⌜ OwnBytes (s .entry) (runEnd isBlank (now (s .entry)) 0) (stripped (now (s .entry))) r ⌝ }
 {
     let from = run_end(s, Class::Blank, 0);
     let rest = &s[from..];

@@ -1,7 +1,7 @@
 -- `data` meets its contract: the test says whether the slots are enough. Assumes nothing.
-use Rattle.entry.proofs.Parts.{part-in, part-out}
+use Rattle.entry.proofs.Parts.{own-in, own-out}
 use lib.Seq.{length-take-le}
-use mathlib.Core.Path.{sym}
+use mathlib.Core.Path.{refl, sym}
 use native.Mathlib.Omega.{arith}
 use borrow.Author.Needs.{needs}
 use Rattle.entry.proofs.data.Statement.{statement}
@@ -11,13 +11,13 @@ slice-aggregate-result : tie.Need-slice-aggregate-result
 slice-aggregate-result c = search needs
 
 returns : tie.Need-returns
-returns c = part-out _ 0 _ (omega arith)
+returns c = own-out 0 _ (omega arith) refl refl (omega arith)
 
 slice-aggregate-result-2 : tie.Need-slice-aggregate-result-2
 slice-aggregate-result-2 c = sym (length-take-le _ _ (omega arith))
 
 returns-2 : tie.Need-returns-2
-returns-2 c = part-in _ 0 _ (omega arith)
+returns-2 c = own-in 0 _ _ refl refl (omega arith) refl (omega arith)
 
 pub data-spec : {M : Type 1} → statement M
 data-spec = tie.close (tie.spec slice-aggregate-result returns slice-aggregate-result-2 returns-2)

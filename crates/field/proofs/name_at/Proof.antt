@@ -9,22 +9,22 @@ name-in-requires : tie.Need-name-in-requires
 name-in-requires c κs = search needs
 
 returns : tie.Need-returns
-returns c = no-name (c .before .before .before .args .book .now) (c .before .before .before .args .place) (c .before .name-in .ensures) (c .if1 .taken)
+returns c = no-name (c .before .before .before .args .place) (c .before .name-in .ensures) (c .if1 .taken)
 
 byte-at-requires : tie.Need-byte-at-requires
 byte-at-requires c κs = search needs
 
 add-t7 : tie.Need-add-t7
-add-t7 c = record { fits = omega (arith, value-fits (c .before .before .before .before .before .args .book .now) (c .before .before .before .before .before .args .place) (c .before .before .before .name-in .ensures) (c .before .before .if1 .left) (c .before .byte-at .result) (c .before .byte-at .ensures .0) (c .if2 .taken), c .before .before .before .before .before .good .1 .0 .1) }
+add-t7 c = record { fits = omega (arith, value-fits (c .before .before .before .before .before .args .place) (c .before .before .before .name-in .ensures) (c .before .before .if1 .left) (c .before .byte-at .result) (c .before .byte-at .ensures .0) (c .if2 .taken), c .before .before .before .before .before .good .1 .0 .1) }
 
 returns-2 : tie.Need-returns-2
-returns-2 c = value-named (c .before .before .before .before .before .args .book .now) (c .before .before .before .before .before .args .place) (c .before .before .before .name-in .ensures) (c .before .before .if1 .left) (c .before .byte-at .result) (c .before .byte-at .ensures .0) (c .if2 .taken)
+returns-2 c = value-named (c .before .before .before .before .before .args .place) (c .before .before .before .name-in .ensures) (c .before .before .if1 .left) (c .before .byte-at .result) (c .before .byte-at .ensures .0) (c .if2 .taken)
 
 add-t8 : tie.Need-add-t8
-add-t8 c = record { fits = omega (arith, other-fits (c .before .before .before .before .before .args .book .now) (c .before .before .before .before .before .args .place) (c .before .before .before .name-in .ensures) (c .before .before .if1 .left) (c .before .byte-at .result) (c .before .byte-at .ensures .0) (c .if2 .left), c .before .before .before .before .before .good .1 .0 .1) }
+add-t8 c = record { fits = omega (arith, other-fits (c .before .before .before .before .before .args .place) (c .before .before .before .name-in .ensures) (c .before .before .if1 .left) (c .before .byte-at .result) (c .before .byte-at .ensures .0) (c .if2 .left), c .before .before .before .before .before .good .1 .0 .1) }
 
 returns-3 : tie.Need-returns-3
-returns-3 c = other-named (c .before .before .before .before .before .args .book .now) (c .before .before .before .before .before .args .place) (c .before .before .before .name-in .ensures) (c .before .before .if1 .left) (c .before .byte-at .result) (c .before .byte-at .ensures .0) (c .if2 .left)
+returns-3 c = other-named (c .before .before .before .before .before .args .place) (c .before .before .before .name-in .ensures) (c .before .before .if1 .left) (c .before .byte-at .result) (c .before .byte-at .ensures .0) (c .if2 .left)
 
 pub name-at-spec : {M : Type 1} → statement M
 name-at-spec =

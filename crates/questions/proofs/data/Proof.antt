@@ -1,9 +1,10 @@
--- `questions::data` meets its contract: the rest of the dwords, from a start that lies within them. Assumes nothing.
-use mathlib.Core.Path.{sym, ap, _∙_}
-use Rattle.questions.proofs.Views.{start-fits, no-start}
+-- `questions::data` meets its contract: the caller's own dwords from a start that lies within them. Assumes nothing.
+use mathlib.Core.Path.{refl, sym, ap, _∙_}
+use Rattle.questions.proofs.Views.{start-fits, no-start, no-place}
 use Rattle.questions.specs.Answers.{wordTold}
-use Rattle.questions.specs.Questions.{viewAt, viewOf}
+use Rattle.questions.specs.Questions.{viewAt, viewOf, viewPlace}
 use Rattle.text.proofs.Stripping.{rest-is}
+use Rattle.text.proofs.OwnParts.{own-cut, own-rest, own-from}
 use native.Mathlib.Omega.{arith}
 use borrow.Author.Needs.{needs}
 use Rattle.questions.proofs.data.Statement.{statement}
@@ -20,7 +21,13 @@ slice-aggregate-result c = search needs
 
 returns : tie.Need-returns
 unfolding viewOf
-returns c = sym (no-start (c .before .before .before .before .before .args .kind) (c .before .before .before .before .before .args .book .now) (c .before .before .before .before .before .args .dwords .now) (c .before .before .data-start .result) (c .before .match .keys2)) ∙ ap (viewAt (c .before .before .before .before .before .args .kind) (c .before .before .before .before .before .args .book .now) (c .before .before .before .before .before .args .dwords .now)) (c .before .before .data-start .ensures)
+returns c =
+    let kind = c .before .before .before .before .before .args .kind in
+    let s = c .before .before .before .before .before .args .book .now in
+    let ds = c .before .before .before .before .before .args .dwords .now in
+    let told = c .before .before .data-start .ensures in
+    own-from (sym (no-place (c .before .before .data-start .result) (c .before .match .keys2)) ∙ ap viewPlace told)
+    (own-cut 0 refl refl (omega arith) (omega arith) (sym (no-start kind s ds (c .before .before .data-start .result) (c .before .match .keys2)) ∙ ap (viewAt kind s ds) told))
 
 cast-first : tie.Need-cast-first
 cast-first c = search needs
@@ -39,7 +46,13 @@ part-result-end c = search needs
 
 returns-2 : tie.Need-returns-2
 unfolding viewOf
-returns-2 c = rest-is (c .before .before .start .given .0 .0) (c .before .before .before .before .before .before .before .args .dwords .now) ∙ ap (viewAt (c .before .before .before .before .before .before .before .args .kind) (c .before .before .before .before .before .before .before .args .book .now) (c .before .before .before .before .before .before .before .args .dwords .now)) (ap wordTold (sym (c .before .before .start .given .1)) ∙ c .before .before .before .before .data-start .ensures)
+returns-2 c =
+    let kind = c .before .before .before .before .before .before .before .args .kind in
+    let s = c .before .before .before .before .before .before .before .args .book .now in
+    let ds = c .before .before .before .before .before .before .before .args .dwords .now in
+    let told = ap wordTold (sym (c .before .before .start .given .1)) ∙ c .before .before .before .before .data-start .ensures in
+    own-from (ap viewPlace told)
+    (own-rest (start-fits kind s ds _ told) refl refl (omega arith) (rest-is (c .before .before .start .given .0 .0) ds ∙ ap (viewAt kind s ds) told))
 
 pub data-spec : {M : Type 1} → statement M
 data-spec =

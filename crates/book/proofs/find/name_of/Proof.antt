@@ -1,14 +1,16 @@
 -- `book::find::name_of` meets its contract, case by case of what stands at the place. Assumes nothing.
 use Rattle.book.proofs.Steps.{Bare, bare, field-bare}
 use Rattle.book.specs.Finders.{nameOf}
-use Rattle.tlv.proofs.Places.{stands-cut}
+use Rattle.book.proofs.NamePlaces.{value-place, other-place}
+use Rattle.text.proofs.OwnParts.{own-text, no-text, own-front, text-is}
+use Rattle.tlv.proofs.Places.{stands-cut, between-is}
 use Rattle.tlv.proofs.Fields.{field-found}
-use Rattle.tlv.specs.Reading.{Part, Stands, fieldAt}
+use Rattle.tlv.specs.Reading.{Part, Stands, between, fieldAt}
 use borrow.Author.Tests.{eq-eqb, ne-eqb}
 use lib.Seq.{take-all}
 use lib.ListN.{length, take, drop, length-take, length-drop, drop-of-length-le}
 use mathlib.Core.List.{List}
-use mathlib.Core.Path.{_≡_, sym, subst, _∙_}
+use mathlib.Core.Path.{_≡_, refl, sym, ap, subst, _∙_}
 use Prim.Native.Nat.{ℕ, _+_, _-_}
 use native.Mathlib.Omega.{arith}
 use borrow.Author.Needs.{needs}
@@ -27,7 +29,8 @@ slice-aggregate-result c = search needs
 returns : tie.Need-returns
 unfolding nameOf
 returns c =
-    sym (field-bare _ _ (fieldAt (c .before .before .before .before .args .book .now) (c .before .before .before .before .args .place)) (subst Bare (c .before .before .field-at .ensures) (bare _ (c .before .match .keys2))))
+    no-text _ refl refl refl
+    (sym (field-bare _ _ (fieldAt (c .before .before .before .before .args .book .now) (c .before .before .before .before .args .place)) (subst Bare (c .before .before .field-at .ensures) (bare _ (c .before .match .keys2)))))
 
 slice-aggregate-body : tie.Need-slice-aggregate-body
 slice-aggregate-body c =
@@ -41,8 +44,13 @@ name-at-requires c κs = search needs
 returns-2 : tie.Need-returns-2
 unfolding nameOf
 returns-2 c =
-    let is : fieldAt (c .before .before .before .before .before .before .before .before .args .book .now) (c .before .before .before .before .before .before .before .before .args .place) ≡ _ = sym (c .before .before .before .before .before .before .field-at .ensures) ∙ c .before .before .before .before .step .given .1 in
-    rw (is, ne-eqb (c .before .before .before .before .step .given .0 .0) 7 (c .before .if1 .taken)) (c .name-at .ensures)
+    let s = c .before .before .before .before .before .before .before .before .args .book .now in
+    let place = c .before .before .before .before .before .before .before .before .args .place in
+    let tag = c .before .before .before .before .step .given .0 .0 in
+    let from = c .before .before .before .before .step .given .0 .1 .0 in
+    let is : fieldAt s place ≡ _ = sym (c .before .before .before .before .before .before .field-at .ensures) ∙ c .before .before .before .before .step .given .1 in
+    text-is _ (from + 2 + 3) (sym (rw (is, ne-eqb tag 7 (c .before .if1 .taken)))) (other-place s place (field-found s place is) (c .before .if1 .taken))
+    (own-front (c .before .before .before .before .step .given .0 .1 .1 .0) refl refl refl (c .name-at .ensures))
 
 sub-if2 : tie.Need-sub-if2
 sub-if2 c =
@@ -55,10 +63,14 @@ slice-aggregate-result-2 c = search needs
 returns-3 : tie.Need-returns-3
 unfolding nameOf
 returns-3 c =
-    let is : fieldAt (c .before .before .before .before .before .before .before .before .before .args .book .now) (c .before .before .before .before .before .before .before .before .before .args .place) ≡ _ = sym (c .before .before .before .before .before .before .before .field-at .ensures) ∙ c .before .before .before .before .before .step .given .1 in
-    let f = field-found (c .before .before .before .before .before .before .before .before .before .args .book .now) (c .before .before .before .before .before .before .before .before .before .args .place) is in
-    rw (is, eq-eqb (c .before .before .before .before .before .step .given .0 .0) 7 (c .before .before .if1 .left))
-    (sym (drop-of-length-le (take (c .before .before .before .before .before .step .given .0 .1 .1 .0) (c .before .before .before .before .before .before .before .before .before .args .book .now)) {i = c .before .before .before .before .before .step .given .0 .1 .0 + 4} (rw (length-take (c .before .before .before .before .before .step .given .0 .1 .1 .0) (c .before .before .before .before .before .before .before .before .before .args .book .now)) (omega arith))))
+    let s = c .before .before .before .before .before .before .before .before .before .args .book .now in
+    let from = c .before .before .before .before .before .step .given .0 .1 .0 in
+    let to = c .before .before .before .before .before .step .given .0 .1 .1 .0 in
+    let is : fieldAt s (c .before .before .before .before .before .before .before .before .before .args .place) ≡ _ = sym (c .before .before .before .before .before .before .before .field-at .ensures) ∙ c .before .before .before .before .before .step .given .1 in
+    let f = field-found s (c .before .before .before .before .before .before .before .before .before .args .place) is in
+    no-text _ refl refl refl
+    (rw (is, eq-eqb (c .before .before .before .before .before .step .given .0 .0) 7 (c .before .before .if1 .left))
+    (sym (drop-of-length-le (take to s) {i = from + 4} (rw (length-take to s) (omega arith)))))
 
 add-result : tie.Need-add-result
 add-result c =
@@ -86,10 +98,18 @@ part-result-end c =
 returns-4 : tie.Need-returns-4
 unfolding nameOf
 returns-4 c =
-    let is : fieldAt (c .before .before .before .before .before .before .before .before .before .args .book .now) (c .before .before .before .before .before .before .before .before .before .args .place) ≡ _ = sym (c .before .before .before .before .before .before .before .field-at .ensures) ∙ c .before .before .before .before .before .step .given .1 in
-    let u : List ℕ = take (c .before .before .before .before .before .step .given .0 .1 .1 .0) (c .before .before .before .before .before .before .before .before .before .args .book .now) in
-    rw (is, eq-eqb (c .before .before .before .before .before .step .given .0 .0) 7 (c .before .before .if1 .left))
-    (take-all (length u - (c .before .before .before .before .before .step .given .0 .1 .0 + 4)) (drop (c .before .before .before .before .before .step .given .0 .1 .0 + 4) u) (rw (length-drop (c .before .before .before .before .before .step .given .0 .1 .0 + 4) u) (omega arith)))
+    let s = c .before .before .before .before .before .before .before .before .before .args .book .now in
+    let place = c .before .before .before .before .before .before .before .before .before .args .place in
+    let from = c .before .before .before .before .before .step .given .0 .1 .0 in
+    let to = c .before .before .before .before .before .step .given .0 .1 .1 .0 in
+    let is : fieldAt s place ≡ _ = sym (c .before .before .before .before .before .before .before .field-at .ensures) ∙ c .before .before .before .before .before .step .given .1 in
+    let f = field-found s place is in
+    let here = value-place s place f (c .before .before .if1 .left) in
+    let u : List ℕ = take to s in
+    let all : take (length u - (from + 4)) (drop (from + 4) u) ≡ between s (from + 4) to =
+    take-all (length u - (from + 4)) (drop (from + 4) u) (rw (length-drop (from + 4) u) (omega arith)) in
+    own-text _ (to - (from + 4)) (all ∙ between-is s (from + 4) to ∙ ap (λ (n : ℕ). take (to - (from + 4)) (drop n s)) here) refl (omega (arith, here))
+    (omega (arith, here, f .within, c .before .if2 .left)) (rw (is, eq-eqb (c .before .before .before .before .before .step .given .0 .0) 7 (c .before .before .if1 .left)) all) (omega (arith, c .before .if2 .left))
 
 pub name-of-spec : {M : Type 1} → statement M
 name-of-spec =

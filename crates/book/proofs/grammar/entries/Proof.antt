@@ -81,7 +81,7 @@ returns-3 c =
     let s : List ℕ = c .before .before .before .before .before .before .before .before .before .before .before .before .before .before .before .before .before .args .s .now in
     let p : Part = record { at = c .before .before .before .before .before .before .before .before .before .before .before .before .before .before .before .loop .at; tag = c .before .before .before .before .before .before .before .before .before .before .before .before .step .given .0 .0; from = c .before .before .before .before .before .before .before .before .before .before .before .before .step .given .0 .1 .0; to = c .before .before .before .before .before .before .before .before .before .before .before .before .step .given .0 .1 .1 .0 } in
     let e : Stands s p = sym (c .before .before .before .before .before .before .before .before .before .before .before .before .before .before .field-at .ensures) ∙ c .before .before .before .before .before .before .before .before .before .before .before .before .step .given .1 in
-    sym (sift-twice s p e (c .before .before .before .before .before .before .before .before .before .before .if1 .left) (c .before .before .before .before .before .before .before .before .before .before .before .before .before .before .before .loop .inv .0) (c .before .before .before .before .before .before .two-at .ensures .is) (c .before .before .type-at .ensures) (c .before .before .before .before .is-marked .ensures) (c .before .repeats .ensures) (c .if3 .taken))
+    sym (sift-twice s p e (c .before .before .before .before .before .before .before .before .before .before .if1 .left) (c .before .before .before .before .before .before .before .before .before .before .before .before .before .before .before .loop .inv .0) (c .before .before .before .before .before .before .two-at .ensures .is) (c .before .before .type-at .ensures .is) (c .before .before .before .before .is-marked .ensures) (c .before .repeats .ensures) (c .if3 .taken))
 
 mark-requires : tie.Need-mark-requires Inv-loop μ-loop
 mark-requires c κs = search needs
@@ -100,7 +100,7 @@ loop-again c =
     let p : Part = record { at = c .before .before .before .before .before .before .before .before .before .before .before .before .before .before .before .before .before .loop .at; tag = c .before .before .before .before .before .before .before .before .before .before .before .before .before .before .step .given .0 .0; from = c .before .before .before .before .before .before .before .before .before .before .before .before .before .before .step .given .0 .1 .0; to = c .before .before .before .before .before .before .before .before .before .before .before .before .before .before .step .given .0 .1 .1 .0 } in
     let e : Stands s p = sym (c .before .before .before .before .before .before .before .before .before .before .before .before .before .before .before .before .field-at .ensures) ∙ c .before .before .before .before .before .before .before .before .before .before .before .before .before .before .step .given .1 in
     let fits : c .before .before .before .before .before .before .before .before .two-at .result / 64 < length (c .before .before .before .before .before .before .before .before .before .before .before .before .before .before .before .before .before .loop .seen) = omega (arith, c .before .before .before .before .before .before .before .before .two-at .ensures .fits, c .before .before .before .before .before .before .before .before .before .before .before .before .before .before .before .before .before .loop .inv .1) in
-    let next = sift-next s p e (c .before .before .before .before .before .before .before .before .before .before .before .before .if1 .left) (c .before .before .before .before .before .before .before .before .before .before .before .before .before .before .before .before .before .loop .inv .0) (c .before .before .before .before .before .before .before .before .two-at .ensures .is) (c .before .before .before .before .type-at .ensures) (c .before .before .before .before .before .before .is-marked .ensures) (c .before .before .before .repeats .ensures)
+    let next = sift-next s p e (c .before .before .before .before .before .before .before .before .before .before .before .before .if1 .left) (c .before .before .before .before .before .before .before .before .before .before .before .before .before .before .before .before .before .loop .inv .0) (c .before .before .before .before .before .before .before .before .two-at .ensures .is) (c .before .before .before .before .type-at .ensures .is) (c .before .before .before .before .before .before .is-marked .ensures) (c .before .before .before .repeats .ensures)
     (c .before .before .if3 .left) (field-body 3 entryBody s p (c .before .before .before .before .before .before .before .before .before .before .before .before .if1 .left) (sym (c .before .before .before .before .before .before .before .before .before .before .entry .ensures) ∙ not-false _ (c .before .before .before .before .before .before .before .before .before .if2 .left))) fits in
     (subst⁻¹ (Sifted s (c .before .before .before .before .before .before .before .before .before .before .before .before .before .before .before .before .before .before .before .args .start) (p .to)) (c .mark .ensures) next, ap length (c .mark .ensures) ∙ marks-length (c .before .before .before .before .before .before .before .before .before .before .before .before .before .before .before .before .before .loop .seen) (c .before .before .before .before .before .before .before .before .two-at .result) ∙ c .before .before .before .before .before .before .before .before .before .before .before .before .before .before .before .before .before .loop .inv .1)
 

@@ -65,7 +65,7 @@ unfolding rangeBody
 returns-5 c =
     let s = c .before .before .before .before .before .before .before .before .before .before .before .args .s .now in
     let from = c .before .before .before .before .before .before .before .before .before .before .before .args .from in
-    let named : isName (bodyAt 4 s (from + 2)) ≡ false = ap isName (sym (c .before .before .body-at .ensures)) ∙ sym (c .before .is-name .ensures) ∙ not-true _ (c .if5 .taken) in
+    let named : isName (bodyAt 4 s (from + 2)) ≡ false = ap isName (sym (c .before .before .body-at .ensures .is)) ∙ sym (c .before .is-name .ensures) ∙ not-true _ (c .if5 .taken) in
     rw (le-leb (from + 2) (length s) (omega arith), le-leb (getD s from 0) (getD s (from + 1) 0) (c .before .before .before .before .before .if3 .left), le-leb (getD s (from + 1) 0) 31 (c .before .before .before .if4 .left), named)
 
 after-requires : tie.Need-after-requires
@@ -79,7 +79,7 @@ unfolding rangeBody
 returns-6 c =
     let s = c .before .before .before .before .before .before .before .before .before .before .before .before .before .args .s .now in
     let from = c .before .before .before .before .before .before .before .before .before .before .before .before .before .args .from in
-    let named : isName (bodyAt 4 s (from + 2)) ≡ true = ap isName (sym (c .before .before .before .before .body-at .ensures)) ∙ sym (c .before .before .before .is-name .ensures) ∙ not-false _ (c .before .before .if5 .left) in
+    let named : isName (bodyAt 4 s (from + 2)) ≡ true = ap isName (sym (c .before .before .before .before .body-at .ensures .is)) ∙ sym (c .before .before .before .is-name .ensures) ∙ not-false _ (c .before .before .if5 .left) in
     rw (le-leb (from + 2) (length s) (omega arith), le-leb (getD s from 0) (getD s (from + 1) 0) (c .before .before .before .before .before .before .before .if3 .left), le-leb (getD s (from + 1) 0) 31 (c .before .before .before .before .before .if4 .left), named)
     (c .values .ensures ∙ ap (valuesFill s) (c .before .after .ensures))
 

@@ -86,12 +86,12 @@ returns-5 c = sym (right-tag (c .before .before .before .before .before .before 
 returns-6 : tie.Need-returns-6
 unfolding fits
 returns-6 c =
-    sym (right-tag (c .before .before .before .before .before .before .before .before .before .before .before .args .want) _ (c .before .before .before .before .before .before .before .if1 .left ∙ c .before .before .before .before .before .before .before .before .tag-of .ensures) ∙ rw (c .before .before .before .before .before .want4 .given .1, sym (c .before .before .before .two-at2 .ensures .is), eq-eqb _ _ (c .before .before .if2 .left)) (ap (λ (l : List ℕ). sameText l (c .before .before .before .before .before .before .before .before .before .before .before .args .key .now)) (sym (c .before .type-at .ensures)) ∙ sym (c .same .ensures)))
+    sym (right-tag (c .before .before .before .before .before .before .before .before .before .before .before .args .want) _ (c .before .before .before .before .before .before .before .if1 .left ∙ c .before .before .before .before .before .before .before .before .tag-of .ensures) ∙ rw (c .before .before .before .before .before .want4 .given .1, sym (c .before .before .before .two-at2 .ensures .is), eq-eqb _ _ (c .before .before .if2 .left)) (ap (λ (l : List ℕ). sameText l (c .before .before .before .before .before .before .before .before .before .before .before .args .key .now)) (sym (c .before .type-at .ensures .is)) ∙ sym (c .same .ensures)))
 
 returns-7 : tie.Need-returns-7
 unfolding fits
 returns-7 c =
-    sym (right-tag (c .before .before .before .before .before .before .before .before .args .want) _ (c .before .before .before .before .if1 .left ∙ c .before .before .before .before .before .tag-of .ensures) ∙ rw (c .before .before .enum-told .given .1) (ap (λ (l : List ℕ). sameText l (c .before .before .before .before .before .before .before .before .args .key .now)) (sym (c .before .name-at .ensures)) ∙ sym (c .same2 .ensures)))
+    sym (right-tag (c .before .before .before .before .before .before .before .before .args .want) _ (c .before .before .before .before .if1 .left ∙ c .before .before .before .before .before .tag-of .ensures) ∙ rw (c .before .before .enum-told .given .1) (ap (λ (l : List ℕ). sameText l (c .before .before .before .before .before .before .before .before .args .key .now)) (sym (c .before .name-at .ensures .is)) ∙ sym (c .same2 .ensures)))
 
 returns-8 : tie.Need-returns-8
 unfolding fits

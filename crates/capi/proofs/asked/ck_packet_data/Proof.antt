@@ -11,7 +11,7 @@ data-requires : tie.Need-data-requires
 data-requires c κs = search needs
 
 returns : tie.Need-returns
-returns c = ap (λ (l : List ℕ). length l) (c .«data» .ensures)
+returns c = ap (λ (l : List ℕ). length l) (c .«data» .ensures .is)
 
 pub ck-packet-data-spec : {M : Type 1} → statement M
 ck-packet-data-spec = tie.close (tie.spec data-requires returns)

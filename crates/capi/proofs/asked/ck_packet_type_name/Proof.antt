@@ -18,7 +18,7 @@ same-length : tie.Need-same-length
 same-length c = search needs
 
 returns : tie.Need-returns
-returns c = let is = c .before .before .before .before .packet-type-name .ensures in record { size = ap (λ (l : List ℕ). length l) is; buffer = c .before .before .put .ensures .buffer ∙ ap (λ (l : List ℕ). bufferAfter (c .before .before .before .before .before .before .before .before .args .out .now) 0 l) is }
+returns c = let is = c .before .before .before .before .packet-type-name .ensures .is in record { size = ap (λ (l : List ℕ). length l) is; buffer = c .before .before .put .ensures .buffer ∙ ap (λ (l : List ℕ). bufferAfter (c .before .before .before .before .before .before .before .before .args .out .now) 0 l) is }
 
 pub ck-packet-type-name-spec : {M : Type 1} → statement M
 ck-packet-type-name-spec =

@@ -18,7 +18,7 @@ same-length : tie.Need-same-length
 same-length c = search needs
 
 returns : tie.Need-returns
-returns c = let is = c .before .before .before .before .name-in .ensures in record { size = ap (λ (l : List ℕ). length l) is; buffer = c .before .before .put .ensures .buffer ∙ ap (λ (l : List ℕ). bufferAfter (c .before .before .before .before .before .before .before .args .out .now) 0 l) is }
+returns c = let is = c .before .before .before .before .name-in .ensures .is in record { size = ap (λ (l : List ℕ). length l) is; buffer = c .before .before .put .ensures .buffer ∙ ap (λ (l : List ℕ). bufferAfter (c .before .before .before .before .before .before .before .args .out .now) 0 l) is }
 
 pub ck-name-spec : {M : Type 1} → statement M
 ck-name-spec = tie.close (tie.spec name-in-requires put-requires same-length returns)

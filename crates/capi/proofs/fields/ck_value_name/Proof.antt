@@ -23,7 +23,7 @@ same-length : tie.Need-same-length
 same-length c = search needs
 
 returns : tie.Need-returns
-returns c = let is = c .before .before .before .before .value-name .ensures ∙ ap (λ (g : Range). valueName (c .before .before .before .before .before .before .before .before .args .book .now) g) (c .before .before .before .before .before .range-with .ensures) in record { size = ap (λ (l : List ℕ). length l) is; buffer = c .before .before .put .ensures .buffer ∙ ap (λ (l : List ℕ). bufferAfter (c .before .before .before .before .before .before .before .before .args .out .now) 0 l) is }
+returns c = let is = c .before .before .before .before .value-name .ensures .is ∙ ap (λ (g : Range). valueName (c .before .before .before .before .before .before .before .before .args .book .now) g) (c .before .before .before .before .before .range-with .ensures) in record { size = ap (λ (l : List ℕ). length l) is; buffer = c .before .before .put .ensures .buffer ∙ ap (λ (l : List ℕ). bufferAfter (c .before .before .before .before .before .before .before .before .args .out .now) 0 l) is }
 
 pub ck-value-name-spec : {M : Type 1} → statement M
 ck-value-name-spec =

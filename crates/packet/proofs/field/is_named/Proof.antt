@@ -21,7 +21,7 @@ same-requires c κs = search needs
 
 returns-2 : tie.Need-returns-2
 unfolding asks
-returns-2 c = rw (some-byte (c .before .before .before .before .before .args .name .now) (c .before .before .if1 .left)) (c .same .ensures ∙ ap (λ (l : List ℕ). sameText l (c .before .before .before .before .before .args .name .now)) (c .before .name-in .ensures))
+returns-2 c = rw (some-byte (c .before .before .before .before .before .args .name .now) (c .before .before .if1 .left)) (c .same .ensures ∙ ap (λ (l : List ℕ). sameText l (c .before .before .before .before .before .args .name .now)) (c .before .name-in .ensures .is))
 
 pub is-named-spec : {M : Type 1} → statement M
 is-named-spec = tie.close (tie.spec returns name-in-requires same-requires returns-2)

@@ -23,7 +23,7 @@ returns : tie.Need-returns
 returns c = rw (c .enum-told .given .1)
 
 returns-2 : tie.Need-returns-2
-returns-2 c = rw (c .before .before .enum-told2 .given .1) (c .same .ensures ∙ ap (λ (l : List ℕ). sameText l (c .before .before .before .before .before .before .args .name .now)) (c .before .type-of .ensures))
+returns-2 c = rw (c .before .before .enum-told2 .given .1) (c .same .ensures ∙ ap (λ (l : List ℕ). sameText l (c .before .before .before .before .before .before .args .name .now)) (c .before .type-of .ensures .is))
 
 pub is-picked-spec : {M : Type 1} → statement M
 is-picked-spec =

@@ -31,7 +31,7 @@ same-length : tie.Need-same-length
 same-length c = search needs
 
 returns-4 : tie.Need-returns-4
-returns-4 c = newly-latched (c .before .before .before .before .before .before .before .before .before .before .before .args .book .now) (c .before .before .before .before .before .before .before .before .before .before .before .args .table) (c .before .before .before .before .before .before .before .before .before .before .before .args .found) (c .before .before .before .before .before .before .before .before .before .before .before .args .entry) (c .before .before .before .before .before .before .before .before .before .before .before .args .dword) (c .before .before .before .before .before .before .before .before .before .before .before .args .typed .now) (c .before .before .before .before .before .before .before .before .before .before .before .args .latched) (c .before .before .before .before .before .before .type-in .result) (c .before .before .before .before .before .before .before .before .if1 .left) (c .before .before .before .before .before .before .before .if2 .left) (c .before .before .before .before .before .before .type-in .ensures) (c .before .before .before .before .before .if3 .left) (c .before .before .fill .ensures ∙ ap (λ (l : List ℕ). filled (entryOf Typed l (c .before .before .before .before .before .before .before .before .before .before .before .args .book .now) (c .before .before .before .before .before .before .before .before .before .before .before .args .table)) (c .before .before .before .before .before .before .before .before .before .before .before .args .typed .now)) (c .before .before .before .before .name-in .ensures))
+returns-4 c = newly-latched (c .before .before .before .before .before .before .before .before .before .before .before .args .book .now) (c .before .before .before .before .before .before .before .before .before .before .before .args .table) (c .before .before .before .before .before .before .before .before .before .before .before .args .found) (c .before .before .before .before .before .before .before .before .before .before .before .args .entry) (c .before .before .before .before .before .before .before .before .before .before .before .args .dword) (c .before .before .before .before .before .before .before .before .before .before .before .args .typed .now) (c .before .before .before .before .before .before .before .before .before .before .before .args .latched) (c .before .before .before .before .before .before .type-in .result) (c .before .before .before .before .before .before .before .before .if1 .left) (c .before .before .before .before .before .before .before .if2 .left) (c .before .before .before .before .before .before .type-in .ensures) (c .before .before .before .before .before .if3 .left) (c .before .before .fill .ensures ∙ ap (λ (l : List ℕ). filled (entryOf Typed l (c .before .before .before .before .before .before .before .before .before .before .before .args .book .now) (c .before .before .before .before .before .before .before .before .before .before .before .args .table)) (c .before .before .before .before .before .before .before .before .before .before .before .args .typed .now)) (c .before .before .before .before .name-in .ensures .is))
 
 pub latch-spec : {M : Type 1} → statement M
 latch-spec =

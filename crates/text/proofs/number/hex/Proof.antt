@@ -18,10 +18,10 @@ enum-told : tie.Need-enum-told
 enum-told c = search needs
 
 returns : tie.Need-returns
-returns c = hex-value _ _ _ (c .before .before .before .before .bare .ensures) (sym (c .before .before .before .read .ensures) ∙ c .before .v .given .1)
+returns c = hex-value _ _ _ (c .before .before .before .before .bare .ensures .is) (sym (c .before .before .before .read .ensures) ∙ c .before .v .given .1)
 
 returns-2 : tie.Need-returns-2
-returns-2 c = hex-none _ _ _ (c .before .before .before .bare .ensures) (sym (c .before .before .read .ensures) ∙ c .enum-told .given .1)
+returns-2 c = hex-none _ _ _ (c .before .before .before .bare .ensures .is) (sym (c .before .before .read .ensures) ∙ c .enum-told .given .1)
 
 pub hex-spec : {M : Type 1} → statement M
 hex-spec =

@@ -1,5 +1,10 @@
--- `run::strip` meets its contract: the two runs are those of `stripped`. Assumes nothing.
+-- `run::strip` meets its contract: the two runs are those of `stripped`, and the first says where the part lies. Assumes nothing.
 use Rattle.text.proofs.Stripping.{rest-is, part-length, stripped-by}
+use Rattle.text.proofs.OwnParts.{own-cut}
+use Prim.Native.Nat.{ℕ}
+use mathlib.Core.Path.{refl, ap, _∙_}
+use native.Mathlib.Omega.{arith}
+use lib.ListN.{length, take, drop, length-drop}
 use Rattle.text.specs.Class.{inClass}
 use borrow.Author.Needs.{needs}
 use Rattle.text.proofs.run.strip.Statement.{statement}
@@ -25,7 +30,15 @@ slice-aggregate-result c = part-length _ _ (c .before .run-start .ensures .withi
 
 returns : tie.Need-returns
 unfolding inClass
-returns c = stripped-by (c .before .before .before .before .before .args .s .now) (c .before .before .before .run-end .ensures .is) (rest-is (c .before .before .before .run-end .result) (c .before .before .before .before .before .args .s .now)) (c .before .run-start .ensures .is)
+returns c =
+    let s = c .before .before .before .before .before .args .s .now in
+    let from = c .before .before .before .run-end .result in
+    let to = c .before .run-start .result in
+    let here = c .before .before .before .run-end .ensures .is in
+    let rest = rest-is from s in
+    own-cut to (ap (take to) rest ∙ ap (λ (n : ℕ). take to (drop n s)) here) refl (omega (arith, here))
+    (omega (arith, here, c .before .before .before .run-end .ensures .within, c .before .run-start .ensures .within, ap length rest, length-drop from s))
+    (stripped-by s here rest (c .before .run-start .ensures .is))
 
 pub strip-spec : {M : Type 1} → statement M
 strip-spec =

@@ -10,6 +10,7 @@ use native.Mathlib.Omega.{arith}
 use borrow.Author.Tests.{ltb-true, ltb-false}
 use lib.Dec.{ltb}
 use lib.ListN.{length, getD, take, drop, length-append}
+use Rattle.text.specs.Part.{orStart}
 use Rattle.tlv.specs.Grammar.{Piece, fieldsBytes}
 use Rattle.tlv.specs.Reading.{between}
 use Rattle.tlv.proofs.Fields.{field-found}
@@ -28,7 +29,8 @@ use Rattle.field.specs.declared.MaybeRange.{MaybeRange}
 use Rattle.field.specs.declared.MaybeRange.the-variants as M
 use Rattle.field.specs.Source.{placeIn, entryOf}
 use Rattle.field.specs.Ranges.{fieldName, rangeCount, rangeAt, nthRange, rangeNamed, rangeName, valuePlace, valueName}
-use Rattle.field.specs.Names.{beforeName, nameFrom, spanOf, Names}
+use Rattle.book.specs.Finders.{beforeName, namePlace}
+use Rattle.field.specs.Names.{spanOf, Names}
 use Rattle.meaning.specs.First.{None, First}
 use Rattle.meaning.specs.Packet.{Description, rangesOf, valueOf, ValueNumbered}
 use Rattle.meaning.specs.Places.{Stands, entryUpTo, RangeStands, ValueStands}
@@ -233,15 +235,15 @@ tag-there piece s x p a =
 
 name-span : (s : List ℕ) (p : ℕ) (name : List ℕ) → nameIn s p ≡ name → (skip : ℕ) → beforeName (getD s p 0) ≡ skip
     → (span : Span) → Names s p span → NameSays s skip p name span
-unfolding spanOf
+unfolding spanOf orStart
 name-span s p name e skip back span f =
     record {
       span-is =
-          by name (ap (λ (x : Span). x .at) (f .is) ∙ ap (nameFrom s p) e) (ap (λ (x : Span). x .len) (f .is) ∙ ap length e);
+          by name (ap (λ (x : Span). x .at) (f .is) ∙ ap (orStart (namePlace s p)) e) (ap (λ (x : Span). x .len) (f .is) ∙ ap length e);
       bytes-are = f .holds ∙ e;
     }
   where
-    by : (n : List ℕ) → span .at ≡ nameFrom s p n → span .len ≡ length n → SpanOf skip p n span
+    by : (n : List ℕ) → span .at ≡ orStart (namePlace s p) n → span .len ≡ length n → SpanOf skip p n span
     by [] a l = (a, l)
     by (x ∷ n) a l = (a ∙ ap (λ (m : ℕ). p + m) back, l)
 

@@ -25,7 +25,9 @@ use Rattle.questions.specs.declared.WordAnswer.{WordAnswer}
 use Rattle.questions.specs.declared.WordAnswer.the-variants as Word
 use Rattle.questions.specs.declared.TypeAnswer.{TypeAnswer}
 use Rattle.questions.specs.declared.TypeAnswer.the-variants as TypeA
-use Rattle.questions.specs.Answers.{Told, is, absent, unless, maybeWord, wordTold, typeTold}
+use Rattle.text.specs.Told.{Told, is, absent, unless}
+use Rattle.entry.specs.Entry.{maybeWord}
+use Rattle.questions.specs.Answers.{wordTold, typeTold}
 use Rattle.questions.specs.Questions.{refusal, answer, startOf, viewAt, viewOf, nameBy}
 use Rattle.questions.proofs.Over.{passed, no-number}
 

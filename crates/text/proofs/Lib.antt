@@ -5,4 +5,5 @@ pub mod Stripping
 pub mod Texts
 pub mod Numbers
 pub mod Decimals
+pub mod Told
 pub mod Cases

@@ -8,10 +8,8 @@ use borrow.Author.Tests.{leb-true, leb-false}
 use lib.Dec.{leb}
 use lib.ListN.{length, getD, take, drop, set, replicate, length-append, length-drop, length-set, length-replicate, replicate-append-replicate, take-append-drop, drop-of-length-le}
 use lib.Seq.{drop-cons, set-at, drop-drop, take-all, take-at, drop-at, take-suc-set, drop-set-lt, append-snoc, length-take-le}
-use Rattle.book.specs.declared.Checked.{Checked}
-use Rattle.book.specs.declared.Checked.the-variants as C
+use Rattle.text.specs.Told as T
 use Rattle.book.specs.Reading.{checkOf}
-use Rattle.packet.specs.declared.Answer.the-variants as A
 use Rattle.packet.specs.Packet.{numberOf, parseOf, placesOf, listBy}
 use Rattle.packet.proofs.Packets.{length-listed, number-20}
 use Rattle.batch.specs.Batch.{codeOf, Job, jobs, answerOf, partOf, codesOf, placesAll, Batch, Each, One, Cut}
@@ -244,8 +242,8 @@ pub refusing-end : {kinds counts : ℕ} {codes m : List ℕ} {k r : ℕ} → Ref
 refusing-end {kinds} {counts} {codes} f is last = record { packets = is; each = f .so-far ∙ ap (λ (n : ℕ). replicate n 65556 ++ drop n codes) last }
 
 -- over a book that is refused each packet is, with 20, and no place is touched
-module _ (s : List ℕ) (bad : checkOf s ≡ C.Refused 20) where
-  refused-answer : (kind : ℕ) (ds : List ℕ) (room : ℕ) → parseOf kind s ds room ≡ A.Refused 20
+module _ (s : List ℕ) (bad : checkOf s ≡ T.refused 20) where
+  refused-answer : (kind : ℕ) (ds : List ℕ) (room : ℕ) → parseOf kind s ds room ≡ T.refused 20
   unfolding parseOf numberOf
   refused-answer kind ds room = rw bad
 
@@ -275,5 +273,10 @@ module _ (s : List ℕ) (bad : checkOf s ≡ C.Refused 20) where
       }
 
 -- the check refuses with 20 alone
-pub refused-20 : (s : List ℕ) {k : ℕ} → checkOf s ≡ C.Refused k → checkOf s ≡ C.Refused 20
-refused-20 s e = e ∙ ap C.Refused (number-20 s e)
+pub refused-20 : (s : List ℕ) {k : ℕ} → checkOf s ≡ T.refused k → checkOf s ≡ T.refused 20
+refused-20 s e = e ∙ ap T.refused (number-20 s e)
+
+-- no second answer satisfies the contract, codes and places included
+pub no-second-batch : {s ks cs ds ps ns : List ℕ} {ps₁ ps₂ ns₁ ns₂ : List ℕ} {r₁ r₂ : ℕ}
+    → Batch s ks cs ds ps ps₁ ns ns₁ r₁ → Batch s ks cs ds ps ps₂ ns ns₂ r₂ → (r₁ ≡ r₂) × (ns₁ ≡ ns₂) × (ps₁ ≡ ps₂)
+no-second-batch a b = (a .packets ∙ sym (b .packets), a .each ∙ sym (b .each), a .places ∙ sym (b .places))

@@ -4,10 +4,10 @@ use Prim.Native.Nat.{ℕ, _+_, _-_, _≤_, min}
 use mathlib.Core.Path.{_≡_}
 use mathlib.Core.List.{List, [], _∷_, _++_}
 use lib.ListN.{length, take, drop, replicate}
+use Rattle.text.specs.Told.{Told, is, absent, refused}
 use Rattle.entry.specs.declared.optional.MaybeWord.{MaybeWord}
 use Rattle.entry.specs.declared.optional.MaybeWord.the-variants as W
-use Rattle.packet.specs.declared.Answer.{Answer}
-use Rattle.packet.specs.declared.Answer.the-variants as A
+use Rattle.packet.specs.declared.Packet.{Packet}
 use Rattle.packet.specs.Packet.{parseOf, placesOf, listBy}
 
 -- where a data view starts, 65,536 for none; a start is below that
@@ -15,10 +15,11 @@ abbrev pub startCode : MaybeWord → ℕ
 startCode (W.Is n) = n
 startCode W.Absent = 65536
 
--- one number for an answer: a packet's start, or 65,536 and the number that refuses it
-abbrev pub codeOf : Answer → ℕ
-codeOf (A.Packet p) = startCode (p .start)
-codeOf (A.Refused k) = 65536 + k
+-- one number for what is told of a packet, which is never none: its start, or 65,536 and the number that refuses it
+abbrev pub codeOf : Told Packet → ℕ
+codeOf (is p) = startCode (p .start)
+codeOf absent = 65536
+codeOf (refused k) = 65536 + k
 
 -- a packet to be read: its kind, and how many dwords it has
 pub record Job : Type 0 where
@@ -32,8 +33,8 @@ jobs (k ∷ ks) [] ns = []
 jobs (k ∷ ks) (c ∷ cs) [] = []
 jobs (k ∷ ks) (c ∷ cs) (n ∷ ns) = record { kind = k; count = c } ∷ jobs ks cs ns
 
--- the answer for the packet in front, on its part of the dwords and of the places
-unfoldable pub answerOf : List ℕ → Job → List ℕ → List ℕ → Answer
+-- what is told of the packet in front, on its part of the dwords and of the places
+unfoldable pub answerOf : List ℕ → Job → List ℕ → List ℕ → Told Packet
 answerOf s j ds ps = parseOf (j .kind) s (take (j .count) ds) (length (take (j .count) ps))
 
 -- its part of the places behind the call

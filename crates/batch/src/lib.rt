@@ -12,7 +12,7 @@ use entry::optional::MaybeWord;
 use packet::Answer;
 use packet::parse_checked;
 ghost use mathlib.Core.Path.{_≡_};
-ghost use Rattle.book.specs.Reading.{checkOf};
+ghost use Rattle.book.specs.Reading.{accepted, checkOf};
 ghost use Rattle.batch.specs.Batch.{startCode, Batch, Each, One};
 
 // Packet k has kind `kinds[k]` and the next `counts[k]` dwords, as far as they go; its places stand where its dwords do. `codes[k]` tells where
@@ -44,7 +44,7 @@ fn parse_each(
     places: &mut [u32],
     codes: &mut [u32],
 ) -> usize
-    requires { ⌜ checkOf (now book) ≡ Checked.Accepted ⌝ }
+    requires { ⌜ checkOf (now book) ≡ accepted ⌝ }
     ensures { λ r. ⌜ Batch (now (book .entry)) (now (kinds .entry)) (now (counts .entry)) (now (dwords .entry)) (now (places .entry)) (now (places .exit)) (now (codes .entry)) (now (codes .exit)) r ⌝ }
 {
     let n = least(kinds.len(), least(counts.len(), codes.len()));
@@ -78,7 +78,7 @@ fn refuse_each(kinds: usize, counts: usize, codes: &mut [u32]) -> usize
 
 // One packet's places and its number.
 fn parse_one(kind: u8, book: &[u8], dwords: &[u32], places: &mut [u32]) -> u32
-    requires { ⌜ checkOf (now book) ≡ Checked.Accepted ⌝ }
+    requires { ⌜ checkOf (now book) ≡ accepted ⌝ }
     ensures { λ r. ⌜ One kind (now (book .entry)) (now (dwords .entry)) (now (places .entry)) (now (places .exit)) r ⌝ }
 {
     let answer = parse_checked(kind, book, dwords, places);

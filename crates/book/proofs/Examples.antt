@@ -8,7 +8,7 @@ use Rattle.text.specs.Same.{sameText}
 use Rattle.tlv.specs.Number.{number, numberBytes}
 use Rattle.tlv.specs.Grammar.{fieldBytes}
 use Rattle.tlv.specs.Reading.{stepFrom, fieldAt, walkFrom, walk, parts, filled}
-use Rattle.book.specs.declared.Checked.the-variants.{Accepted, Refused}
+use Rattle.text.specs.Told.{refused}
 use Rattle.book.specs.Search.{
   bodyAt,
   after,
@@ -37,6 +37,7 @@ use Rattle.book.specs.Reading.{
   tableBody,
   sameTable,
   tablesFill,
+  accepted,
   checkOf,
 }
 use Rattle.book.specs.Finders.{
@@ -75,9 +76,9 @@ header = fieldBytes 2 (0 ∷ 0 ∷ 0 ∷ 0 ∷ 0 ∷ 0 ∷ 0 ∷ 0 ∷ 0 ∷ 0 �
 book : List ℕ
 book = control (range 0 31) ++ header
 
-accepted : checkOf book ≡ Accepted
+book-accepted : checkOf book ≡ accepted
 unfolding computed range control header book
-accepted = refl
+book-accepted = refl
 
 -- the table stands at 0, its entries at 4 and 30, the first one's range at 13, the range's value at 22
 finds-control-table : controlTable book 2 ≡ At 0
@@ -117,22 +118,22 @@ unfolding computed range control header book
 counts-entries = refl
 
 -- a high bit of 32; a low bit above the high bit; a table twice; an entry with its parts in another order; a byte behind the last table
-high-bit-32 : checkOf (control (range 0 32)) ≡ Refused 20
+high-bit-32 : checkOf (control (range 0 32)) ≡ refused 20
 unfolding computed range control
 high-bit-32 = refl
 
-low-above-high : checkOf (control (range 4 3)) ≡ Refused 20
+low-above-high : checkOf (control (range 4 3)) ≡ refused 20
 unfolding computed range control
 low-above-high = refl
 
-header-twice : checkOf (header ++ header) ≡ Refused 20
+header-twice : checkOf (header ++ header) ≡ refused 20
 unfolding computed header
 header-twice = refl
 
-type-before-name : checkOf (fieldBytes 1 (2 ∷ fieldBytes 3 (0 ∷ 0 ∷ (fieldBytes 5 (bytes "t") ++ fieldBytes 4 (bytes "n"))))) ≡ Refused 20
+type-before-name : checkOf (fieldBytes 1 (2 ∷ fieldBytes 3 (0 ∷ 0 ∷ (fieldBytes 5 (bytes "t") ++ fieldBytes 4 (bytes "n"))))) ≡ refused 20
 unfolding computed
 type-before-name = refl
 
-byte-behind : checkOf (header ++ (0 ∷ [])) ≡ Refused 20
+byte-behind : checkOf (header ++ (0 ∷ [])) ≡ refused 20
 unfolding computed header
 byte-behind = refl

@@ -5,6 +5,7 @@ use mathlib.Core.Bool.{Bool, true, cond, _&&_}
 use mathlib.Core.List.{List, []}
 use lib.Dec.{eqb, leb}
 use lib.ListN.{length, getD, take, drop}
+use Rattle.text.specs.Told.{Told, is, refused}
 use Rattle.tlv.specs.Number.{number}
 use Rattle.tlv.specs.Reading.{Part, between, fieldAt, parts, filled, all, once}
 use Rattle.book.specs.declared.Checked.{Checked}
@@ -87,11 +88,15 @@ sameTable s p = wanted (tableWant (take (p .to) s) (p .tag) (p .from)) [] s
 unfoldable pub tablesFill : List ℕ → ℕ → Bool
 tablesFill s at = filled (tableOk s) s at && once (sameTable s) (parts s at)
 
--- accepted, or number 20
-unfoldable pub checkOf : List ℕ → Checked
-checkOf s = cond (leb (length s) 65535 && tablesFill s 0) Accepted (Refused 20)
+-- accepted: there is no more to tell
+abbrev pub accepted : Told (Unit {0})
+accepted = is tt
 
--- the paper's number for what the check answers, 0 for none
-abbrev pub refusalOf : Checked → ℕ
-refusalOf Accepted = 0
-refusalOf (Refused k) = k
+-- what each case of the check's answer tells
+abbrev pub checkTold : Checked → Told (Unit {0})
+checkTold Accepted = accepted
+checkTold (Refused k) = refused k
+
+-- accepted, or number 20
+unfoldable pub checkOf : List ℕ → Told (Unit {0})
+checkOf s = cond (leb (length s) 65535 && tablesFill s 0) accepted (refused 20)

@@ -12,7 +12,7 @@ mod seen;
 
 use crate::grammar::tables;
 ghost use mathlib.Core.Path.{_≡_};
-ghost use Rattle.book.specs.Reading.{checkOf};
+ghost use Rattle.book.specs.Reading.{checkTold, checkOf};
 
 // The four dwords of a UUID, in the order of the book and of a packet.
 pub struct Uuid {
@@ -30,7 +30,7 @@ pub enum Checked {
 
 // Does the book belong to the grammar? If not, number 20.
 pub fn check(book: &[u8]) -> Checked
-    ensures { λ r. ⌜ r ≡ checkOf (now (book .entry)) ⌝ }
+    ensures { λ r. ⌜ checkTold r ≡ checkOf (now (book .entry)) ⌝ }
 {
     if 65_535 < book.len() {
         return Checked::Refused(20);

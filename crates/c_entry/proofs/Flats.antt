@@ -13,8 +13,11 @@ use Rattle.entry.specs.declared.optional.MaybeByte.the-variants as B
 use Rattle.entry.specs.declared.optional.MaybeWord.{MaybeWord}
 use Rattle.entry.specs.declared.optional.MaybeWord.the-variants as W
 use Rattle.c_entry.specs.declared.Flat.{Flat}
+use Rattle.text.specs.Told.{is}
+use Rattle.text.proofs.Told.{by-cases, fixed-by-told}
+use Rattle.c_entry.specs.declared.Raised.{Raised}
 use Rattle.c_entry.specs.declared.Raised.the-variants as R
-use Rattle.c_entry.specs.Flat.{absent, flagNumber, flatByte, flatWord, flatOf, byteOf, wordOf, entryOf, isByte, isWord, bytesInRange, inRange, raiseOf, ByteFits, WordFits, OptionalsFit}
+use Rattle.c_entry.specs.Flat.{absent, flagNumber, flatByte, flatWord, flatOf, byteOf, wordOf, entryOf, isByte, isWord, bytesInRange, inRange, raisedTold, raiseOf, ByteFits, WordFits, OptionalsFit}
 
 -- an optional's number is in range and gives the optional back
 byte-back : (b : MaybeByte) → ByteFits b → byteOf (flatByte b) ≡ b
@@ -79,9 +82,9 @@ flat-in e h =
     rw (dropped-in (e .dropped), word-in (e .offset) (h .offset), word-in (e .len) (h .len), byte-in (e .code) (h .code), byte-in (e .port) (h .port), byte-in (e .config) (h .config), byte-in (e .seq) (h .seq), byte-in (e .unplug) (h .unplug))
 
 -- what flattens is raised again to the same entry
-pub raise-flat : (e : Entry) → OptionalsFit e → raiseOf (flatOf e) ≡ R.Entry e
+pub raise-flat : (e : Entry) → OptionalsFit e → raiseOf (flatOf e) ≡ is e
 unfolding raiseOf
-raise-flat e h = rw (flat-in e h) (ap R.Entry (entry-back e h))
+raise-flat e h = rw (flat-in e h) (ap is (entry-back e h))
 
 -- a number in range comes back from its optional
 byte-number : (n : ℕ) → isByte n ≡ true → flatByte (byteOf n) ≡ n
@@ -143,3 +146,11 @@ flat-back f h =
       unplug = byte-number (f .unplug) (d .1) i;
       dwords = f .dwords;
     }
+
+-- no second answer to `raise`: two answers that tell the same are the same
+pub one-raised : (a b : Raised) → raisedTold a ≡ raisedTold b → a ≡ b
+one-raised = fixed-by-told raisedTold (by-cases R.Entry R.OutOfRange (λ k. R.OutOfRange)) same
+  where
+    same : (a : Raised) → by-cases R.Entry R.OutOfRange (λ k. R.OutOfRange) (raisedTold a) ≡ a
+    same (R.Entry e) = refl
+    same R.OutOfRange = refl

@@ -2,6 +2,7 @@
 use Prim.Native.Nat.{ℕ, _<_}
 use mathlib.Core.Bool.{Bool, true, false, cond, _&&_, _||_}
 use lib.Dec.{eqb, ltb, leb}
+use Rattle.text.specs.Told.{Told, is, refused}
 use Rattle.entry.specs.declared.Entry.{Entry}
 use Rattle.entry.specs.declared.optional.MaybeByte.{MaybeByte}
 use Rattle.entry.specs.declared.optional.MaybeByte.the-variants as B
@@ -119,8 +120,14 @@ bytesInRange f = isByte (f .code) && isByte (f .port) && isByte (f .config) && i
 unfoldable pub inRange : Flat → Bool
 inRange f = leb (f .dropped) 1 && isWord (f .offset) && isWord (f .len) && bytesInRange f
 
-unfoldable pub raiseOf : Flat → Raised
-raiseOf f = cond (inRange f) (R.Entry (entryOf f)) R.OutOfRange
+-- what each case of a raised entry tells: the entry, or 37, since numbers that no entry has are out of the record's ranges
+abbrev pub raisedTold : Raised → Told Entry
+raisedTold (R.Entry e) = is e
+raisedTold R.OutOfRange = refused 37
+
+-- what is told of the numbers
+unfoldable pub raiseOf : Flat → Told Entry
+raiseOf f = cond (inRange f) (is (entryOf f)) (refused 37)
 
 -- an entry as code can hold it: each optional fits its type
 unfoldable pub ByteFits : MaybeByte → Type 0

@@ -7,7 +7,7 @@ use entry::optional::MaybeByte;
 use entry::optional::MaybeFlag;
 use entry::optional::MaybeWord;
 ghost use mathlib.Core.Path.{_≡_};
-ghost use Rattle.c_entry.specs.Flat.{flatOf, flatByte, flatWord, flatFlag, raiseOf, entryOf, byteOf, wordOf, inRange, bytesInRange, isByte, isWord};
+ghost use Rattle.c_entry.specs.Flat.{flatOf, flatByte, flatWord, flatFlag, raisedTold, raiseOf, entryOf, byteOf, wordOf, inRange, bytesInRange, isByte, isWord};
 
 // Stands for an optional field that is absent: no byte and no number of two bytes is that large.
 pub const ABSENT: u32 = 0xffff_ffff;
@@ -109,7 +109,7 @@ pub fn flat_flag(f: MaybeFlag) -> u32
 
 // Out of range is what no entry flattens to: a `dropped` other than 0 and 1, an optional field that is neither ABSENT nor within its width.
 pub fn raise(f: Flat) -> Raised
-    ensures { λ r. ⌜ r ≡ raiseOf f ⌝ }
+    ensures { λ r. ⌜ raisedTold r ≡ raiseOf f ⌝ }
 {
     if !is_in_range(f) {
         return Raised::OutOfRange;

@@ -1,3 +1,4 @@
 -- The laws of the C calls.
 pub mod Calling
 pub mod RoundTrip
+pub mod OneAnswer

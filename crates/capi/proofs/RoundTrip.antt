@@ -4,6 +4,7 @@ use Prim.Native.Nat.{ℕ, _^_, _≤_}
 use mathlib.Core.Path.{_≡_, ap, _∙_}
 use mathlib.Core.List.{List}
 use lib.ListN.{length}
+use Rattle.text.specs.Told as T
 use Rattle.tlv.specs.Number.{Bytes}
 use Rattle.entry.specs.declared.Entry.{Entry}
 use Rattle.entry.specs.declared.optional.MaybeByte.{MaybeByte}
@@ -17,8 +18,6 @@ use Rattle.record.specs.Reading.{readOf, dwordsOf, over}
 use Rattle.record.proofs.Records.{Accepts, record-accepted-exactly}
 use Rattle.writer.specs.Writing.{bufferBy}
 use Rattle.writer.proofs.RoundTrips.{record-writes-back}
-use Rattle.intake.specs.Intake.{fromRecord}
-use Rattle.c_entry.specs.declared.Raised.the-variants as R
 use Rattle.c_entry.specs.Flat.{flatOf, raiseOf, ByteFits, WordFits, OptionalsFit}
 use Rattle.c_entry.proofs.Flats.{raise-flat}
 use Rattle.capi.specs.declared.EntryAnswer.{EntryAnswer}
@@ -57,16 +56,16 @@ pub record ThereAndBack (t out : List ℕ) (r : EntryAnswer) (w : WriteAnswer) (
 
 -- a record read by `ck_record_read` and written by `ck_record_write`, with room enough, gives its own bytes
 pub record-through-c : (t : List ℕ) (v : EntryValue) → Bytes t → IsRecord t v → (slots exit : List ℕ) → 256 ≤ length slots → (r : EntryAnswer)
-    → Read (fromRecord (readOf t (length slots))) (dwordsOf t) slots exit r → (out left : List ℕ) → 5227 ≤ length out → (w : WriteAnswer)
+    → Read (readOf t (length slots)) (dwordsOf t) slots exit r → (out left : List ℕ) → 5227 ≤ length out → (w : WriteAnswer)
     → Wrote t (r .entry) exit out left w → ThereAndBack t out r w left
-unfolding fromRecord answerBy slotsBy writeFor recordFor writtenBy bufferBy
+unfolding answerBy slotsBy writeFor recordFor writtenBy bufferBy
 record-through-c t v bytes is slots exit enough r p out left room w q =
     let a : Accepts t slots v = record-accepted-exactly t bytes slots enough v .1 is in
     let e = a .entry in
     let answer : r ≡ record { number = 0; entry = flatOf e } = p .is ∙ rw (a .answer) in
     let lent : exit ≡ over (dwordsOf t) slots = p .slots ∙ rw (a .answer) in
     let fits : OptionalsFit e = ranged-fits e t (over (dwordsOf t) slots) (rw (a .value) (is .ranged)) in
-    let raised : raiseOf (r .entry) ≡ R.Entry e = ap (λ (x : EntryAnswer). raiseOf (x .entry)) answer ∙ raise-flat e fits in
+    let raised : raiseOf (r .entry) ≡ T.is e = ap (λ (x : EntryAnswer). raiseOf (x .entry)) answer ∙ raise-flat e fits in
     let back = record-writes-back t slots bytes enough v a (length out) room in
     record {
       read = ap (λ (x : EntryAnswer). x .number) answer;

@@ -3,19 +3,13 @@ use Prim.Native.Nat.{ℕ}
 use mathlib.Core.Path.{_≡_}
 use mathlib.Core.List.{List, []}
 use lib.ListN.{length}
+use Rattle.text.specs.Told as T
 use Rattle.entry.specs.Event.{eventOf, nameOf, padded}
-use Rattle.scan.specs.declared.Answer.{Answer}
-use Rattle.scan.specs.declared.Answer.the-variants as A
+use Rattle.entry.specs.declared.Entry.{Entry}
 use Rattle.scan.specs.Parse.{slotsBy}
-use Rattle.writer.specs.declared.Written.{Written}
-use Rattle.writer.specs.declared.Written.the-variants as W
 use Rattle.writer.specs.Writing.{bytesOf, writeOf, bufferBy}
-use Rattle.intake.specs.declared.What.{What}
-use Rattle.intake.specs.declared.What.the-variants as Text
-use Rattle.intake.specs.What.{numberOf}
+use Rattle.intake.specs.What.{Grammar, record-grammar, line-grammar}
 use Rattle.c_entry.specs.declared.Flat.{Flat}
-use Rattle.c_entry.specs.declared.Raised.{Raised}
-use Rattle.c_entry.specs.declared.Raised.the-variants as R
 use Rattle.c_entry.specs.Flat.{absent, flatOf, raiseOf}
 use Rattle.capi.specs.declared.EntryAnswer.{EntryAnswer}
 use Rattle.capi.specs.declared.WhatAnswer.{WhatAnswer}
@@ -49,40 +43,43 @@ blankEntry =
       dwords = 0;
     }
 
--- a reader's answer: number 0 and the entry, or the number and a blank entry
-unfoldable pub answerBy : Answer → EntryAnswer
-answerBy (A.Entry e) = record { number = 0; entry = flatOf e }
-answerBy (A.Refused k) = record { number = k; entry = blankEntry }
+-- what is told of a text: number 0 and the entry, or the number and a blank entry
+unfoldable pub answerBy : T.Told Entry → EntryAnswer
+answerBy (T.is e) = record { number = 0; entry = flatOf e }
+answerBy T.absent = record { number = 0; entry = blankEntry }
+answerBy (T.refused k) = record { number = k; entry = blankEntry }
 
 -- the answer, and each slot: an entry's dwords over the first, a refusal leaves them as found
-pub record Read (answer : Answer) (dwords out exit : List ℕ) (r : EntryAnswer) : Type 0 where
-  pub is : r ≡ answerBy answer
-  pub slots : exit ≡ slotsBy answer dwords out
+pub record Read (told : T.Told Entry) (dwords out exit : List ℕ) (r : EntryAnswer) : Type 0 where
+  pub is : r ≡ answerBy told
+  pub slots : exit ≡ slotsBy told dwords out
 
 -- what a text is, as a number: 0 neither, 1 a line, 2 a record
-abbrev pub caseOf : What → ℕ
-caseOf Text.Record = 2
-caseOf Text.Line = 1
-caseOf (Text.Neither k) = 0
+abbrev pub caseOf : T.Told Grammar → ℕ
+caseOf (T.is record-grammar) = 2
+caseOf (T.is line-grammar) = 1
+caseOf T.absent = 0
+caseOf (T.refused k) = 0
 
 -- that, and the number that refuses the text, 0 where nothing is refused
-unfoldable pub whatBy : What → WhatAnswer
-whatBy w = record { number = numberOf w; what = caseOf w }
+unfoldable pub whatBy : T.Told Grammar → WhatAnswer
+whatBy told = record { number = T.numberIn told; what = caseOf told }
 
--- the writer's answer: number 0 and how many bytes, or the number and no byte
-unfoldable pub writtenBy : Written → WriteAnswer
-writtenBy (W.Bytes n) = record { number = 0; bytes = n }
-writtenBy (W.Refused k) = record { number = k; bytes = 0 }
+-- what the writer tells: number 0 and how many bytes, or the number and no byte
+unfoldable pub writtenBy : T.Told ℕ → WriteAnswer
+writtenBy (T.is n) = record { number = 0; bytes = n }
+writtenBy T.absent = record { number = 0; bytes = 0 }
+writtenBy (T.refused k) = record { number = k; bytes = 0 }
 
 -- the record of the numbers, none where they are no entry's
-unfoldable pub recordFor : List ℕ → Raised → List ℕ → List ℕ
-recordFor text (R.Entry e) dwords = bytesOf text e dwords
-recordFor text R.OutOfRange dwords = []
+unfoldable pub recordFor : List ℕ → T.Told Entry → List ℕ → List ℕ
+recordFor text (T.is e) dwords = bytesOf text e dwords
+recordFor text T.absent dwords = []
+recordFor text (T.refused k) dwords = []
 
--- the writer's answer for the numbers: 37 where they are no entry's
-unfoldable pub writeFor : List ℕ → Raised → List ℕ → ℕ → Written
-writeFor text (R.Entry e) dwords room = writeOf text e dwords room
-writeFor text R.OutOfRange dwords room = W.Refused 37
+-- what the writer tells of the numbers: 37 where they are no entry's
+unfoldable pub writeFor : List ℕ → T.Told Entry → List ℕ → ℕ → T.Told ℕ
+writeFor text raised dwords room = T.andThen raised (λ e. writeOf text e dwords room)
 
 -- the answer, and each byte of the buffer: the record over the first, a refusal leaves them as found
 pub record Wrote (text : List ℕ) (f : Flat) (dwords out exit : List ℕ) (r : WriteAnswer) : Type 0 where

@@ -3,11 +3,10 @@ use Prim.Native.Nat.{ℕ}
 use mathlib.Core.Path.{_≡_}
 use mathlib.Core.List.{List}
 use lib.ListN.{length}
+use Rattle.text.specs.Told as T
 use Rattle.entry.specs.declared.optional.MaybeWord.{MaybeWord}
 use Rattle.entry.specs.declared.optional.MaybeWord.the-variants as W
 use Rattle.c_entry.specs.Flat.{flatWord}
-use Rattle.packet.specs.declared.Answer.{Answer}
-use Rattle.packet.specs.declared.Answer.the-variants as A
 use Rattle.packet.specs.declared.Packet.{Packet}
 use Rattle.packet.specs.declared.MaybeUuid.{MaybeUuid}
 use Rattle.packet.specs.declared.MaybeUuid.the-variants as U
@@ -29,23 +28,25 @@ unfoldable pub madeBy : Packet → PacketAnswer
 madeBy p = uuidBy 0 (p .start) (p .uuid)
 
 -- or the number, no start and no UUID
-unfoldable pub packetBy : Answer → PacketAnswer
-packetBy (A.Packet p) = madeBy p
-packetBy (A.Refused k) = uuidBy k W.Absent U.Absent
+unfoldable pub packetBy : T.Told Packet → PacketAnswer
+packetBy (T.is p) = madeBy p
+packetBy T.absent = uuidBy 0 W.Absent U.Absent
+packetBy (T.refused k) = uuidBy k W.Absent U.Absent
 
 -- the answer, and each place: a packet's places over the first, a refusal leaves them as found
-pub record Described (answer : Answer) (places out exit : List ℕ) (r : PacketAnswer) : Type 0 where
-  pub is : r ≡ packetBy answer
-  pub list : exit ≡ listBy answer places out
+pub record Described (told : T.Told Packet) (places out exit : List ℕ) (r : PacketAnswer) : Type 0 where
+  pub is : r ≡ packetBy told
+  pub list : exit ≡ listBy told places out
 
 -- a text's packet: kind, how many dwords, and the packet
 unfoldable pub ofPacket : Packet → TextPacket
 ofPacket p = record { kind = p .kind; dwords = p .dwords; packet = madeBy p }
 
 -- or the number, with no kind and no dword
-unfoldable pub textBy : Answer → TextPacket
-textBy (A.Packet p) = ofPacket p
-textBy (A.Refused k) = record { kind = 0; dwords = 0; packet = packetBy (A.Refused k) }
+unfoldable pub textBy : T.Told Packet → TextPacket
+textBy (T.is p) = ofPacket p
+textBy T.absent = record { kind = 0; dwords = 0; packet = packetBy T.absent }
+textBy (T.refused k) = record { kind = 0; dwords = 0; packet = packetBy (T.refused k) }
 
 -- the answer, each slot and each place: a packet's dwords and their places over the first, a refusal leaves them as found
 pub record TextRead (t s slots slots′ places places′ : List ℕ) (r : TextPacket) : Type 0 where

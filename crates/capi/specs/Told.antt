@@ -9,18 +9,16 @@ use Rattle.tlv.specs.Reading.{between}
 use Rattle.packet.specs.Field.{nameIn}
 use Rattle.field.specs.Names.{spanOf}
 use Rattle.print.specs.Put.{bufferAfter}
-use Rattle.c_entry.specs.Flat.{flagNumber}
+use Rattle.c_entry.specs.Flat.{absent as noField, flagNumber}
 use Rattle.book.specs.declared.Uuid.{Uuid}
 use Rattle.field.specs.declared.Source.{Source}
 use Rattle.field.specs.declared.Source.the-variants.{Control, Header, Protocol, Bare}
 use Rattle.field.specs.declared.Field.{Field}
 use Rattle.field.specs.declared.Range.{Range}
 use Rattle.field.specs.declared.Span.{Span}
-use Rattle.field.specs.declared.MaybeRange.{MaybeRange}
-use Rattle.field.specs.declared.MaybeRange.the-variants as R
 use Rattle.field.specs.Source.{entryOf}
 use Rattle.questions.specs.declared.PacketType.{PacketType}
-use Rattle.questions.specs.Answers.{Told, is, absent, refused}
+use Rattle.text.specs.Told.{Told, is, absent, refused}
 use Rattle.capi.specs.declared.told.ValueTold.{ValueTold}
 use Rattle.capi.specs.declared.told.UuidTold.{UuidTold}
 use Rattle.capi.specs.declared.told.TypeTold.{TypeTold}
@@ -39,6 +37,12 @@ abbrev pub asNumber : Told Bool → Told ℕ
 asNumber (is b) = is (flagNumber b)
 asNumber absent = absent
 asNumber (refused k) = refused k
+
+-- what an entry is asked, as one number: the value, or what stands for an absent field; no such question is refused
+abbrev pub flatTold : Told ℕ → ℕ
+flatTold (is v) = v
+flatTold absent = noField
+flatTold (refused k) = noField
 
 -- a UUID, the zeros where there is none
 abbrev pub uuidBy : Told Uuid → UuidTold
@@ -70,9 +74,10 @@ fieldBy absent = record { number = 0; present = 0; offset = 0; value = 0; source
 fieldBy (refused k) = record { number = k; present = 0; offset = 0; value = 0; source = 0; entry = 0 }
 
 -- a bit range, by its bits, their value and its place
-abbrev pub rangeBy : MaybeRange → RangeTold
-rangeBy (R.Is g) = record { present = 1; low = g .low; high = g .high; value = g .value; place = g .place .at }
-rangeBy R.Absent = record { present = 0; low = 0; high = 0; value = 0; place = 0 }
+abbrev pub rangeBy : Told Range → RangeTold
+rangeBy (is g) = record { present = 1; low = g .low; high = g .high; value = g .value; place = g .place .at }
+rangeBy absent = record { present = 0; low = 0; high = 0; value = 0; place = 0 }
+rangeBy (refused k) = record { present = 0; low = 0; high = 0; value = 0; place = 0 }
 
 -- where a name stands, and how many bytes it has
 abbrev pub nameBy : Span → NameTold

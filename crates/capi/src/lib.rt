@@ -37,13 +37,16 @@ use writer::Written;
 use writer::write;
 ghost use mathlib.Core.Path.{_≡_};
 ghost use lib.ListN.{length};
-ghost use Rattle.scan.specs.Parse.{parseOf, lineDwords};
+ghost use Rattle.scan.specs.Parse.{answerTold, parseOf, lineDwords};
+ghost use Rattle.writer.specs.Writing.{writtenTold};
 ghost use Rattle.record.specs.Reading.{readOf, dwordsOf};
-ghost use Rattle.intake.specs.Intake.{takenOf, takenDwords, fromRecord};
+ghost use Rattle.intake.specs.Intake.{takenOf, takenDwords};
 ghost use Rattle.intake.specs.What.{whatOf};
-ghost use Rattle.book.specs.Reading.{checkOf, refusalOf};
+ghost use Rattle.book.specs.Reading.{checkOf};
+ghost use Rattle.text.specs.Told.{numberIn};
 ghost use Rattle.entry.specs.Entry.{adapterOf, unplugOf};
-ghost use Rattle.c_entry.specs.Flat.{flatByte, flatFlag, byteOf};
+ghost use Rattle.c_entry.specs.Flat.{byteOf};
+ghost use Rattle.capi.specs.Told.{asNumber, flatTold};
 ghost use Rattle.capi.specs.Calls.{Read, Wrote, answerBy, whatBy, writtenBy, nameBy, blankEntry};
 
 // Number 0 and the entry, or the number that refuses the text and a blank entry.
@@ -85,7 +88,7 @@ pub extern "C" fn ck_parse(line: &[u8], slots: &mut [u32]) -> EntryAnswer
 // The entry of a record, likewise.
 #[no_mangle]
 pub extern "C" fn ck_record_read(text: &[u8], slots: &mut [u32]) -> EntryAnswer
-    ensures { λ r. ⌜ Read (fromRecord (readOf (now (text .entry)) (length (now (slots .entry))))) (dwordsOf (now (text .entry))) (now (slots .entry)) (now (slots .exit)) r ⌝ }
+    ensures { λ r. ⌜ Read (readOf (now (text .entry)) (length (now (slots .entry)))) (dwordsOf (now (text .entry))) (now (slots .entry)) (now (slots .exit)) r ⌝ }
 {
     match record::read(text, slots) {
         record::Answer::Entry(e) => answer_of(Answer::Entry(e)),
@@ -135,7 +138,7 @@ pub extern "C" fn ck_record_write(
 // 0 for a book that belongs to the grammar, else 20.
 #[no_mangle]
 pub extern "C" fn ck_book_check(book: &[u8]) -> u8
-    ensures { λ r. ⌜ r ≡ refusalOf (checkOf (now (book .entry))) ⌝ }
+    ensures { λ r. ⌜ r ≡ numberIn (checkOf (now (book .entry))) ⌝ }
 {
     match check(book) {
         Checked::Accepted => 0,
@@ -159,7 +162,7 @@ pub extern "C" fn ck_event_name(code: u8) -> EventName
 // The adapter of an entry, or ABSENT.
 #[no_mangle]
 pub extern "C" fn ck_adapter_num(entry: Flat) -> u32
-    ensures { λ r. ⌜ r ≡ flatByte (adapterOf (byteOf (entry .code)) (byteOf (entry .port))) ⌝ }
+    ensures { λ r. ⌜ r ≡ flatTold (adapterOf (byteOf (entry .code)) (byteOf (entry .port))) ⌝ }
 {
     flat_byte(adapter_num(entry_of(entry)))
 }
@@ -167,13 +170,13 @@ pub extern "C" fn ck_adapter_num(entry: Flat) -> u32
 // 1 if the entry reports an unplug, 0 if not, or ABSENT.
 #[no_mangle]
 pub extern "C" fn ck_unplug(entry: Flat) -> u32
-    ensures { λ r. ⌜ r ≡ flatFlag (unplugOf (byteOf (entry .unplug))) ⌝ }
+    ensures { λ r. ⌜ r ≡ flatTold (asNumber (unplugOf (byteOf (entry .unplug)))) ⌝ }
 {
     flat_flag(unplug(entry_of(entry)))
 }
 
 fn answer_of(answer: Answer) -> EntryAnswer
-    ensures { λ r. ⌜ r ≡ answerBy answer ⌝ }
+    ensures { λ r. ⌜ r ≡ answerBy (answerTold answer) ⌝ }
 {
     match answer {
         Answer::Entry(e) => EntryAnswer {
@@ -188,7 +191,7 @@ fn answer_of(answer: Answer) -> EntryAnswer
 }
 
 fn written_of(written: Written) -> WriteAnswer
-    ensures { λ r. ⌜ r ≡ writtenBy written ⌝ }
+    ensures { λ r. ⌜ r ≡ writtenBy (writtenTold written) ⌝ }
 {
     match written {
         Written::Bytes(bytes) => WriteAnswer {

@@ -7,7 +7,7 @@ use packet::MaybeUuid;
 use packet::Packet;
 ghost use mathlib.Core.Path.{_≡_};
 ghost use lib.ListN.{length};
-ghost use Rattle.packet.specs.Packet.{parseOf, overOf, placesOf};
+ghost use Rattle.packet.specs.Packet.{answerTold, parseOf, overOf, placesOf};
 ghost use Rattle.batch.specs.Batch.{Batch};
 ghost use Rattle.capi.specs.Packets.{Described, packetBy, madeBy, uuidBy, ofPacket, textBy, TextRead};
 
@@ -66,7 +66,7 @@ pub extern "C" fn ck_packet_all(
 }
 
 pub fn packet_answer(answer: Answer) -> PacketAnswer
-    ensures { λ r. ⌜ r ≡ packetBy answer ⌝ }
+    ensures { λ r. ⌜ r ≡ packetBy (answerTold answer) ⌝ }
 {
     match answer {
         Answer::Packet(p) => made(p),
@@ -138,7 +138,7 @@ pub extern "C" fn ck_read_packet(
 }
 
 fn text_packet(answer: Answer) -> TextPacket
-    ensures { λ r. ⌜ r ≡ textBy answer ⌝ }
+    ensures { λ r. ⌜ r ≡ textBy (answerTold answer) ⌝ }
 {
     match answer {
         Answer::Packet(p) => of_packet(p),

@@ -14,6 +14,7 @@ use questions::WideAnswer;
 use questions::WordAnswer;
 use questions::described::MaybeDword;
 ghost use mathlib.Core.Path.{_≡_};
+ghost use Rattle.field.specs.Ranges.{rangeTold};
 ghost use Rattle.questions.specs.Answers.{byteTold, wordTold, wideTold, flagTold, uuidTold, typeTold, fieldTold, dwordTold};
 ghost use Rattle.capi.specs.Told.{valueBy, asNumber, uuidBy, typeBy, fieldBy, wholeField, sourceNumber, rangeBy};
 
@@ -232,7 +233,7 @@ fn source_number(source: Source) -> u8
 }
 
 pub fn tell_range(range: MaybeRange) -> RangeTold
-    ensures { λ r. ⌜ r ≡ rangeBy range ⌝ }
+    ensures { λ r. ⌜ r ≡ rangeBy (rangeTold range) ⌝ }
 {
     match range {
         MaybeRange::Is(g) => RangeTold {

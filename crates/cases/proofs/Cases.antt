@@ -24,7 +24,6 @@ use Rattle.pairs.proofs.Cases.{case-P4, case-P5, case-P6}
 use mathlib.Core.Bool.{false}
 use Rattle.entry.specs.declared.optional.MaybeByte.the-variants as B
 use Rattle.entry.specs.declared.optional.MaybeWord.the-variants as W
-use Rattle.scan.specs.declared.Answer.the-variants as A
 use Rattle.scan.specs.Body.{textAt}
 use Rattle.scan.specs.Dwords.{payloadData}
 use Rattle.scan.specs.Parse.{parseOf}
@@ -32,7 +31,7 @@ use Rattle.scan.proofs.Cases.{accepted-P7, refused-P8}
 use Rattle.tlv.specs.Grammar.{fieldBytes}
 use Rattle.packet.specs.Packet.{entriesOf}
 use Rattle.packet.proofs.Examples.{threeEntries, threeUuids, fourUuids}
-use Rattle.questions.specs.Answers.{is, absent, refused}
+use Rattle.text.specs.Told.{is, absent, refused}
 use Rattle.questions.specs.Questions.{routeOf, startOf, viewOf, uuidAnswer}
 use Rattle.questions.proofs.Cases.{case-P12, case-P13, case-P14}
 
@@ -57,9 +56,9 @@ pub record Cases : Type 0 where
   -- P6: `data=[0x1, zz, 0x2]`: 1, 2
   pub P6 : payloadData (bytes "data=[0x1, zz, 0x2]") ≡ some (1 ∷ 2 ∷ [])
   -- P7: `data=[0x1,0x2]`: no dwords, accepted
-  pub P7 : parseOf (bytes "a-1 [002] 1.2: f: type=t size=3 domain=0 route=0 data=[0x1,0x2]") 256 ≡ A.Entry (record { «task_at» = 0; «task_len» = 1; pid = 1; cpu = 2; seconds = 1; microseconds = 2; «function_at» = 15; «function_len» = 1; kind = 0; size = 3; dropped = false; domain = 0; route = 0; offset = W.Absent; code = B.Absent; len = W.Absent; port = B.Absent; config = B.Absent; seq = B.Absent; unplug = B.Absent; dwords = 0 })
+  pub P7 : parseOf (bytes "a-1 [002] 1.2: f: type=t size=3 domain=0 route=0 data=[0x1,0x2]") 256 ≡ is (record { «task_at» = 0; «task_len» = 1; pid = 1; cpu = 2; seconds = 1; microseconds = 2; «function_at» = 15; «function_len» = 1; kind = 0; size = 3; dropped = false; domain = 0; route = 0; offset = W.Absent; code = B.Absent; len = W.Absent; port = B.Absent; config = B.Absent; seq = B.Absent; unplug = B.Absent; dwords = 0 })
   -- P8: `data=[]`: 15
-  pub P8 : parseOf (bytes "a-1 [002] 1.2: f: type=t size=3 domain=0 route=0 data=[]") 256 ≡ A.Refused 15
+  pub P8 : parseOf (bytes "a-1 [002] 1.2: f: type=t size=3 domain=0 route=0 data=[]") 256 ≡ refused 15
   -- P9: hex 16: `ffff` read, `10000` not
   pub P9-read : hexOf 0xffff (bytes "ffff") ≡ X.Value 0xffff
   pub P9-not : hexOf 0xffff (bytes "10000") ≡ X.Unreadable

@@ -2,4 +2,5 @@
 pub mod Parts
 pub mod Pads
 pub mod Codes
+pub mod Told
 pub mod Cases

@@ -7,7 +7,9 @@ use mathlib.Core.Option.{Option, some, none}
 use lib.Dec.{leb, eqb}
 use lib.ListN.{length, take, drop}
 use Rattle.text.specs.Part.{Slice, OwnPart}
-use Rattle.entry.specs.Event.{codeOf, eventOf}
+use Rattle.entry.specs.Event.{eventOf}
+use Rattle.text.specs.Told.{Told, is, absent}
+use Rattle.entry.specs.declared.events.Event.{Event}
 use Rattle.entry.specs.declared.Entry.{Entry}
 use Rattle.entry.specs.declared.optional.MaybeByte.{MaybeByte}
 use Rattle.entry.specs.declared.optional.MaybeByte.the-variants as B
@@ -99,27 +101,37 @@ pub record SameEntry (e : Entry) (text slots : List ℕ) (f : Entry) (other plac
   pub second-lies : Lies f other places
   pub same : valueOf e text slots ≡ valueOf f other places
 
--- a flag that may be absent, as a value
-unfoldable pub flagValue : MaybeFlag → Option Bool
-flagValue (F.Is b) = some b
-flagValue F.Absent = none
+-- what each case of an answer tells: a flag, or none
+abbrev pub maybeFlag : MaybeFlag → Told Bool
+maybeFlag (F.Is b) = is b
+maybeFlag F.Absent = absent
 
--- an event that may be absent, as its code
-unfoldable pub eventValue : MaybeEvent → Option ℕ
-eventValue (E.Is e) = some (codeOf e)
-eventValue E.Absent = none
+-- an event, whose number is its code (`codeOf`), or none
+abbrev pub maybeEvent : MaybeEvent → Told Event
+maybeEvent (E.Is e) = is e
+maybeEvent E.Absent = absent
+
+-- a byte, or none
+abbrev pub maybeByte : MaybeByte → Told ℕ
+maybeByte (B.Is b) = is b
+maybeByte B.Absent = absent
+
+-- a number of two bytes, or none
+abbrev pub maybeWord : MaybeWord → Told ℕ
+maybeWord (W.Is w) = is w
+maybeWord W.Absent = absent
 
 -- the event question: that of the code, none without one
-unfoldable pub eventOfCode : MaybeByte → MaybeEvent
-eventOfCode (B.Is code) = E.Is (eventOf code)
-eventOfCode B.Absent = E.Absent
+unfoldable pub eventOfCode : MaybeByte → Told Event
+eventOfCode (B.Is code) = is (eventOf code)
+eventOfCode B.Absent = absent
 
 -- the adapter question: the port, none for events 33 and 36
-unfoldable pub adapterOf : MaybeByte → MaybeByte → MaybeByte
-adapterOf (B.Is code) port = cond (eqb code 33 || eqb code 36) B.Absent port
-adapterOf B.Absent port = port
+unfoldable pub adapterOf : MaybeByte → MaybeByte → Told ℕ
+adapterOf (B.Is code) port = cond (eqb code 33 || eqb code 36) absent (maybeByte port)
+adapterOf B.Absent port = maybeByte port
 
 -- the unplug question: whether the byte is 1, none without one
-unfoldable pub unplugOf : MaybeByte → MaybeFlag
-unplugOf (B.Is b) = F.Is (eqb b 1)
-unplugOf B.Absent = F.Absent
+unfoldable pub unplugOf : MaybeByte → Told Bool
+unplugOf (B.Is b) = is (eqb b 1)
+unplugOf B.Absent = absent

@@ -10,7 +10,7 @@ use crate::optional::MaybeEvent;
 use crate::optional::MaybeFlag;
 use crate::optional::MaybeWord;
 ghost use mathlib.Core.Path.{_≡_};
-ghost use Rattle.entry.specs.Entry.{OwnPartAt, eventOfCode, adapterOf, unplugOf};
+ghost use Rattle.entry.specs.Entry.{OwnPartAt, maybeByte, maybeEvent, maybeFlag, eventOfCode, adapterOf, unplugOf};
 
 pub struct Entry {
     pub task_at: usize,
@@ -38,7 +38,7 @@ pub struct Entry {
 
 // The notification's event, where the entry has a code.
 pub fn event(e: Entry) -> MaybeEvent
-    ensures { λ r. ⌜ r ≡ eventOfCode (e .code) ⌝ }
+    ensures { λ r. ⌜ maybeEvent r ≡ eventOfCode (e .code) ⌝ }
 {
     let code = e.code;
     match code {
@@ -49,7 +49,7 @@ pub fn event(e: Entry) -> MaybeEvent
 
 // The adapter: the port, but for the two events that carry something else in its place.
 pub fn adapter_num(e: Entry) -> MaybeByte
-    ensures { λ r. ⌜ r ≡ adapterOf (e .code) (e .port) ⌝ }
+    ensures { λ r. ⌜ maybeByte r ≡ adapterOf (e .code) (e .port) ⌝ }
 {
     let code = e.code;
     let port = e.port;
@@ -69,7 +69,7 @@ pub fn adapter_num(e: Entry) -> MaybeByte
 
 // Does the entry report an unplug? The byte itself stays in the entry.
 pub fn unplug(e: Entry) -> MaybeFlag
-    ensures { λ r. ⌜ r ≡ unplugOf (e .unplug) ⌝ }
+    ensures { λ r. ⌜ maybeFlag r ≡ unplugOf (e .unplug) ⌝ }
 {
     let byte = e.unplug;
     match byte {

@@ -8,6 +8,8 @@ use native.Mathlib.Omega.{arith}
 use borrow.Author.Tests.{le-leb, lt-leb}
 use lib.Dec.{ltb}
 use lib.ListN.{getD}
+use Rattle.text.specs.Told.{is, absent}
+use Rattle.text.proofs.Told.{by-cases, fixed-by-told}
 use Rattle.text.specs.declared.place.Found.{Found}
 use Rattle.text.specs.declared.place.Found.the-variants.{At, Nothing}
 use Rattle.tlv.specs.declared.Step.the-variants as T
@@ -17,9 +19,10 @@ use Rattle.book.specs.Finders.{controlTable, uuidTable}
 use Rattle.packet.specs.Packet.{zeroUuid}
 use Rattle.packet.specs.Field as dword
 use Rattle.field.specs.declared.Source.the-variants.{Control, Header, Protocol, Bare}
-use Rattle.field.specs.declared.MaybeRange.the-variants.{Is, Absent}
+use Rattle.field.specs.declared.MaybeRange.{MaybeRange}
+use Rattle.field.specs.declared.MaybeRange.the-variants as R
 use Rattle.field.specs.Source.{standsIn, sourceOf}
-use Rattle.field.specs.Ranges.{rangeAt}
+use Rattle.field.specs.Ranges.{rangeTold, rangeAt}
 
 -- ---- in a table or not
 
@@ -28,19 +31,19 @@ module _ (s : List ℕ) (entry : ℕ) {table : Found} where
   unfolding standsIn
   no-table e = rw e
 
-  module _ {at : ℕ} (is : table ≡ At at) where
+  module _ {at : ℕ} (found : table ≡ At at) where
     pub no-field : steps.Bare (fieldAt s at) → false ≡ standsIn s table entry
     unfolding standsIn
-    no-field b = rw is (sym (steps.field-bare _ false (fieldAt s at) b))
+    no-field b = rw found (sym (steps.field-bare _ false (fieldAt s at) b))
 
     module _ {tag from to : ℕ} (field : fieldAt s at ≡ T.Field tag from to) where
       pub before-body : entry < from → false ≡ standsIn s table entry
       unfolding standsIn
-      before-body lt = rw (is, field, lt-leb from entry lt)
+      before-body lt = rw (found, field, lt-leb from entry lt)
 
       pub in-body : from ≤ entry → ltb entry to ≡ standsIn s table entry
       unfolding standsIn
-      in-body le = rw (is, field, le-leb from entry le)
+      in-body le = rw (found, field, le-leb from entry le)
 
 -- ---- the source
 
@@ -71,14 +74,22 @@ module _ (kind : ℕ) (s : List ℕ) where
 -- ---- a bit range
 
 module _ (s : List ℕ) (value : ℕ) where
-  pub no-range : (place : ℕ) → place ≡ 0 → Absent ≡ rangeAt s place value
+  pub no-range : (place : ℕ) → place ≡ 0 → absent ≡ rangeAt s place value
   unfolding rangeAt
   no-range zero e = refl
   no-range (suc p) e = absurd (omega arith)
 
   pub range-at : (place : ℕ) → (place ≡ 0 → ⊥) → {low high v : ℕ} → low ≡ getD s (place + 3) 0 → high ≡ getD s (place + 4) 0
       → v ≡ dword.valueIn s place value
-      → Is (record { low = low; high = high; value = v; place = record { at = place } }) ≡ rangeAt s place value
+      → is (record { low = low; high = high; value = v; place = record { at = place } }) ≡ rangeAt s place value
   unfolding rangeAt
   range-at zero n l h v = absurd (n refl)
-  range-at (suc p) n l h v = λ i. Is (record { low = l i; high = h i; value = v i; place = record { at = suc p } })
+  range-at (suc p) n l h v = λ i. is (record { low = l i; high = h i; value = v i; place = record { at = suc p } })
+
+-- no second answer to `nth_range` and `range_named`: two answers that tell the same are the same
+pub one-range : (a b : MaybeRange) → rangeTold a ≡ rangeTold b → a ≡ b
+one-range = fixed-by-told rangeTold (by-cases R.Is R.Absent (λ k. R.Absent)) same
+  where
+    same : (a : MaybeRange) → by-cases R.Is R.Absent (λ k. R.Absent) (rangeTold a) ≡ a
+    same (R.Is range) = refl
+    same R.Absent = refl

@@ -3,6 +3,7 @@
 use Prim.Native.Nat.{ℕ, zero, suc, _+_}
 use mathlib.Core.List.{List}
 use lib.ListN.{getD}
+use Rattle.text.specs.Told.{Told, is, absent}
 use Rattle.book.specs.Finders as finders
 use Rattle.packet.specs.Field as dword
 use Rattle.field.specs.declared.Field.{Field}
@@ -19,11 +20,16 @@ fieldName s field = dword.nameIn s (entryOf field)
 unfoldable pub rangeCount : List ℕ → Field → ℕ
 rangeCount s field = dword.inside (finders.countInside s) (entryOf field)
 
+-- what each case of a bit range's answer tells: the range, or none
+abbrev pub rangeTold : MaybeRange → Told Range
+rangeTold (Is range) = is range
+rangeTold Absent = absent
+
 -- the bit range at a place: low bit, high bit, and the value of the dword between them; none at place 0
-unfoldable pub rangeAt : List ℕ → ℕ → ℕ → MaybeRange
-rangeAt s zero value = Absent
+unfoldable pub rangeAt : List ℕ → ℕ → ℕ → Told Range
+rangeAt s zero value = absent
 rangeAt s (suc p) value =
-    Is
+    is
     (record {
       low = getD s (suc p + 3) 0;
       high = getD s (suc p + 4) 0;
@@ -32,11 +38,11 @@ rangeAt s (suc p) value =
     })
 
 -- the bit range with so many before it
-unfoldable pub nthRange : List ℕ → Field → ℕ → MaybeRange
+unfoldable pub nthRange : List ℕ → Field → ℕ → Told Range
 nthRange s field k = rangeAt s (dword.inside (λ e. finders.nthRange s e k) (entryOf field)) (field .value)
 
 -- of one name the first counts
-unfoldable pub rangeNamed : List ℕ → Field → List ℕ → MaybeRange
+unfoldable pub rangeNamed : List ℕ → Field → List ℕ → Told Range
 rangeNamed s field name = rangeAt s (dword.rangeIn s name (entryOf field)) (field .value)
 
 -- the name of a bit range

@@ -20,7 +20,7 @@ ghost use mathlib.Core.Path.{_≡_};
 ghost use Rattle.book.specs.Finders.{OwnName};
 ghost use Rattle.field.specs.Source.{sourceOf, entryOf, fieldOf};
 ghost use Rattle.field.specs.Names.{Names};
-ghost use Rattle.field.specs.Ranges.{fieldName, rangeCount, rangeAt, nthRange, rangeNamed, rangeName, valuePlace, valueName};
+ghost use Rattle.field.specs.Ranges.{fieldName, rangeCount, rangeTold, rangeAt, nthRange, rangeNamed, rangeName, valuePlace, valueName};
 
 // Where an entry stands in the book: the place of its tag byte.
 pub struct Place {
@@ -120,7 +120,7 @@ pub fn count_ranges(book: &[u8], field: Field) -> usize
 
 // The bit range with `k` before it.
 pub fn nth_range(book: &[u8], field: Field, k: usize) -> MaybeRange
-    ensures { λ r. ⌜ r ≡ nthRange (now (book .entry)) field k ⌝ }
+    ensures { λ r. ⌜ rangeTold r ≡ nthRange (now (book .entry)) field k ⌝ }
 {
     let entry = entry_of(field);
     if entry == 0 {
@@ -131,14 +131,14 @@ pub fn nth_range(book: &[u8], field: Field, k: usize) -> MaybeRange
 
 // The first bit range of a name.
 pub fn range_named(book: &[u8], field: Field, name: &[u8]) -> MaybeRange
-    ensures { λ r. ⌜ r ≡ rangeNamed (now (book .entry)) field (now (name .entry)) ⌝ }
+    ensures { λ r. ⌜ rangeTold r ≡ rangeNamed (now (book .entry)) field (now (name .entry)) ⌝ }
 {
     range_at(book, range_in(book, name, entry_of(field)), field.value)
 }
 
 // The bit range at a place, 0 for none, with its value in a dword.
 fn range_at(book: &[u8], place: usize, dword: u32) -> MaybeRange
-    ensures { λ r. ⌜ r ≡ rangeAt (now (book .entry)) place dword ⌝ }
+    ensures { λ r. ⌜ rangeTold r ≡ rangeAt (now (book .entry)) place dword ⌝ }
 {
     if place == 0 {
         return MaybeRange::Absent;

@@ -7,6 +7,7 @@ use native.Mathlib.Omega.{arith}
 use lib.ListN.{length, take, drop, length-drop, replicate, length-replicate}
 use lib.Seq.{sets, sets-eq, take-all, drop-drop, drop-length}
 use borrow.Rule.Slice.PartMut.{post-is, putMid, postOf}
+use Rattle.text.specs.Told as T
 use Rattle.tlv.specs.Number.{Bytes}
 use Rattle.entry.specs.declared.Entry.{Entry}
 use Rattle.entry.specs.Entry.{EntryValue, valueOf}
@@ -18,7 +19,8 @@ use Rattle.record.specs.Grammar.{recordBytes}
 use Rattle.record.specs.Reading.{over}
 use Rattle.writer.specs.declared.Written.{Written}
 use Rattle.writer.specs.declared.Written.the-variants as W
-use Rattle.writer.specs.Writing.{Writing, writeOf, bytesOf, bufferBy}
+use Rattle.writer.specs.Writing.{Writing, writtenTold, bytesOf, bufferBy}
+use Rattle.writer.proofs.RoundTrips.{one-written, some-written}
 use Rattle.intake.specs.Intake.{startsA1}
 use Rattle.intake.specs.Demand3.{ReadCall, WriteCall, Wrote, Says, HasRecord}
 use Rattle.intake.proofs.Demand3.{line-has-a-record}
@@ -41,15 +43,16 @@ module _ (t slots left : List ℕ) {e : Entry} (bytes : Bytes t) (first : starts
         short = rw same (h .2 .short);
         written = λ room enough.
             let n : length {A = ℕ} (replicate room 0) ≡ room = length-replicate room 0 in
-            let w = h .2 .written (replicate room 0) _ _ (record { enough = omega arith; contract = record { answer = refl; buffer = refl } }) in
-            rw same (rw n at (w .number));
+            let r = some-written t e left (length {A = ℕ} (replicate room 0)) in
+            let w = h .2 .written (replicate room 0) (r .0) _ (record { enough = omega arith; contract = record { answer = r .1; buffer = refl } }) in
+            rw same (rw n at (sym (r .1) ∙ ap writtenTold (w .number)));
       }
 
   pub line-record : recordOf t ≡ bytesOf t e left
   unfolding recordOf recordBy bytesOf
   line-record =
       let h = line-has-a-record t slots e left first call in
-      let q : parseOf t 256 ≡ A.Entry e = sym (p .answer ∙ rw size) in
+      let q : parseOf t 256 ≡ T.is e = sym (p .answer ∙ rw size) in
       let v : valueOf e t (lineDwords t) ≡ h .0 = one-line-reading t (line-entry-is t 256 q) (h .1) in
       rw q (ap recordBytes (v ∙ sym (h .2 .says .is)))
 
@@ -64,7 +67,7 @@ module _ (text : List ℕ) (e : Entry) (dwords : List ℕ) (has : Recorded text 
   pub rest-written : r ≡ W.Bytes (length (bytesOf text e dwords))
   rest-written =
       let size : length (take (length out - at) (drop at out)) ≡ length out - at = ap length rest-is ∙ length-drop at out in
-      w .answer ∙ rw size (has .written (length out - at) (omega arith))
+      one-written r (W.Bytes (length (bytesOf text e dwords))) (w .answer ∙ rw size (has .written (length out - at) (omega arith)))
 
   pub rest-put : Put out at (bytesOf text e dwords) (putMid at (length out - at) out left) (at + length (bytesOf text e dwords))
   unfolding bufferBy

@@ -10,10 +10,10 @@ use Rattle.text.specs.Quote.{bytes}
 use Rattle.entry.specs.declared.Entry.{Entry}
 use Rattle.scan.specs.declared.Answer.{Answer}
 use Rattle.scan.specs.declared.Answer.the-variants as A
-use Rattle.scan.specs.Parse.{parseOf}
+use Rattle.scan.specs.Parse.{answerTold, parseOf}
 use Rattle.record.specs.declared.Answer as Record
 use Rattle.record.specs.declared.Answer.the-variants as R
-use Rattle.record.specs.Reading.{readOf}
+use Rattle.record.specs.Reading.{answerTold as recordTold, readOf}
 use Rattle.writer.specs.declared.Written.the-variants as W
 use Rattle.writer.specs.Writing.{bytesOf}
 use Rattle.intake.specs.Intake.{startsA1}
@@ -25,7 +25,7 @@ use Rattle.filters.specs.declared.Counts.{Counts}
 use Rattle.filters.specs.declared.Run.{Run}
 use Rattle.filters.specs.declared.row.Seen.{Seen}
 use Rattle.filters.specs.declared.row.Seen.the-variants as S
-use Rattle.filters.specs.Texts.{fromLine, seenLine, fromRecord, seenRecord, rowOf, recordBy, recordOf, toldBy}
+use Rattle.filters.specs.Texts.{seenBy, seenLine, seenRecord, rowOf, recordBy, recordOf, toldBy}
 use Rattle.filters.specs.Filter.{oneMore, moreBy, counted, stoppedAt, outText, toldText, nextCounts, lastOut, lastTold}
 use Rattle.filters.specs.Rows.{RowPut, Told, Stopped, Recorded, RecordPut}
 use Rattle.filters.specs.Calls.{UnitPut, LastPut}
@@ -33,23 +33,23 @@ use Rattle.filters.proofs.Parts.{put-none}
 
 -- what a row says, from the answer of the reader
 module _ (u : List ℕ) {k : ℕ} (enough : k ≡ 256) where
-  pub line-entry : {r : Answer} {e : Entry} → r ≡ parseOf u k → r ≡ A.Entry e → S.Entry (e .kind) (e .dwords) ≡ seenLine u
-  unfolding seenLine fromLine
+  pub line-entry : {r : Answer} {e : Entry} → answerTold r ≡ parseOf u k → r ≡ A.Entry e → S.Entry (e .kind) (e .dwords) ≡ seenLine u
+  unfolding seenLine seenBy
   line-entry a q = rw (← enough, ← a, q)
 
-  pub line-refused : {r : Answer} {n : ℕ} → r ≡ parseOf u k → r ≡ A.Refused n → S.Refused n ≡ seenLine u
-  unfolding seenLine fromLine
+  pub line-refused : {r : Answer} {n : ℕ} → answerTold r ≡ parseOf u k → r ≡ A.Refused n → S.Refused n ≡ seenLine u
+  unfolding seenLine seenBy
   line-refused a q = rw (← enough, ← a, q)
 
-  pub record-entry : {r : Record.Answer} {e : Entry} → r ≡ readOf u k → r ≡ R.Entry e → S.Entry (e .kind) (e .dwords) ≡ seenRecord u
-  unfolding seenRecord fromRecord
+  pub record-entry : {r : Record.Answer} {e : Entry} → recordTold r ≡ readOf u k → r ≡ R.Entry e → S.Entry (e .kind) (e .dwords) ≡ seenRecord u
+  unfolding seenRecord seenBy
   record-entry a q = rw (← enough, ← a, q)
 
-  pub record-refused : {r : Record.Answer} {n : ℕ} → r ≡ readOf u k → r ≡ R.Refused n → S.Refused n ≡ seenRecord u
-  unfolding seenRecord fromRecord
+  pub record-refused : {r : Record.Answer} {n : ℕ} → recordTold r ≡ readOf u k → r ≡ R.Refused n → S.Refused n ≡ seenRecord u
+  unfolding seenRecord seenBy
   record-refused a q = rw (← enough, ← a, q)
 
-  pub refused-record : {r : Answer} {n : ℕ} → r ≡ parseOf u k → r ≡ A.Refused n → recordOf u ≡ []
+  pub refused-record : {r : Answer} {n : ℕ} → answerTold r ≡ parseOf u k → r ≡ A.Refused n → recordOf u ≡ []
   unfolding recordOf recordBy
   refused-record a q = rw (← enough, ← a, q)
 

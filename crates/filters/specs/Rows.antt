@@ -3,8 +3,8 @@ use Prim.Native.Nat.{ℕ, _+_, _≤_}
 use mathlib.Core.Path.{_≡_}
 use mathlib.Core.List.{List}
 use lib.ListN.{length}
+use Rattle.text.specs.Told.{is}
 use Rattle.entry.specs.declared.Entry.{Entry}
-use Rattle.writer.specs.declared.Written.the-variants as W
 use Rattle.writer.specs.Writing.{writeOf, bytesOf}
 use Rattle.listing_rows.specs.Rows.{Put, stopRow}
 use Rattle.filters.specs.declared.Run.{Run}
@@ -40,7 +40,7 @@ pub record Stopped (told : List ℕ) (run : Run) (told′ : List ℕ) (r : Run) 
 -- an entry has a record, which 5,227 bytes hold
 pub record Recorded (text : List ℕ) (e : Entry) (dwords : List ℕ) : Type 0 where
   pub short : length (bytesOf text e dwords) ≤ 5227
-  pub written : (room : ℕ) → 5227 ≤ room → writeOf text e dwords room ≡ W.Bytes (length (bytesOf text e dwords))
+  pub written : (room : ℕ) → 5227 ≤ room → writeOf text e dwords room ≡ is (length (bytesOf text e dwords))
 
 -- it is put
 pub record RecordPut (text : List ℕ) (e : Entry) (dwords out : List ℕ) (run : Run) (out′ : List ℕ) (r : Run) : Type 0 where

@@ -2,12 +2,10 @@
 use Prim.Native.Nat.{ℕ}
 use mathlib.Core.Bool.{cond}
 use mathlib.Core.List.{List, []}
+use Rattle.text.specs.Told.{Told, is, absent, refused}
+use Rattle.entry.specs.declared.Entry.{Entry}
 use Rattle.entry.specs.Entry.{valueOf}
-use Rattle.scan.specs.declared.Answer.{Answer}
-use Rattle.scan.specs.declared.Answer.the-variants as A
 use Rattle.scan.specs.Parse.{parseOf, lineDwords}
-use Rattle.record.specs.declared.Answer as Record
-use Rattle.record.specs.declared.Answer.the-variants as R
 use Rattle.record.specs.Grammar.{recordBytes}
 use Rattle.record.specs.Reading.{readOf}
 use Rattle.listing_rows.specs.Rows.{refusedRow, entryRow}
@@ -18,21 +16,18 @@ use Rattle.filters.specs.declared.Filter.the-variants as F
 use Rattle.filters.specs.declared.row.Seen.{Seen}
 use Rattle.filters.specs.declared.row.Seen.the-variants as S
 
--- what a row says of a line: its kind and how many dwords it has, or its number
-unfoldable pub fromLine : Answer → Seen
-fromLine (A.Entry e) = S.Entry (e .kind) (e .dwords)
-fromLine (A.Refused k) = S.Refused k
+-- what a row says by what is told of a unit, which is never none: its kind and how many dwords it has, or its number
+unfoldable pub seenBy : Told Entry → Seen
+seenBy (is e) = S.Entry (e .kind) (e .dwords)
+seenBy absent = S.Refused 0
+seenBy (refused k) = S.Refused k
 
+-- of a line, and of a record
 unfoldable pub seenLine : List ℕ → Seen
-seenLine u = fromLine (parseOf u 256)
-
--- the same of a record
-unfoldable pub fromRecord : Record.Answer → Seen
-fromRecord (R.Entry e) = S.Entry (e .kind) (e .dwords)
-fromRecord (R.Refused k) = S.Refused k
+seenLine u = seenBy (parseOf u 256)
 
 unfoldable pub seenRecord : List ℕ → Seen
-seenRecord u = fromRecord (readOf u 256)
+seenRecord u = seenBy (readOf u 256)
 
 -- the n-th row
 unfoldable pub rowOf : ℕ → Seen → List ℕ
@@ -45,9 +40,10 @@ isEntry (S.Entry kind dwords) = 1
 isEntry (S.Refused k) = 0
 
 -- the record of a line: the bytes of what its entry says; none of a line that is refused
-unfoldable pub recordBy : List ℕ → Answer → List ℕ
-recordBy u (A.Entry e) = recordBytes (valueOf e u (lineDwords u))
-recordBy u (A.Refused k) = []
+unfoldable pub recordBy : List ℕ → Told Entry → List ℕ
+recordBy u (is e) = recordBytes (valueOf e u (lineDwords u))
+recordBy u absent = []
+recordBy u (refused k) = []
 
 unfoldable pub recordOf : List ℕ → List ℕ
 recordOf u = recordBy u (parseOf u 256)

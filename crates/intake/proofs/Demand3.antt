@@ -10,24 +10,25 @@ use native.Mathlib.Decide.{decLt}
 use borrow.Author.Tests.{eq-eqb, ne-eqb}
 use lib.ListN.{length, take, drop, length-append}
 use lib.Seq.{take-append-seam, drop-append-seam}
+use Rattle.text.specs.Told as T
 use Rattle.entry.specs.declared.Entry.{Entry}
 use Rattle.entry.specs.Entry.{EntryValue, partOf, valueOf, Lies, SameEntry}
 use Rattle.entry.proofs.Parts.{part-out}
 use Rattle.scan.specs.declared.Answer.{Answer}
 use Rattle.scan.specs.declared.Answer.the-variants as A
-use Rattle.scan.specs.Parse.{slotsBy, Parsed}
+use Rattle.scan.specs.Parse.{answerTold, slotsBy, Parsed}
 use Rattle.scan.specs.Line.{Line}
-use Rattle.scan.proofs.Theorems.{line-entry-all, Handed, parsed-entry}
-use Rattle.record.specs.declared.Answer.the-variants as R
+use Rattle.scan.proofs.Theorems.{line-entry-all, Handed, parsed-entry, one-line-answer}
 use Rattle.record.specs.Grammar.{recordBytes, Ranged, IsRecord}
 use Rattle.record.specs.Reading.{over, dwordsOf, readOf}
 use Rattle.record.proofs.Records.{Accepts, record-accepted-exactly, accepted-is-record, record-at-most-5227}
 use Rattle.writer.specs.declared.Written.{Written}
 use Rattle.writer.specs.Writing.{bytesOf}
-use Rattle.writer.proofs.RoundTrips.{Writable, writable-is-written}
-use Rattle.intake.specs.Intake.{Belongs, startsA1, fromRecord, takenOf, takenDwords}
+use Rattle.writer.specs.Conditions.{Writable}
+use Rattle.writer.proofs.RoundTrips.{writable-is-written}
+use Rattle.intake.specs.Intake.{Belongs, startsA1, takenOf, takenDwords}
 use Rattle.intake.specs.Demand3.{ReadCall, WriteCall, Wrote, Says, HasRecord, LinesAndRecords}
-use Rattle.intake.proofs.Theorems.{record-starts, line-starts, taken-from, from-record, no-text-is-both, one-reading}
+use Rattle.intake.proofs.Theorems.{record-starts, line-starts, no-text-is-both, one-reading}
 use Rattle.intake.proofs.Ranges.{line-ranged}
 use Rattle.intake.proofs.Made.{record-bytes}
 use Rattle.intake.proofs.Slots.{line-with-more-slots}
@@ -60,7 +61,7 @@ accepted-line text slots e left first c =
 
 -- a call of `read` on a record, by the record's own reader
 module _ (text slots : List ℕ) {answer : Answer} (left : List ℕ) (first : startsA1 text ≡ true) (c : ReadCall text slots answer left) where
-  record-answer : answer ≡ fromRecord (readOf text (length slots))
+  record-answer : answerTold answer ≡ readOf text (length slots)
   unfolding takenOf
   record-answer = c .contract .answer ∙ rw first
 
@@ -75,7 +76,7 @@ unfolding startsA1
 record-accepted text v r slots answer left c =
     let first : startsA1 text ≡ true = eq-eqb _ _ (record-starts text v r) in
     let a : Accepts text slots v = record-accepted-exactly text (c .bytes) slots (c .enough) v .1 r in
-    let accepted : answer ≡ A.Entry (a .entry) = record-answer text slots left first c ∙ from-record (readOf text (length slots)) (a .answer) in
+    let accepted : answer ≡ A.Entry (a .entry) = one-line-answer answer (A.Entry (a .entry)) (record-answer text slots left first c ∙ a .answer) in
     let slots-left : left ≡ over (dwordsOf text) slots = record-slots text slots left first c accepted in
     (a .entry, accepted, record { lies = rw slots-left (a .lies); is = rw slots-left (a .value) })
 
@@ -83,7 +84,7 @@ record-accepted text v r slots answer left c =
 accepted-record : (text slots : List ℕ) (e : Entry) (left : List ℕ) → startsA1 text ≡ true → ReadCall text slots (A.Entry e) left
     → (v : EntryValue) × IsRecord text v × Says text e left v
 accepted-record text slots e left first c =
-    let read : readOf text (length slots) ≡ R.Entry e = taken-from (readOf text (length slots)) (sym (record-answer text slots left first c)) in
+    let read : readOf text (length slots) ≡ T.is e = sym (record-answer text slots left first c) in
     let r = accepted-is-record text (c .bytes) (length slots) e read in
     let g = record-accepted text _ r slots (A.Entry e) left c in
     let same : g .0 ≡ e = cc in
@@ -151,8 +152,11 @@ accepted-exactly text slots answer left c = (λ x. mp (startsA1 text) refl (x .0
     mpr : (v : EntryValue) → Belongs text v → (e : Entry) × (answer ≡ A.Entry e)
     mpr v (Belongs.a-record r) = let f = record-accepted text v r slots answer left c in (f .0, f .1)
     mpr v (Belongs.line a) =
-        let f = line-entry-all text a in
-        (f .0, c .contract .answer ∙ rw (ne-eqb _ _ (line-starts text v a)) (line-with-more-slots text (length slots) (c .enough) ∙ f .1))
+        let f = line-entry-all text a in (
+          f .0,
+          one-line-answer answer (A.Entry (f .0))
+              (c .contract .answer ∙ rw (ne-eqb _ _ (line-starts text v a)) (line-with-more-slots text (length slots) (c .enough) ∙ f .1)),
+        )
 
 -- every accepted line has a record
 pub line-has-a-record : (text slots : List ℕ) (e : Entry) (left : List ℕ) → startsA1 text ≡ false → ReadCall text slots (A.Entry e) left

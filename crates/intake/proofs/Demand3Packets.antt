@@ -11,6 +11,7 @@ use lib.ListN.{length, take, drop}
 use lib.Seq.{take-append-seam}
 use Rattle.text.specs.Part.{Slice, OwnDwords}
 use Rattle.text.proofs.OwnParts.{own-is, own-front}
+use Rattle.text.specs.Told as T
 use Rattle.entry.specs.declared.Entry.{Entry}
 use Rattle.entry.specs.declared.optional.MaybeWord.the-variants as Word
 use Rattle.entry.specs.Entry.{EntryValue, partOf, valueOf}
@@ -20,8 +21,8 @@ use Rattle.scan.proofs.Values.{dwords-part}
 use Rattle.packet.specs.declared.Answer.{Answer}
 use Rattle.packet.specs.declared.Answer.the-variants as P
 use Rattle.packet.specs.declared.Packet.{Packet}
-use Rattle.packet.specs.Packet.{isReadResponseOrWriteRequest, entriesOf, numberChecked, after, numberOf, placesOf, viewFrom, packetOf, unless, parseOf, listBy}
-use Rattle.packet.proofs.Packets.{passed-whole, length-places}
+use Rattle.packet.specs.Packet.{isReadResponseOrWriteRequest, entriesOf, numberChecked, after, numberOf, placesOf, viewFrom, packetOf, parseOf, listBy, answerTold}
+use Rattle.packet.proofs.Packets.{passed-whole, length-places, one-packet-answer}
 use Rattle.questions.specs.Questions.{refusal, viewOf, DataView}
 use Rattle.questions.proofs.Views.{view-is-from-n, view-is-the-callers-own}
 use Rattle.record.specs.Grammar.{recordBytes, IsRecord}
@@ -30,10 +31,10 @@ use Rattle.intake.specs.Intake.{Belongs, startsA1, takenOf, takenDwords}
 use Rattle.intake.specs.Packets.{packetBy, packetTaken, kindIn}
 use Rattle.intake.specs.Demand3.{ReadCall, HasRecord}
 use Rattle.intake.specs.Demand3Packets.{PacketCall, packetFor, Gives, SamePacket, CutOnce, Round, Comes, OnePacket, Demand3}
-use Rattle.intake.proofs.Theorems.{one-reading}
-use Rattle.intake.proofs.Slots.{taken-count}
+use Rattle.intake.proofs.Theorems.{one-reading, accepted-exactly-when-it-belongs}
+use Rattle.intake.proofs.Slots.{with-more-slots, taken-count}
 use Rattle.intake.proofs.Handing.{packet-is, places-by-kind}
-use Rattle.intake.proofs.Demand3.{accepted-exactly, line-has-a-record, record-is-the-writers, lines-and-records}
+use Rattle.intake.proofs.Demand3.{line-has-a-record, record-is-the-writers, lines-and-records}
 
 -- ---- what an accepted text says
 
@@ -54,7 +55,7 @@ accepted-says text slots e left c = by (startsA1 text) refl
 -- the entry of a text that belongs has the kind and the dwords that the text says
 record Read (text slots : List ℕ) (v : EntryValue) : Type 0 where
   entry : Entry
-  answer : takenOf text (length slots) ≡ A.Entry entry
+  answer : takenOf text (length slots) ≡ T.is entry
   kind : entry .kind ≡ v .kind
   dwords : takenDwords text ≡ v .dwords
   few : length (v .dwords) ≤ 256
@@ -63,19 +64,18 @@ module _ (text book slots places : List ℕ) (answer : Answer) (slots-left place
   says : (v : EntryValue) → Belongs text v → Read text slots v
   unfolding slotsBy valueOf
   says v b =
-      let call : ReadCall text slots (takenOf text (length slots)) (slotsBy (takenOf text (length slots)) (takenDwords text) slots) =
-      record { bytes = c .bytes; enough = c .enough-slots; contract = record { answer = refl; slots = refl } } in
-      let accepted = accepted-exactly text slots _ _ call .1 (v, b) in
-      let read : ReadCall text slots (A.Entry (accepted .0)) (slotsBy (A.Entry (accepted .0)) (takenDwords text) slots) =
-      record { bytes = c .bytes; enough = c .enough-slots; contract = record { answer = sym (accepted .1); slots = refl } } in
+      let accepted = accepted-exactly-when-it-belongs text (c .bytes) .1 (v, b) in
+      let told : takenOf text (length slots) ≡ T.is (accepted .0) = with-more-slots text (c .bytes) (length slots) (c .enough-slots) ∙ accepted .1 in
+      let read : ReadCall text slots (A.Entry (accepted .0)) (slotsBy (T.is (accepted .0)) (takenDwords text) slots) =
+      record { bytes = c .bytes; enough = c .enough-slots; contract = record { answer = sym told; slots = refl } } in
       let h = accepted-says text slots (accepted .0) _ read in
       let one : h .0 ≡ v = one-reading text (h .0) v (h .1) b in
-      let is : valueOf (accepted .0) text (slotsBy (A.Entry (accepted .0)) (takenDwords text) slots) ≡ v = h .2 .says .is ∙ one in
-      let part : partOf (slotsBy (A.Entry (accepted .0)) (takenDwords text) slots) 0 (accepted .0 .dwords) ≡ takenDwords text =
-      rw (taken-count text (length slots) (accepted .1)) (dwords-part (takenDwords text) slots) in
+      let is : valueOf (accepted .0) text (slotsBy (T.is (accepted .0)) (takenDwords text) slots) ≡ v = h .2 .says .is ∙ one in
+      let part : partOf (slotsBy (T.is (accepted .0)) (takenDwords text) slots) 0 (accepted .0 .dwords) ≡ takenDwords text =
+      rw (taken-count text (length slots) told) (dwords-part (takenDwords text) slots) in
       record {
         entry = accepted .0;
-        answer = accepted .1;
+        answer = told;
         kind = ap (λ (w : EntryValue). w .kind) is;
         dwords = sym part ∙ ap (λ (w : EntryValue). w .dwords) is;
         few = rw one at (h .2 .is-record .ranged .few);
@@ -91,16 +91,16 @@ module _ (text book slots places : List ℕ) (answer : Answer) (slots-left place
   unfolding packetTaken packetBy packetFor
   gives v b =
       let r = says v b in
-      let first : answer ≡ parseOf (r .entry .kind) book (takenDwords text) (length places) = c .contract .answer ∙ rw (r .answer) in
-      let by-value : answer ≡ parseOf (v .kind) book (v .dwords) (length places) =
+      let first : answerTold answer ≡ parseOf (r .entry .kind) book (takenDwords text) (length places) = c .contract .answer ∙ rw (r .answer) in
+      let by-value : answerTold answer ≡ parseOf (v .kind) book (v .dwords) (length places) =
       first ∙ ap₂ (λ (k : ℕ) (ds : List ℕ). parseOf k book ds (length places)) (r .kind) (r .dwords) in
       record {
         is = by-value ∙ enough-places (v .kind) (v .dwords) (length places) (omega (arith, r .few, c .enough-places));
-        slots-hold = c .contract .slots-left ∙ ap (λ (ds : List ℕ). listBy answer ds slots) (r .dwords);
+        slots-hold = c .contract .slots-left ∙ ap (λ (ds : List ℕ). listBy (answerTold answer) ds slots) (r .dwords);
         places-hold =
             c .contract .places-left
-            ∙ ap (λ (ds : List ℕ). listBy answer (placesOf (kindIn answer) book ds) places) (r .dwords)
-            ∙ sym (places-by-kind (v .kind) book (v .dwords) places (length places) answer by-value);
+            ∙ ap (λ (ds : List ℕ). listBy (answerTold answer) (placesOf (kindIn (answerTold answer)) book ds) places) (r .dwords)
+            ∙ sym (places-by-kind (v .kind) book (v .dwords) places (length places) (answerTold answer) by-value);
       }
 
 -- ---- one packet
@@ -109,7 +109,7 @@ module _ (text book slots places : List ℕ) (answer : Answer) (slots-left place
 module _ (v : EntryValue) (book slots places : List ℕ) {answer : Answer} {slots-left places-left : List ℕ} (g : Gives v book slots places answer slots-left places-left) {p : Packet} (e : answer ≡ P.Packet p) where
   is-packet : p ≡ packetOf (v .kind) book (v .dwords)
   unfolding packetFor
-  is-packet = packet-is (v .kind) book (v .dwords) (length (v .dwords)) (sym (g .is) ∙ e)
+  is-packet = packet-is (v .kind) book (v .dwords) (length (v .dwords)) (sym (g .is) ∙ ap answerTold e)
 
   count-is : p .dwords ≡ length (v .dwords)
   unfolding packetOf
@@ -137,7 +137,7 @@ same-packet v book {slots} {places} {slots′} {places′} {a} {b} g h =
     }
   where
     same : a ≡ b
-    same = g .is ∙ sym (h .is)
+    same = one-packet-answer a b (g .is ∙ sym (h .is))
 
 -- ---- the cut
 
@@ -147,16 +147,16 @@ enough-dwords kind s count room view none =
     ltb-false count (entriesOf s kind)
     (subst (λ (b : Bool). (b && ltb count (entriesOf s kind)) ≡ false) view (passed-whole kind s count room none .enough))
 
-accepted-number : (kind : ℕ) (s ds : List ℕ) (room : ℕ) {p : Packet} → parseOf kind s ds room ≡ P.Packet p → numberOf kind s (length ds) room ≡ 0
+accepted-number : (kind : ℕ) (s ds : List ℕ) (room : ℕ) {p : Packet} → parseOf kind s ds room ≡ T.is p → numberOf kind s (length ds) room ≡ 0
 unfolding parseOf
 accepted-number kind s ds room {p} q = by (numberOf kind s (length ds) room) q
   where
-    by : (n : ℕ) → unless n (packetOf kind s ds) ≡ P.Packet p → n ≡ 0
+    by : (n : ℕ) → T.unless n (T.is (packetOf kind s ds)) ≡ T.is p → n ≡ 0
     by zero h = refl
     by (suc n) h = absurd (let z : _≡_ {A = ℕ} 0 1 = cc in omega arith)
 
 -- the view of kinds 2 and 3 starts at n, which is within the dwords
-cut-at : (v : EntryValue) (book : List ℕ) → isReadResponseOrWriteRequest (v .kind) ≡ true → length (v .dwords) ≤ 256 → {p : Packet} → packetFor v book ≡ P.Packet p
+cut-at : (v : EntryValue) (book : List ℕ) → isReadResponseOrWriteRequest (v .kind) ≡ true → length (v .dwords) ≤ 256 → {p : Packet} → packetFor v book ≡ T.is p
     → (p .start ≡ Word.Is (entriesOf book (v .kind))) × (entriesOf book (v .kind) ≤ length (v .dwords))
 unfolding packetFor packetOf viewFrom
 cut-at v book view few {p} q =
@@ -166,7 +166,7 @@ cut-at v book view few {p} q =
     (start ∙ rw view (ap Word.Is whole), within)
 
 -- a question about an accepted packet is answered
-no-refusal : (v : EntryValue) (book : List ℕ) {p : Packet} → packetFor v book ≡ P.Packet p → refusal (v .kind) book (v .dwords) ≡ 0
+no-refusal : (v : EntryValue) (book : List ℕ) {p : Packet} → packetFor v book ≡ T.is p → refusal (v .kind) book (v .dwords) ≡ 0
 unfolding packetFor refusal
 no-refusal v book q = accepted-number (v .kind) book (v .dwords) (length (v .dwords)) q
 

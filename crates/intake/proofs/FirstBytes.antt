@@ -10,24 +10,26 @@ use borrow.Author.Tests.{ne-eqb, lt-ltb}
 use lib.Dec.{eqb}
 use lib.ListN.{length, getD, take}
 use lib.Seq.{take-all, length-take-le, getD-take}
+use Rattle.text.specs.Told as T
 use Rattle.tlv.specs.Number.{Bytes}
 use Rattle.tlv.proofs.Fields.{field-found, two-bytes}
 use Rattle.tlv.proofs.Places.{bytes-take}
-use Rattle.scan.specs.declared.Answer.the-variants as A
-use Rattle.record.specs.declared.Answer.the-variants as R
 use Rattle.scan.specs.Frame.{idle, frameOf}
 use Rattle.scan.specs.Parse.{withFrame, parseOf}
 use Rattle.record.specs.Judging.{framed}
 use Rattle.record.specs.Reading.{readOf}
 use Rattle.record.proofs.Judging.{not-framed}
 use Rattle.record.proofs.Sound.{framed-is}
-use Rattle.intake.specs.declared.What.the-variants as W
-use Rattle.intake.specs.Intake.{startsA1, fromRecord, takenOf}
-use Rattle.intake.specs.What.{whatBy, whatOf}
+use Rattle.intake.specs.Intake.{startsA1, takenOf}
+use Rattle.intake.specs.What.{Grammar, whatOf}
 
 -- the number of a text that is longer than any record, by its first byte: 30 behind A1, 1 behind `#`, else 2
 abbrev pub longNumber : ℕ → ℕ
 longNumber b = cond (eqb b 0xA1) 30 (cond (eqb b 35) 1 2)
+
+-- a text that is neither, with its number
+abbrev neither : ℕ → T.Told Grammar
+neither k = T.refused k
 
 module _ (t : List ℕ) (bytes : Bytes t) (long : 65539 ≤ length t) where
   -- no two-byte length is that of the rest
@@ -40,11 +42,11 @@ module _ (t : List ℕ) (bytes : Bytes t) (long : 65539 ≤ length t) where
           let f = field-found t 0 (framed-is t e) in
           absurd (omega (arith, f .to-is, two-bytes t 1, bytes 1, bytes 2, long))
 
-  pub long-record : readOf t 256 ≡ R.Refused 30
+  pub long-record : readOf t 256 ≡ T.refused 30
   unfolding readOf
   long-record = rw (← not-framed t long-unframed)
 
-  pub long-line : parseOf t 256 ≡ A.Refused (cond (eqb (getD t 0 0) 35) 1 2)
+  pub long-line : parseOf t 256 ≡ T.refused (cond (eqb (getD t 0 0) 35) 1 2)
   unfolding parseOf withFrame frameOf idle
   long-line = go (eqb (getD t 0 0) 35) refl
     where
@@ -54,16 +56,16 @@ module _ (t : List ℕ) (bytes : Bytes t) (long : 65539 ≤ length t) where
       more : eqb (length t) 1 ≡ false
       more = ne-eqb (length t) 1 (λ z. omega (arith, z, long))
 
-      go : (b : Bool) → eqb (getD t 0 0) 35 ≡ b → parseOf t 256 ≡ A.Refused (cond b 1 2)
+      go : (b : Bool) → eqb (getD t 0 0) 35 ≡ b → parseOf t 256 ≡ T.refused (cond b 1 2)
       go true e = rw (some, e)
       go false e = rw (some, more, e, lt-ltb 4096 (length t) (omega (arith, long)))
 
   -- a text of 65,539 bytes or more is neither
-  pub long-is-neither : whatOf t ≡ W.Neither (longNumber (getD t 0 0))
-  unfolding whatOf whatBy takenOf startsA1 fromRecord
+  pub long-is-neither : whatOf t ≡ T.refused (longNumber (getD t 0 0))
+  unfolding whatOf takenOf startsA1
   long-is-neither = go (eqb (getD t 0 0) 0xA1) refl
     where
-      go : (b : Bool) → eqb (getD t 0 0) 0xA1 ≡ b → whatOf t ≡ W.Neither (cond b 30 (cond (eqb (getD t 0 0) 35) 1 2))
+      go : (b : Bool) → eqb (getD t 0 0) 0xA1 ≡ b → whatOf t ≡ T.refused (cond b 30 (cond (eqb (getD t 0 0) 35) 1 2))
       go true e = rw (e, long-record)
       go false e = rw (e, long-line)
 
@@ -76,6 +78,6 @@ first-bytes-tell t bytes n h =
           let size : length (take n t) ≡ n = length-take-le n t (omega arith) in
           let first : getD (take n t) 0 0 ≡ getD t 0 0 = getD-take n t 0 0 (omega arith) in
           long-is-neither (take n t) (bytes-take t n bytes) (omega (arith, size, h))
-          ∙ ap (λ (b : ℕ). W.Neither (longNumber b)) first
+          ∙ ap (λ (b : ℕ). neither (longNumber b)) first
           ∙ sym (long-is-neither t bytes (omega arith))
     ]

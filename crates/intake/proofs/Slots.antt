@@ -1,16 +1,18 @@
 -- Slots past 256 change no answer: a text that is accepted has at most 256 dwords, and the slots are asked after nothing but their count. So a text may
 -- be read into an array of 256 as well. Assumes nothing.
-use Prim.Native.Nat.{ℕ, _≤_, min}
+use Prim.Native.Nat.{ℕ, zero, suc, _≤_, min}
 use mathlib.Core.Path.{_≡_, refl, sym, ap, _∙_}
 use mathlib.Core.Bool.{Bool, true, false, cond}
 use mathlib.Core.List.{List, _++_, append-assoc}
 use mathlib.Core.Option.{Option, some, none}
 use native.Mathlib.Omega.{arith}
 use native.Mathlib.Decide.{decLe}
-use borrow.Author.Tests.{eqb-true, le-leb, le-ltb, ltb-false}
-use lib.Dec.{eqb, leb, ltb}
+use borrow.Author.Tests.{le-leb, le-ltb, ltb-false}
+use lib.Dec.{leb, ltb}
 use lib.ListN.{length, take, drop, replicate, length-append, length-drop, length-replicate}
 use lib.Seq.{length-take-le, take-append-seam}
+use Rattle.text.specs.Told as T
+use Rattle.text.proofs.Told.{value-behind}
 use Rattle.tlv.specs.Number.{Bytes}
 use Rattle.entry.specs.declared.Entry.{Entry}
 use Rattle.scan.specs.declared.Answer.{Answer}
@@ -28,17 +30,15 @@ use Rattle.scan.specs.Frame.{frameOf}
 use Rattle.scan.specs.Head.{headOf}
 use Rattle.scan.specs.Body.{bodyOf}
 use Rattle.scan.specs.Dwords.{payloadData, data16, dataAnswer}
-use Rattle.scan.specs.Parse.{headerOf, payloadOf, startOf, withData, withBody, payloadAnswer, withHead, partedAnswer, withFrame, parseOf, lineDwords, slotsBy}
+use Rattle.scan.specs.Parse.{headerOf, payloadOf, startOf, withData, withBody, payloadAnswer, withHead, partedAnswer, withFrame, answerTold, parseOf, lineDwords, slotsBy}
 use Rattle.scan.proofs.Chain.{Answered}
 use Rattle.scan.proofs.Judged.{Says, judge}
-use Rattle.record.specs.declared.Answer.the-variants as R
 use Rattle.record.specs.Judging.{refusalOf}
 use Rattle.record.specs.Gathering.{entryOf}
 use Rattle.record.specs.Reading.{dwordCount, dwordsOf, readOf}
 use Rattle.record.proofs.Slots.{dwords-length}
 use Rattle.record.proofs.Sound.{passes-all, count-few}
-use Rattle.intake.specs.Intake.{startsA1, fromRecord, takenOf, takenDwords, Taken}
-use Rattle.intake.proofs.Theorems.{taken-from}
+use Rattle.intake.specs.Intake.{startsA1, takenOf, takenDwords, Taken}
 
 -- ---- lines
 
@@ -73,10 +73,10 @@ line-with-more-slots t room h = by-frame (frameOf t)
     by-frame (F.Refused k) = refl
 
 -- an entry counts the line's dwords
-line-count : (t : List ℕ) (room : ℕ) {e : Entry} → parseOf t room ≡ A.Entry e → e .dwords ≡ length (lineDwords t)
+line-count : (t : List ℕ) (room : ℕ) {e : Entry} → parseOf t room ≡ T.is e → e .dwords ≡ length (lineDwords t)
 line-count t room {e} q = go (parseOf t room) (judge t room) q
   where
-    go : (r : Answer) → Answered t room (Says t) r → r ≡ A.Entry e → e .dwords ≡ length (lineDwords t)
+    go : (r : T.Told Entry) → Answered t room (Says t) r → r ≡ T.is e → e .dwords ≡ length (lineDwords t)
     go r (Answered.refused k a) n = absurd (let z : _≡_ {A = ℕ} 0 1 = cc in omega arith)
     go r (Answered.entry f c s) n = let same : f ≡ e = cc in rw same at (s .count)
 
@@ -84,34 +84,34 @@ line-count t room {e} q = go (parseOf t room) (judge t room) q
 
 record-with-more-slots : (t : List ℕ) → Bytes t → (room : ℕ) → 256 ≤ room → readOf t room ≡ readOf t 256
 unfolding readOf
-record-with-more-slots t bytes room h = go (eqb (refusalOf t) 0) refl
+record-with-more-slots t bytes room h = go (refusalOf t) refl
   where
-    go : (x : Bool) → eqb (refusalOf t) 0 ≡ x → readOf t room ≡ readOf t 256
-    go false e = rw e
-    go true e =
-        let few : dwordCount t ≤ 256 = count-few t bytes (passes-all t (eqb-true (refusalOf t) 0 e)) in
+    go : (n : ℕ) → refusalOf t ≡ n → readOf t room ≡ readOf t 256
+    go (suc n) e = rw e
+    go zero e =
+        let few : dwordCount t ≤ 256 = count-few t bytes (passes-all t e) in
         rw (e, le-leb (dwordCount t) room (omega (arith, few, h)), le-leb (dwordCount t) 256 few)
 
 -- an entry counts the record's dwords
-record-count : (t : List ℕ) (room : ℕ) {e : Entry} → readOf t room ≡ R.Entry e → e .dwords ≡ length (dwordsOf t)
+record-count : (t : List ℕ) (room : ℕ) {e : Entry} → readOf t room ≡ T.is e → e .dwords ≡ length (dwordsOf t)
 unfolding readOf entryOf dwordsOf dwordCount
-record-count t room {e} q = go (eqb (refusalOf t) 0) (leb (dwordCount t) room) q
+record-count t room {e} q =
+    go (leb (dwordCount t) room) (value-behind (refusalOf t) (cond (leb (dwordCount t) room) (T.is (entryOf t)) (T.refused 35)) q .1)
   where
-    go : (x y : Bool) → cond x (cond y (R.Entry (entryOf t)) (R.Refused 35)) (R.Refused (refusalOf t)) ≡ R.Entry e → e .dwords ≡ length (dwordsOf t)
-    go false y h = absurd (let z : _≡_ {A = ℕ} 0 1 = cc in omega arith)
-    go true false h = absurd (let z : _≡_ {A = ℕ} 0 1 = cc in omega arith)
-    go true true h =
+    go : (y : Bool) → cond y (T.is (entryOf t)) (T.refused 35) ≡ T.is e → e .dwords ≡ length (dwordsOf t)
+    go false h = absurd (let z : _≡_ {A = ℕ} 0 1 = cc in omega arith)
+    go true h =
         let same : entryOf t ≡ e = cc in
         ap (λ (f : Entry). f .dwords) (sym same) ∙ sym (dwords-length t _ (dwordCount t))
 
 -- ---- texts
 
-with-more-slots : (t : List ℕ) → Bytes t → (room : ℕ) → 256 ≤ room → takenOf t room ≡ takenOf t 256
+pub with-more-slots : (t : List ℕ) → Bytes t → (room : ℕ) → 256 ≤ room → takenOf t room ≡ takenOf t 256
 unfolding takenOf
 with-more-slots t bytes room h = go (startsA1 t)
   where
-    go : (x : Bool) → cond x (fromRecord (readOf t room)) (parseOf t room) ≡ cond x (fromRecord (readOf t 256)) (parseOf t 256)
-    go true = ap fromRecord (record-with-more-slots t bytes room h)
+    go : (x : Bool) → cond x (readOf t room) (parseOf t room) ≡ cond x (readOf t 256) (parseOf t 256)
+    go true = record-with-more-slots t bytes room h
     go false = line-with-more-slots t room h
 
 -- slots past 256 change no answer
@@ -123,12 +123,12 @@ at-most-256-slots t bytes room =
     ]
 
 -- an entry counts the text's dwords
-pub taken-count : (t : List ℕ) (room : ℕ) {e : Entry} → takenOf t room ≡ A.Entry e → e .dwords ≡ length (takenDwords t)
+pub taken-count : (t : List ℕ) (room : ℕ) {e : Entry} → takenOf t room ≡ T.is e → e .dwords ≡ length (takenDwords t)
 unfolding takenOf takenDwords
 taken-count t room {e} q = go (startsA1 t) q
   where
-    go : (x : Bool) → cond x (fromRecord (readOf t room)) (parseOf t room) ≡ A.Entry e → e .dwords ≡ length (cond x (dwordsOf t) (lineDwords t))
-    go true h = record-count t room (taken-from (readOf t room) h)
+    go : (x : Bool) → cond x (readOf t room) (parseOf t room) ≡ T.is e → e .dwords ≡ length (cond x (dwordsOf t) (lineDwords t))
+    go true h = record-count t room h
     go false h = line-count t room h
 
 -- ---- an array in which the dwords wait
@@ -139,20 +139,20 @@ lent-elements slots {room} e = length-take-le room (replicate 256 0) (omega (ari
 
 -- what a text left in the array: its entry with the slots that are lent, and its dwords in front
 pub record Waits (t slots array : List ℕ) (e : Entry) : Type 0 where
-  pub answer : takenOf t (length slots) ≡ A.Entry e
+  pub answer : takenOf t (length slots) ≡ T.is e
   pub within : e .dwords ≤ length array
   pub front : take (e .dwords) array ≡ takenDwords t
   pub count : e .dwords ≡ length (take (e .dwords) array)
   pub fits : length (take (e .dwords) array) ≤ length slots
 
 module _ (t slots out : List ℕ) (bytes : Bytes t) {exit : List ℕ} {r : Answer} (room : length out ≡ min 256 (length slots)) (p : Taken t out exit r) where
-  answer-is : takenOf t (length slots) ≡ r
+  answer-is : takenOf t (length slots) ≡ answerTold r
   answer-is = sym (at-most-256-slots t bytes (length slots)) ∙ ap (takenOf t) (sym room) ∙ sym (p .answer)
 
   pub waits : (rest : List ℕ) {e : Entry} → length exit ≡ length out → r ≡ A.Entry e → Waits t slots (exit ++ rest) e
   unfolding slotsBy
   waits rest {e} kept n =
-      let count : e .dwords ≡ length (takenDwords t) = taken-count t (length slots) (answer-is ∙ n) in
+      let count : e .dwords ≡ length (takenDwords t) = taken-count t (length slots) (answer-is ∙ ap answerTold n) in
       let here : exit ≡ takenDwords t ++ drop (length (takenDwords t)) out = p .slots ∙ rw n in
       let size = ap length here ∙ length-append (takenDwords t) (drop (length (takenDwords t)) out) in
       let fits : length (takenDwords t) ≤ length out = omega (arith, kept, size, length-drop (length (takenDwords t)) out) in
@@ -161,12 +161,12 @@ module _ (t slots out : List ℕ) (bytes : Bytes t) {exit : List ℕ} {r : Answe
       let front : take (e .dwords) (exit ++ rest) ≡ takenDwords t =
       rw (count, whole) (take-append-seam (takenDwords t) (drop (length (takenDwords t)) out ++ rest)) in
       record {
-        answer = answer-is ∙ n;
+        answer = answer-is ∙ ap answerTold n;
         within = omega (arith, fits, count, kept, length-append exit rest);
         front = front;
         count = count ∙ ap length (sym front);
         fits = omega (arith, fits, room, ap length front);
       }
 
-  pub waits-not : {k : ℕ} → r ≡ A.Refused k → takenOf t (length slots) ≡ A.Refused k
-  waits-not n = answer-is ∙ n
+  pub waits-not : {k : ℕ} → r ≡ A.Refused k → takenOf t (length slots) ≡ T.refused k
+  waits-not n = answer-is ∙ ap answerTold n

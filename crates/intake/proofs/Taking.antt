@@ -10,7 +10,7 @@ use Rattle.scan.specs.Parse as Line
 use Rattle.record.specs.declared.Answer as Record
 use Rattle.record.specs.declared.Answer.the-variants as R
 use Rattle.record.specs.Reading as Reading
-use Rattle.intake.specs.Intake.{startsA1, fromRecord, takenOf, takenDwords, Taken, RecordTaken}
+use Rattle.intake.specs.Intake.{startsA1, takenOf, takenDwords, Taken, RecordTaken}
 
 module _ (t out : List ℕ) {exit : List ℕ} where
   pub taken-record : {r : Answer} → startsA1 t ≡ true → RecordTaken t out exit r → Taken t out exit r
@@ -23,9 +23,9 @@ module _ (t out : List ℕ) {exit : List ℕ} where
 
   module _ {q : Record.Answer} (read : Reading.Reading t out q exit) where
     pub record-entry : {e : Entry} → q ≡ R.Entry e → RecordTaken t out exit (A.Entry e)
-    unfolding fromRecord Line.slotsBy Reading.slotsBy
+    unfolding Line.slotsBy Reading.slotsBy
     record-entry e = record { answer = rw (← read .answer, e); slots = read .slots-left ∙ rw e }
 
     pub record-refused : {k : ℕ} → q ≡ R.Refused k → RecordTaken t out exit (A.Refused k)
-    unfolding fromRecord Line.slotsBy Reading.slotsBy
+    unfolding Line.slotsBy Reading.slotsBy
     record-refused e = record { answer = rw (← read .answer, e); slots = read .slots-left ∙ rw e }

@@ -1,5 +1,5 @@
 -- Demand 3, first half: given 256 slots a text is accepted exactly when it belongs to the line grammar or to the record grammar; no text
--- belongs to both; each has one reading. A record starts with A1, which is no byte of a line. Assumes nothing.
+-- belongs to both; each has one reading; no second answer. A record starts with A1, which is no byte of a line. Assumes nothing.
 use Prim.Native.Nat.{ℕ}
 use mathlib.Core.Path.{_≡_, refl, sym, ap, _∙_}
 use mathlib.Core.Bool.{Bool, true, false}
@@ -9,21 +9,19 @@ use native.Mathlib.Omega.{arith}
 use lib.Dec.{eqb}
 use lib.ListN.{getD, replicate}
 use borrow.Author.Tests.{eq-eqb, ne-eqb, eqb-true, eqb-false}
+use Rattle.text.specs.Told as T
 use Rattle.tlv.specs.Number.{Bytes}
 use Rattle.tlv.specs.Grammar.{fieldBytes}
 use Rattle.entry.specs.declared.Entry.{Entry}
 use Rattle.entry.specs.Entry.{EntryValue}
 use Rattle.scan.specs.declared.Answer.{Answer}
-use Rattle.scan.specs.declared.Answer.the-variants as A
-use Rattle.scan.specs.Parse.{parseOf}
+use Rattle.scan.specs.Parse.{answerTold, parseOf}
 use Rattle.scan.specs.Line.{Line}
-use Rattle.scan.proofs.Theorems.{one-line-reading, line-accepted-exactly}
-use Rattle.record.specs.declared.Answer as Record
-use Rattle.record.specs.declared.Answer.the-variants as R
+use Rattle.scan.proofs.Theorems.{one-line-reading, line-accepted-exactly, one-line-answer}
 use Rattle.record.specs.Grammar.{IsRecord, recordBytes}
 use Rattle.record.specs.Reading.{readOf}
 use Rattle.record.proofs.Records.{record-accepted-exactly, accepted-is-record, one-record-reading}
-use Rattle.intake.specs.Intake.{Belongs, startsA1, fromRecord, takenOf}
+use Rattle.intake.specs.Intake.{Belongs, startsA1, takenOf, Taken}
 
 -- a record starts with A1
 pub record-starts : (t : List ℕ) (v : EntryValue) → IsRecord t v → getD t 0 0 ≡ 0xA1
@@ -46,17 +44,8 @@ one-reading t v w (Belongs.line a) (Belongs.a-record b) = absurd (no-text-is-bot
 one-reading t v w (Belongs.a-record a) (Belongs.line b) = absurd (no-text-is-both t w v b a)
 one-reading t v w (Belongs.a-record a) (Belongs.a-record b) = one-record-reading t v w a b
 
-pub taken-from : (q : Record.Answer) {e : Entry} → fromRecord q ≡ A.Entry e → q ≡ R.Entry e
-unfolding fromRecord
-taken-from (R.Entry f) {e} n = let same : f ≡ e = cc in ap R.Entry same
-taken-from (R.Refused k) {e} n = absurd (let z : _≡_ {A = ℕ} 0 1 = cc in omega arith)
-
-pub from-record : (q : Record.Answer) {e : Entry} → q ≡ R.Entry e → fromRecord q ≡ A.Entry e
-unfolding fromRecord
-from-record q n = rw n
-
 -- the first byte decides
-taken-record : (t : List ℕ) (room : ℕ) → getD t 0 0 ≡ 0xA1 → takenOf t room ≡ fromRecord (readOf t room)
+taken-record : (t : List ℕ) (room : ℕ) → getD t 0 0 ≡ 0xA1 → takenOf t room ≡ readOf t room
 unfolding takenOf startsA1
 taken-record t room e = rw (eq-eqb _ _ e)
 
@@ -65,23 +54,29 @@ unfolding takenOf startsA1
 taken-line t room n = rw (ne-eqb _ _ n)
 
 -- given 256 slots, a text is accepted exactly when it belongs to the line grammar or to the record grammar
-pub accepted-exactly-when-it-belongs : (t : List ℕ) → Bytes t → ((e : Entry) × (takenOf t 256 ≡ A.Entry e)) ↔ ((v : EntryValue) × Belongs t v)
+pub accepted-exactly-when-it-belongs : (t : List ℕ) → Bytes t → ((e : Entry) × (takenOf t 256 ≡ T.is e)) ↔ ((v : EntryValue) × Belongs t v)
 accepted-exactly-when-it-belongs t bytes =
     (λ x. mp (eqb (getD t 0 0) 0xA1) refl (x .0) (x .1), λ y. mpr (y .0) (y .1))
   where
-    mp : (b : Bool) → eqb (getD t 0 0) 0xA1 ≡ b → (e : Entry) → takenOf t 256 ≡ A.Entry e → (v : EntryValue) × Belongs t v
+    mp : (b : Bool) → eqb (getD t 0 0) 0xA1 ≡ b → (e : Entry) → takenOf t 256 ≡ T.is e → (v : EntryValue) × Belongs t v
     mp true q e n =
-        let r = taken-from (readOf t 256) (sym (taken-record t 256 (eqb-true _ _ q)) ∙ n) in
+        let r : readOf t 256 ≡ T.is e = sym (taken-record t 256 (eqb-true _ _ q)) ∙ n in
         (_, Belongs.a-record (accepted-is-record t bytes 256 e r))
     mp false q e n =
         let w = line-accepted-exactly t .0 (e, sym (taken-line t 256 (eqb-false _ _ q)) ∙ n) in
         (w .0, Belongs.line (w .1))
 
-    mpr : (v : EntryValue) → Belongs t v → (e : Entry) × (takenOf t 256 ≡ A.Entry e)
+    mpr : (v : EntryValue) → Belongs t v → (e : Entry) × (takenOf t 256 ≡ T.is e)
     mpr v (Belongs.line a) =
         let w = line-accepted-exactly t .1 (v, a) in
         (w .0, taken-line t 256 (line-starts t v a) ∙ w .1)
     mpr v (Belongs.a-record r) =
         let slots : List ℕ = replicate 256 0 in
         let w = record-accepted-exactly t bytes (replicate 256 0) (omega arith) v .1 r in
-        (w .entry, taken-record t 256 (record-starts t v r) ∙ from-record (readOf t 256) (w .answer))
+        (w .entry, taken-record t 256 (record-starts t v r) ∙ w .answer)
+
+-- no second answer satisfies the contract of `read`, slots included
+pub no-second-reading : (t slots : List ℕ) {left other : List ℕ} {r q : Answer} → Taken t slots left r → Taken t slots other q → (r ≡ q) × (left ≡ other)
+no-second-reading t slots {left} {other} {r} {q} a b =
+    let same : answerTold r ≡ answerTold q = a .answer ∙ sym (b .answer) in
+    (one-line-answer r q same, a .slots ∙ rw same (sym (b .slots)))

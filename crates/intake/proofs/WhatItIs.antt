@@ -1,41 +1,43 @@
 -- What a text is, both ways: the answer is so of every text, since either reader is sound and complete for its grammar and its numbers; no two answers are
 -- so of one text; hence whatever is so is the answer. Assumes nothing.
-use Prim.Native.Nat.{ℕ, _≤_}
-use mathlib.Core.Path.{_≡_, refl, sym, ap, _∙_}
+use Prim.Native.Nat.{ℕ, zero, suc, _≤_}
+use mathlib.Core.Path.{_≡_, refl, sym, ap, subst, _∙_}
 use mathlib.Core.Bool.{Bool, true, false, cond, false≢true}
 use mathlib.Core.List.{List}
 use mathlib.Core.Logic.{_↔_}
 use native.Mathlib.Omega.{arith}
 use native.Mathlib.Decide.{decLe}
-use borrow.Author.Tests.{eq-eqb, ne-eqb, eqb-true, eqb-false, leb-false}
-use lib.Dec.{eqb, leb}
+use borrow.Author.Tests.{eq-eqb, ne-eqb}
+use lib.Dec.{leb}
 use lib.ListN.{length, replicate}
+use Rattle.text.specs.Told as T
+use Rattle.text.proofs.Told.{by-cases, fixed-by-told}
 use Rattle.tlv.specs.Number.{Bytes}
 use Rattle.entry.specs.declared.Entry.{Entry}
 use Rattle.entry.specs.Entry.{EntryValue}
-use Rattle.scan.specs.declared.Answer.{Answer}
 use Rattle.scan.specs.declared.Answer.the-variants as A
 use Rattle.scan.specs.Parse.{parseOf, slotsBy}
 use Rattle.scan.specs.Line.{Line, Condition, Applies}
+use Rattle.scan.proofs.Chain.{Answered}
+use Rattle.scan.proofs.Judged.{Says, judge}
 use Rattle.scan.proofs.Theorems.{line-number-exactly, past-table}
-use Rattle.record.specs.declared.Answer as Record
-use Rattle.record.specs.declared.Answer.the-variants as R
 use Rattle.record.specs.Grammar.{recordBytes, IsRecord}
 use Rattle.record.specs.Judging.{refusalOf}
 use Rattle.record.specs.Gathering.{entryOf}
-use Rattle.record.specs.Conditions.{Breaks, unframed, runs-past, wrong-tag, wrong-body, lacks-tag}
+use Rattle.record.specs.Conditions.{Breaks, unframed, runs-past, wrong-tag, wrong-body, lacks-tag, Refuses, breaks, few-slots}
 use Rattle.record.specs.Reading.{dwordCount, readOf}
 use Rattle.record.proofs.Numbers.{number-exactly}
-use Rattle.record.proofs.Sound.{passes-all, count-few}
+use Rattle.record.proofs.Records.{record-refused-exactly}
 use Rattle.writer.specs.declared.Written.{Written}
 use Rattle.writer.specs.declared.Written.the-variants as Written
-use Rattle.writer.specs.Writing.{bytesOf, writeOf, bufferBy}
+use Rattle.writer.specs.Writing.{bytesOf, writtenTold, writeOf, bufferBy}
+use Rattle.writer.proofs.RoundTrips.{some-written}
 use Rattle.intake.specs.declared.What.{What}
 use Rattle.intake.specs.declared.What.the-variants as W
-use Rattle.intake.specs.Intake.{Belongs, startsA1, fromRecord, takenOf, takenDwords}
+use Rattle.intake.specs.Intake.{Belongs, startsA1, takenOf, takenDwords}
 use Rattle.intake.specs.Demand3.{ReadCall, WriteCall, Wrote, HasRecord}
 use Rattle.intake.specs.Demand3Packets.{Round, Comes}
-use Rattle.intake.specs.What.{grammarOf, whatBy, whatOf, Number, Is, WhatCall, WhatATextIs}
+use Rattle.intake.specs.What.{Grammar, record-grammar, line-grammar, whatTold, grammarOf, whatOf, Number, Is, WhatCall, WhatATextIs}
 use Rattle.intake.proofs.Theorems.{record-starts, line-starts, no-text-is-both, accepted-exactly-when-it-belongs}
 use Rattle.intake.proofs.Demand3.{record-is-the-writers}
 use Rattle.intake.proofs.Demand3Packets.{comes-says}
@@ -87,50 +89,95 @@ line-number-range t k a = (low, high)
         ]
 
 -- a text whose record is refused with k is one to which k applies: 256 slots are enough, so 35 is not due
-pub refused-record : (t : List ℕ) → Bytes t → (k : ℕ) → fromRecord (readOf t 256) ≡ A.Refused k → Breaks t k
-unfolding readOf fromRecord
-refused-record t bytes k q = go (eqb (refusalOf t) 0) (leb (dwordCount t) 256) refl refl q
+pub refused-record : (t : List ℕ) → Bytes t → (k : ℕ) → readOf t 256 ≡ T.refused k → Breaks t k
+refused-record t bytes k q = go (record-refused-exactly t bytes 256 k .0 q)
   where
-    go : (x y : Bool) → eqb (refusalOf t) 0 ≡ x → leb (dwordCount t) 256 ≡ y
-        → fromRecord (cond x (cond y (R.Entry (entryOf t)) (R.Refused 35)) (R.Refused (refusalOf t))) ≡ A.Refused k → Breaks t k
-    go false y a b n = let e : refusalOf t ≡ k = cc in number-exactly t bytes k (λ z. eqb-false (refusalOf t) 0 a (e ∙ z)) .0 e
-    go true true a b n = absurd (let z : _≡_ {A = ℕ} 0 1 = cc in omega arith)
-    go true false a b n =
-        absurd (omega (arith, leb-false (dwordCount t) 256 b, count-few t bytes (passes-all t (eqb-true (refusalOf t) 0 a))))
+    go : Refuses t 256 k → Breaks t k
+    go (breaks b) = b
+    go (few-slots e f) = absurd (omega (arith, f .fewer, f .is-record .ranged .few))
+
+-- something is told of every line, of every record and of every text
+pub line-never-none : (t : List ℕ) (room : ℕ) → parseOf t room ≡ T.absent → ⊥
+line-never-none t room n = go (parseOf t room) (judge t room) n
+  where
+    go : (r : T.Told Entry) → Answered t room (Says t) r → r ≡ T.absent → ⊥
+    go r (Answered.refused k a) q = let z : _≡_ {A = ℕ} 0 1 = cc in omega arith
+    go r (Answered.entry e c s) q = let z : _≡_ {A = ℕ} 0 1 = cc in omega arith
+
+pub record-never-none : (t : List ℕ) (room : ℕ) → readOf t room ≡ T.absent → ⊥
+unfolding readOf
+record-never-none t room n = go (refusalOf t) (leb (dwordCount t) room) n
+  where
+    go : (m : ℕ) (y : Bool) → T.unless m (cond y (T.is (entryOf t)) (T.refused 35)) ≡ T.absent → ⊥
+    go (suc m) y q = let z : _≡_ {A = ℕ} 0 1 = cc in omega arith
+    go zero true q = let z : _≡_ {A = ℕ} 0 1 = cc in omega arith
+    go zero false q = let z : _≡_ {A = ℕ} 0 1 = cc in omega arith
+
+never-none : (t : List ℕ) → takenOf t 256 ≡ T.absent → ⊥
+unfolding takenOf
+never-none t n = go (startsA1 t) n
+  where
+    go : (b : Bool) → cond b (readOf t 256) (parseOf t 256) ≡ T.absent → ⊥
+    go true q = record-never-none t 256 q
+    go false q = line-never-none t 256 q
 
 -- ---- the answer is so
 
 -- the number of a refused text applies to it
-number-applies : (t : List ℕ) → Bytes t → (k : ℕ) → takenOf t 256 ≡ A.Refused k → Number t k
+number-applies : (t : List ℕ) → Bytes t → (k : ℕ) → takenOf t 256 ≡ T.refused k → Number t k
 unfolding takenOf
 number-applies t bytes k n = go (startsA1 t) refl n
   where
-    go : (b : Bool) → startsA1 t ≡ b → cond b (fromRecord (readOf t 256)) (parseOf t 256) ≡ A.Refused k → Number t k
+    go : (b : Bool) → startsA1 t ≡ b → cond b (readOf t 256) (parseOf t 256) ≡ T.refused k → Number t k
     go true f q = Number.of-a-record f (refused-record t bytes k q)
     go false f q = Number.of-a-line f (line-number-exactly t 256 k .0 q)
 
--- what is answered is so
-pub what-is : (t : List ℕ) → Bytes t → Is t (whatOf t)
-unfolding whatOf whatBy grammarOf
+-- two answers that tell the same are the same
+pub one-what-answer : (a b : What) → whatTold a ≡ whatTold b → a ≡ b
+one-what-answer = fixed-by-told whatTold (by-cases back W.Record W.Neither) same
+  where
+    back : Grammar → What
+    back record-grammar = W.Record
+    back line-grammar = W.Line
+
+    same : (a : What) → by-cases back W.Record W.Neither (whatTold a) ≡ a
+    same W.Record = refl
+    same W.Line = refl
+    same (W.Neither k) = refl
+
+-- an answer that tells what is told of the text, and is so
+pub record Tells (t : List ℕ) : Type 0 where
+  pub answer : What
+  pub told : whatTold answer ≡ whatOf t
+  pub so : Is t answer
+
+pub what-is : (t : List ℕ) → Bytes t → Tells t
+unfolding whatOf grammarOf
 what-is t bytes = go (takenOf t 256) refl
   where
-    accepted : (v : EntryValue) → Belongs t v → Is t (grammarOf t)
-    accepted v (Belongs.a-record r) = rw (a1-first t v r) (v, r)
-    accepted v (Belongs.line a) = rw (no-a1-first t v a) (v, a)
+    accepted : (e : Entry) → takenOf t 256 ≡ T.is e → (v : EntryValue) → Belongs t v → Tells t
+    accepted e n v (Belongs.a-record r) = record { answer = W.Record; told = rw (n, a1-first t v r); so = (v, r) }
+    accepted e n v (Belongs.line a) = record { answer = W.Line; told = rw (n, no-a1-first t v a); so = (v, a) }
 
-    belongs-not : (k : ℕ) → takenOf t 256 ≡ A.Refused k → (v : EntryValue) → Belongs t v → ⊥
+    belongs-not : (k : ℕ) → takenOf t 256 ≡ T.refused k → (v : EntryValue) → Belongs t v → ⊥
     belongs-not k n v b =
         let e = accepted-exactly-when-it-belongs t bytes .1 (v, b) in
-        let same : A.Entry (e .0) ≡ A.Refused k = sym (e .1) ∙ n in
+        let same : T.is (e .0) ≡ T.refused k = sym (e .1) ∙ n in
         absurd (let z : _≡_ {A = ℕ} 0 1 = cc in omega arith)
 
-    go : (r : Answer) → takenOf t 256 ≡ r → Is t (whatBy t r)
-    go (A.Entry e) n = let w = accepted-exactly-when-it-belongs t bytes .0 (e, n) in accepted (w .0) (w .1)
-    go (A.Refused k) n =
+    go : (r : T.Told Entry) → takenOf t 256 ≡ r → Tells t
+    go T.absent n = absurd (never-none t n)
+    go (T.is e) n = let w = accepted-exactly-when-it-belongs t bytes .0 (e, n) in accepted e n (w .0) (w .1)
+    go (T.refused k) n =
         record {
-          no-record = λ v r. belongs-not k n v (Belongs.a-record r);
-          no-line = λ v a. belongs-not k n v (Belongs.line a);
-          number = number-applies t bytes k n;
+          answer = W.Neither k;
+          told = rw n;
+          so =
+              record {
+                no-record = λ v r. belongs-not k n v (Belongs.a-record r);
+                no-line = λ v a. belongs-not k n v (Belongs.line a);
+                number = number-applies t bytes k n;
+              };
         }
 
 -- ---- no two are so
@@ -143,7 +190,7 @@ one-number t bytes j k (Number.of-a-record f a) (Number.of-a-record g b) = sym (
 one-number t bytes j k (Number.of-a-record f a) (Number.of-a-line g b) = never-both-ways (startsA1 t) f g
 one-number t bytes j k (Number.of-a-line f a) (Number.of-a-record g b) = never-both-ways (startsA1 t) g f
 one-number t bytes j k (Number.of-a-line f a) (Number.of-a-line g b) =
-    let same : A.Refused j ≡ A.Refused k = sym (line-number-exactly t 256 j .1 a) ∙ line-number-exactly t 256 k .1 b in
+    let same : _≡_ {A = T.Told Entry} (T.refused j) (T.refused k) = sym (line-number-exactly t 256 j .1 a) ∙ line-number-exactly t 256 k .1 b in
     cc
 
 -- a text is one thing
@@ -159,12 +206,20 @@ one-what t bytes (W.Neither j) W.Line a b = absurd (a .no-line (b .0) (b .1))
 one-what t bytes (W.Neither j) (W.Neither k) a b = ap W.Neither (one-number t bytes j k (a .number) (b .number))
 
 -- what is so is answered
-pub what-all : (t : List ℕ) → Bytes t → (r : What) → Is t r → whatOf t ≡ r
-what-all t bytes r a = one-what t bytes (whatOf t) r (what-is t bytes) a
+pub what-all : (t : List ℕ) → Bytes t → (r : What) → Is t r → whatTold r ≡ whatOf t
+what-all t bytes r a =
+    let w = what-is t bytes in
+    ap whatTold (one-what t bytes r (w .answer) a (w .so)) ∙ w .told
 
 -- both ways
-pub what-exactly : (t : List ℕ) → Bytes t → (r : What) → (whatOf t ≡ r) ↔ Is t r
-what-exactly t bytes r = (λ e. rw e at (what-is t bytes), what-all t bytes r)
+pub what-exactly : (t : List ℕ) → Bytes t → (r : What) → (whatTold r ≡ whatOf t) ↔ Is t r
+what-exactly t bytes r = (is, what-all t bytes r)
+  where
+    is : whatTold r ≡ whatOf t → Is t r
+    is e =
+        let w = what-is t bytes in
+        let same : w .answer ≡ r = one-what-answer (w .answer) r (w .told ∙ sym e) in
+        subst (λ (q : What). Is t q) same (w .so)
 
 -- ---- already decoded
 
@@ -178,11 +233,11 @@ record-comes t bytes v r = Comes.once round
     buffer : List ℕ
     buffer = replicate 5227 0
 
-    accepted : (e : Entry) × (takenOf t 256 ≡ A.Entry e)
+    accepted : (e : Entry) × (takenOf t 256 ≡ T.is e)
     accepted = accepted-exactly-when-it-belongs t bytes .1 (v, Belongs.a-record r)
 
     left : List ℕ
-    left = slotsBy (A.Entry (accepted .0)) (takenDwords t) slots
+    left = slotsBy (T.is (accepted .0)) (takenDwords t) slots
 
     read : ReadCall t slots (A.Entry (accepted .0)) left
     read = record { bytes = bytes; enough = omega arith; contract = record { answer = sym (accepted .1); slots = refl } }
@@ -190,14 +245,14 @@ record-comes t bytes v r = Comes.once round
     says : (w : EntryValue) × (recordBytes w ≡ t) × HasRecord t (accepted .0) left w
     says = record-is-the-writers t slots (accepted .0) left (a1-first t v r) read
 
-    answer : Written
-    answer = writeOf t (accepted .0) left 5227
+    answer : (r : Written) × (writtenTold r ≡ writeOf t (accepted .0) left 5227)
+    answer = some-written t (accepted .0) left 5227
 
     written : List ℕ
-    written = bufferBy answer (bytesOf t (accepted .0) left) buffer
+    written = bufferBy (writtenTold (answer .0)) (bytesOf t (accepted .0) left) buffer
 
-    wrote : Wrote (recordBytes (says .0)) buffer answer written
-    wrote = says .2 .written buffer answer written (record { enough = omega arith; contract = record { answer = refl; buffer = refl } })
+    wrote : Wrote (recordBytes (says .0)) buffer (answer .0) written
+    wrote = says .2 .written buffer (answer .0) written (record { enough = omega arith; contract = record { answer = answer .1; buffer = refl } })
 
     write : WriteCall t (accepted .0) left buffer (Written.Bytes (length (recordBytes (says .0)))) written
     write =
@@ -205,8 +260,8 @@ record-comes t bytes v r = Comes.once round
           enough = omega arith;
           contract =
               record {
-                answer = sym (wrote .number);
-                buffer = ap (λ (a : Written). bufferBy a (bytesOf t (accepted .0) left) buffer) (wrote .number);
+                answer = ap writtenTold (sym (wrote .number)) ∙ answer .1;
+                buffer = ap (λ (a : Written). bufferBy (writtenTold a) (bytesOf t (accepted .0) left) buffer) (wrote .number);
               };
         }
 
@@ -230,7 +285,11 @@ record-comes t bytes v r = Comes.once round
 call-exactly : (text : List ℕ) (answer : What) → WhatCall text answer → (r : What) → (answer ≡ r) ↔ Is text r
 call-exactly text answer c r =
     let w = what-exactly text (c .bytes) r in
-    (λ e. w .0 (sym (c .contract) ∙ e), λ a. c .contract ∙ w .1 a)
+    (λ e. w .0 (ap whatTold (sym e) ∙ c .contract), λ a. one-what-answer answer r (c .contract ∙ sym (w .1 a)))
+
+-- no second answer satisfies the contract of `what_is`
+pub no-second-what : (text : List ℕ) (a b : What) → WhatCall text a → WhatCall text b → a ≡ b
+no-second-what text a b c d = one-what-answer a b (c .contract ∙ sym (d .contract))
 
 -- what the call tells of every text
 pub what-a-text-is : WhatATextIs
@@ -239,7 +298,7 @@ what-a-text-is =
       says-record = λ text answer c. call-exactly text answer c W.Record;
       says-line = λ text answer c. call-exactly text answer c W.Line;
       says-neither = λ text answer c k. call-exactly text answer c (W.Neither k);
-      one-holds = λ text bytes. (whatOf text, what-is text bytes);
+      one-holds = λ text bytes. (what-is text bytes .answer, what-is text bytes .so);
       no-two-hold = one-what;
       already-decoded =
           λ text answer c. (

@@ -6,6 +6,7 @@ use mathlib.Core.Bool.{true}
 use mathlib.Core.List.{List}
 use lib.ListN.{length, take, drop}
 use Rattle.text.specs.Part.{Slice, OwnDwords}
+use Rattle.text.specs.Told.{Told}
 use Rattle.tlv.specs.Number.{Bytes}
 use Rattle.entry.specs.declared.Entry.{Entry}
 use Rattle.entry.specs.declared.optional.MaybeWord.the-variants as Word
@@ -15,7 +16,7 @@ use Rattle.scan.specs.Line.{Line}
 use Rattle.packet.specs.declared.Answer.{Answer}
 use Rattle.packet.specs.declared.Answer.the-variants as P
 use Rattle.packet.specs.declared.Packet.{Packet}
-use Rattle.packet.specs.Packet.{isReadResponseOrWriteRequest, entriesOf, placesOf, parseOf, listBy}
+use Rattle.packet.specs.Packet.{isReadResponseOrWriteRequest, entriesOf, placesOf, parseOf, listBy, answerTold}
 use Rattle.questions.specs.Questions.{viewOf, DataView}
 use Rattle.record.specs.Grammar.{IsRecord}
 use Rattle.writer.specs.declared.Written.the-variants as W
@@ -35,17 +36,17 @@ pub record PacketCall (text book slots places : List ℕ) (answer : Answer) (slo
   pub contract : PacketTaken text book slots slots-left places places-left answer
 
 -- The packet of v over a book, or the number that refuses it, with a place lent for each dword: v's kind and dwords are all that is asked of v.
-unfoldable pub packetFor : EntryValue → List ℕ → Answer
+unfoldable pub packetFor : EntryValue → List ℕ → Told Packet
 packetFor v book = parseOf (v .kind) book (v .dwords) (length (v .dwords))
 
 -- A call gave the packet of v, or the number that refuses it.
 pub record Gives (v : EntryValue) (book slots places : List ℕ) (answer : Answer) (slots-left places-left : List ℕ) : Type 0 where
   -- The answer is that packet or that number.
-  pub is : answer ≡ packetFor v book
+  pub is : answerTold answer ≡ packetFor v book
   -- With a packet the slots start with v's dwords, and the rest is as found; with a number all are as found.
-  pub slots-hold : slots-left ≡ listBy answer (v .dwords) slots
+  pub slots-hold : slots-left ≡ listBy (answerTold answer) (v .dwords) slots
   -- The places likewise start with the places of the entries that describe these dwords.
-  pub places-hold : places-left ≡ listBy answer (placesOf (v .kind) book (v .dwords)) places
+  pub places-hold : places-left ≡ listBy (answerTold answer) (placesOf (v .kind) book (v .dwords)) places
 
 -- Two calls gave the same.
 pub record SamePacket (a : Answer) (slots-a places-a : List ℕ) (b : Answer) (slots-b places-b : List ℕ) : Type 0 where

@@ -5,13 +5,12 @@ use mathlib.Core.Bool.{Bool, cond}
 use mathlib.Core.List.{List}
 use lib.Dec.{eqb}
 use lib.ListN.{length, getD}
+use Rattle.text.specs.Told.{Told}
+use Rattle.entry.specs.declared.Entry.{Entry}
 use Rattle.entry.specs.Entry.{EntryValue}
 use Rattle.scan.specs.declared.Answer.{Answer}
-use Rattle.scan.specs.declared.Answer.the-variants as A
-use Rattle.scan.specs.Parse.{parseOf, lineDwords, slotsBy}
+use Rattle.scan.specs.Parse.{answerTold, parseOf, lineDwords, slotsBy}
 use Rattle.scan.specs.Line.{Line}
-use Rattle.record.specs.declared.Answer as Record
-use Rattle.record.specs.declared.Answer.the-variants as R
 use Rattle.record.specs.Grammar.{IsRecord}
 use Rattle.record.specs.Reading.{readOf, dwordsOf}
 
@@ -24,14 +23,9 @@ pub data Belongs (t : List ℕ) (v : EntryValue) : Type 0 where
 unfoldable pub startsA1 : List ℕ → Bool
 startsA1 t = eqb (getD t 0 0) 0xA1
 
--- a record's answer as the intake's
-unfoldable pub fromRecord : Record.Answer → Answer
-fromRecord (R.Entry e) = A.Entry e
-fromRecord (R.Refused n) = A.Refused n
-
--- the answer for a text, given the number of slots
-unfoldable pub takenOf : List ℕ → ℕ → Answer
-takenOf t room = cond (startsA1 t) (fromRecord (readOf t room)) (parseOf t room)
+-- what is told of a text, given the number of slots
+unfoldable pub takenOf : List ℕ → ℕ → Told Entry
+takenOf t room = cond (startsA1 t) (readOf t room) (parseOf t room)
 
 -- the dwords that a text would hand over
 unfoldable pub takenDwords : List ℕ → List ℕ
@@ -39,10 +33,10 @@ takenDwords t = cond (startsA1 t) (dwordsOf t) (lineDwords t)
 
 -- the answer, and each slot
 pub record Taken (t out exit : List ℕ) (r : Answer) : Type 0 where
-  pub answer : r ≡ takenOf t (length out)
-  pub slots : exit ≡ slotsBy r (takenDwords t) out
+  pub answer : answerTold r ≡ takenOf t (length out)
+  pub slots : exit ≡ slotsBy (answerTold r) (takenDwords t) out
 
 -- the same of a text that is taken as a record
 pub record RecordTaken (t out exit : List ℕ) (r : Answer) : Type 0 where
-  pub answer : r ≡ fromRecord (readOf t (length out))
-  pub slots : exit ≡ slotsBy r (dwordsOf t) out
+  pub answer : answerTold r ≡ readOf t (length out)
+  pub slots : exit ≡ slotsBy (answerTold r) (dwordsOf t) out

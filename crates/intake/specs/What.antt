@@ -7,9 +7,8 @@ use mathlib.Core.List.{List}
 use mathlib.Core.Logic.{_↔_}
 use lib.ListN.{take}
 use Rattle.tlv.specs.Number.{Bytes}
+use Rattle.text.specs.Told.{Told, is, refused, andThen}
 use Rattle.entry.specs.Entry.{EntryValue}
-use Rattle.scan.specs.declared.Answer.{Answer}
-use Rattle.scan.specs.declared.Answer.the-variants as A
 use Rattle.scan.specs.Line.{Line, Applies}
 use Rattle.record.specs.Grammar.{IsRecord}
 use Rattle.record.specs.Conditions.{Breaks}
@@ -20,24 +19,24 @@ use Rattle.intake.specs.Demand3Packets.{Comes}
 
 -- ---- the answer
 
+-- the two grammars
+pub data Grammar : Type 0 where
+  record-grammar : Grammar
+  line-grammar : Grammar
+
+-- what each case of the answer tells: the grammar that the text belongs to, or document 01's number
+abbrev pub whatTold : What → Told Grammar
+whatTold W.Record = is record-grammar
+whatTold W.Line = is line-grammar
+whatTold (W.Neither k) = refused k
+
 -- the grammar of a text that is accepted: a record starts with A1, a line does not
-unfoldable pub grammarOf : List ℕ → What
-grammarOf t = cond (startsA1 t) W.Record W.Line
+unfoldable pub grammarOf : List ℕ → Grammar
+grammarOf t = cond (startsA1 t) record-grammar line-grammar
 
--- what the answer to a text makes of it
-unfoldable pub whatBy : List ℕ → Answer → What
-whatBy t (A.Entry e) = grammarOf t
-whatBy t (A.Refused k) = W.Neither k
-
--- what a text is, from the answer with 256 slots
-unfoldable pub whatOf : List ℕ → What
-whatOf t = whatBy t (takenOf t 256)
-
--- document 01's number of each case, 0 where nothing is refused
-abbrev pub numberOf : What → ℕ
-numberOf W.Record = 0
-numberOf W.Line = 0
-numberOf (W.Neither k) = k
+-- what is told of a text's grammar, by what is told of its entry with 256 slots
+unfoldable pub whatOf : List ℕ → Told Grammar
+whatOf t = andThen (takenOf t 256) (λ e. is (grammarOf t))
 
 -- ---- what it means
 
@@ -65,7 +64,7 @@ pub record WhatCall (text : List ℕ) (answer : What) : Type 0 where
   -- The text is bytes, as every lent text is.
   pub bytes : Bytes text
   -- The call keeps its contract.
-  pub contract : answer ≡ whatOf text
+  pub contract : whatTold answer ≡ whatOf text
 
 -- What the call tells of every text.
 pub record WhatATextIs : Type 0 where

@@ -15,7 +15,8 @@ ghost use Prim.Native.Nat.{_≤_};
 ghost use lib.ListN.{length};
 ghost use Rattle.intake.specs.Intake.{startsA1, Taken, RecordTaken};
 ghost use Rattle.intake.specs.Packets.{PacketTaken, Handed};
-ghost use Rattle.intake.specs.What.{grammarOf, whatOf};
+ghost use Rattle.text.specs.Told.{is};
+ghost use Rattle.intake.specs.What.{whatTold, grammarOf, whatOf};
 
 // What a text is: it belongs to the record grammar, to the line grammar, or to neither, and then this number refuses it.
 pub enum What {
@@ -85,7 +86,7 @@ fn hand_over(
 
 // What a text is. It is read into slots of the call's own, 256 of them, so no text is refused for want of slots, and nothing is lent for writing.
 pub fn what_is(text: &[u8]) -> What
-    ensures { λ r. ⌜ r ≡ whatOf (now (text .entry)) ⌝ }
+    ensures { λ r. ⌜ whatTold r ≡ whatOf (now (text .entry)) ⌝ }
 {
     let mut slots = [0u32; 256];
     match read(text, &mut slots[..256]) {
@@ -96,7 +97,7 @@ pub fn what_is(text: &[u8]) -> What
 
 // The grammar of a text that was accepted.
 fn grammar_of(text: &[u8]) -> What
-    ensures { λ r. ⌜ r ≡ grammarOf (now (text .entry)) ⌝ }
+    ensures { λ r. ⌜ whatTold r ≡ is (grammarOf (now (text .entry))) ⌝ }
 {
     if starts_a1(text) {
         return What::Record;

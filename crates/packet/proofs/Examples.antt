@@ -3,6 +3,7 @@ use Prim.Native.Nat.{ℕ}
 use mathlib.Core.Path.{_≡_, refl}
 use mathlib.Core.List.{List, [], _∷_, _++_}
 use lib.ListN.{replicate}
+use Rattle.text.specs.Told as T
 use Rattle.text.specs.Quote.{bytes}
 use Rattle.tlv.specs.Grammar.{fieldBytes}
 use Rattle.tlv.specs.Reading.{stepFrom, fieldAt, walkFrom, walk, parts, filled}
@@ -13,7 +14,6 @@ use Rattle.entry.specs.declared.optional.MaybeWord.the-variants as W
 use Rattle.book.specs.Search as Search
 use Rattle.book.specs.Reading as Reading
 use Rattle.book.specs.Finders as Finders
-use Rattle.packet.specs.declared.Answer.the-variants as A
 use Rattle.packet.specs.declared.MaybeUuid.the-variants.{Is, Absent}
 use Rattle.packet.specs.Field as Field
 use Rattle.packet.specs.Steps as Steps
@@ -71,9 +71,9 @@ packets-open = tt
 
 -- n = 3: five dwords start their view at 3, three as well, two give 25
 pub record CutAtThree : Type 0 where
-  pub five : parseOf 2 threeEntries (10 ∷ 11 ∷ 12 ∷ 13 ∷ 14 ∷ []) 256 ≡ A.Packet (record { kind = 2; dwords = 5; uuid = Absent; start = W.Is 3 })
-  pub three : parseOf 2 threeEntries (10 ∷ 11 ∷ 12 ∷ []) 256 ≡ A.Packet (record { kind = 2; dwords = 3; uuid = Absent; start = W.Is 3 })
-  pub two : parseOf 2 threeEntries (10 ∷ 11 ∷ []) 256 ≡ A.Refused 25
+  pub five : parseOf 2 threeEntries (10 ∷ 11 ∷ 12 ∷ 13 ∷ 14 ∷ []) 256 ≡ T.is (record { kind = 2; dwords = 5; uuid = Absent; start = W.Is 3 })
+  pub three : parseOf 2 threeEntries (10 ∷ 11 ∷ 12 ∷ []) 256 ≡ T.is (record { kind = 2; dwords = 3; uuid = Absent; start = W.Is 3 })
+  pub two : parseOf 2 threeEntries (10 ∷ 11 ∷ []) 256 ≡ T.refused 25
 
 pub cut-at-three : CutAtThree
 unfolding packets-open

@@ -5,6 +5,7 @@ use mathlib.Core.Bool.{Bool, true, false, cond, _&&_}
 use mathlib.Core.List.{List}
 use borrow.Author.Tests.{eq-eqb, ne-eqb, lt-ltb, le-ltb}
 use lib.Dec.{ltb}
+use Rattle.text.specs.Told as T
 use Rattle.text.specs.Quote.{bytes}
 use Rattle.text.specs.declared.place.Found.{Found}
 use Rattle.text.specs.declared.place.Found.the-variants.{At, Nothing}
@@ -14,8 +15,6 @@ use Rattle.book.specs.Finders.{placeOf, controlTable, uuidTable, entryCount}
 use Rattle.packet.specs.declared.field.Ask.the-variants.{Holds}
 use Rattle.packet.specs.declared.Header.{Header}
 use Rattle.packet.specs.declared.Header.the-variants as H
-use Rattle.packet.specs.declared.Opened.{Opened}
-use Rattle.packet.specs.declared.Opened.the-variants as O
 use Rattle.packet.specs.Field.{asks}
 use Rattle.packet.specs.Packet.{isReadResponseOrWriteRequest, isXdomain, zeroUuid, isNothing, controlAt, entriesOf, numberChecked, firstFrom, viewFrom, word}
 use Rattle.packet.specs.Inner.{headerOf, headerFor, isMissing, openOf}
@@ -31,28 +30,28 @@ missing-is kind s = by (isXdomain kind) (uuidTable s zeroUuid)
     by false f = refl
 
 module _ (kind : ℕ) (s : List ℕ) (count room : ℕ) where
-  refused : (k : ℕ) → numberChecked kind s count room ≡ suc k → O.Refused (suc k) ≡ openOf kind s count room
+  refused : (k : ℕ) → numberChecked kind s count room ≡ suc k → T.refused (suc k) ≡ openOf kind s count room
   unfolding openOf
   refused k e = rw e
 
-  pub open-21 : kind ≡ 0 → O.Refused 21 ≡ openOf kind s count room
+  pub open-21 : kind ≡ 0 → T.refused 21 ≡ openOf kind s count room
   unfolding numberChecked
   open-21 e = let test : numberChecked kind s count room ≡ 21 = rw (eq-eqb kind 0 e) in refused 20 test
 
   module _ (some : kind ≡ 0 → ⊥) where
-    pub open-22 : controlTable s kind ≡ Nothing → O.Refused 22 ≡ openOf kind s count room
+    pub open-22 : controlTable s kind ≡ Nothing → T.refused 22 ≡ openOf kind s count room
     unfolding numberChecked
     open-22 e = let test : numberChecked kind s count room ≡ 22 = rw (ne-eqb kind 0 some, e) in refused 21 test
 
     module _ {control : ℕ} (table : controlTable s kind ≡ At control) where
-      pub open-23 : isMissing (headerFor kind s) ≡ true → O.Refused 23 ≡ openOf kind s count room
+      pub open-23 : isMissing (headerFor kind s) ≡ true → T.refused 23 ≡ openOf kind s count room
       unfolding numberChecked
       open-23 e =
           let test : numberChecked kind s count room ≡ 23 = rw (ne-eqb kind 0 some, table, ← missing-is kind s, e) in
           refused 22 test
 
       module _ (there : isMissing (headerFor kind s) ≡ false) where
-        pub open-24 : 256 < count → O.Refused 24 ≡ openOf kind s count room
+        pub open-24 : 256 < count → T.refused 24 ≡ openOf kind s count room
         unfolding numberChecked
         open-24 lt =
             let test : numberChecked kind s count room ≡ 24 = rw (ne-eqb kind 0 some, table, ← missing-is kind s, there, lt-ltb 256 count lt) in
@@ -63,7 +62,7 @@ module _ (kind : ℕ) (s : List ℕ) (count room : ℕ) where
         entries-is = ap (λ (f : Found). entryCount s (placeOf f)) table
 
         module _ (few : count ≤ 256) where
-          pub open-25 : (isReadResponseOrWriteRequest kind && ltb count (entryCount s control)) ≡ true → O.Refused 25 ≡ openOf kind s count room
+          pub open-25 : (isReadResponseOrWriteRequest kind && ltb count (entryCount s control)) ≡ true → T.refused 25 ≡ openOf kind s count room
           unfolding numberChecked
           open-25 e =
               let short : (isReadResponseOrWriteRequest kind && ltb count (entriesOf s kind)) ≡ true = rw entries-is e in
@@ -76,7 +75,7 @@ module _ (kind : ℕ) (s : List ℕ) (count room : ℕ) where
             whole : (isReadResponseOrWriteRequest kind && ltb count (entriesOf s kind)) ≡ false
             whole = rw entries-is enough
 
-            pub open-26 : room < count → O.Refused 26 ≡ openOf kind s count room
+            pub open-26 : room < count → T.refused 26 ≡ openOf kind s count room
             unfolding numberChecked
             open-26 lt =
                 let test : numberChecked kind s count room ≡ 26 =
@@ -86,13 +85,13 @@ module _ (kind : ℕ) (s : List ℕ) (count room : ℕ) where
 
             -- no number: the tables
             pub open-tables : count ≤ room → {header : Header} → header ≡ headerFor kind s
-                → O.Tables (record { control = control; header = header }) ≡ openOf kind s count room
+                → T.is (record { control = control; header = header }) ≡ openOf kind s count room
             unfolding numberChecked openOf controlAt
             open-tables le {header} h =
                 let test : numberChecked kind s count room ≡ 0 =
                 rw (ne-eqb kind 0 some, table, ← missing-is kind s, there, le-ltb 256 count few, whole, le-ltb room count le)
                 in
-                rw test (λ i. O.Tables (record { control = placeOf (sym table i); header = h i }))
+                rw test (λ i. T.is (record { control = placeOf (sym table i); header = h i }))
 
 -- ---- where the data view starts
 

@@ -7,12 +7,12 @@ use native.Mathlib.Omega.{arith}
 use borrow.Author.Tests.{leb-true, ltb-false, le-ltb, lt-ltb}
 use lib.Dec.{eqb, leb, ltb}
 use lib.ListN.{length, drop, replicate, length-append, length-drop}
+use Rattle.text.specs.Told as T
+use Rattle.text.proofs.Told.{by-cases, fixed-by-told}
 use Rattle.text.specs.Quote.{bytes}
 use Rattle.text.specs.declared.place.Found.{Found}
 use Rattle.text.specs.declared.place.Found.the-variants.{At, Nothing}
-use Rattle.book.specs.declared.Checked.{Checked}
-use Rattle.book.specs.declared.Checked.the-variants as C
-use Rattle.book.specs.Reading.{checkOf, refusalOf, tablesFill}
+use Rattle.book.specs.Reading.{accepted, checkOf, tablesFill}
 use Rattle.book.specs.Finders.{controlTable, uuidTable, placeOf}
 use Rattle.packet.specs.declared.Answer.{Answer}
 use Rattle.packet.specs.declared.Answer.the-variants as A
@@ -44,16 +44,33 @@ use Rattle.packet.specs.Packet.{
   viewFrom,
   word,
   packetOf,
-  unless,
+  answerTold,
   parseOf,
   overOf,
   listBy,
   Parsed,
   Over,
 }
-use Rattle.packet.specs.Inner.{headerOf, headerFor, openBy, openOf, placesWith, uuidWith, Described, Made}
+use Rattle.packet.specs.Inner.{headerOf, headerFor, openedTold, tablesOf, openOf, placesWith, uuidWith, Described, Made}
 use Rattle.packet.proofs.Filling.{length-filled, length-map-from}
 use Rattle.packet.proofs.Clearing.{filled-zeros}
+
+-- ---- what is told fixes the answer
+
+-- two answers that tell the same are the same
+pub one-packet-answer : (a b : Answer) → answerTold a ≡ answerTold b → a ≡ b
+one-packet-answer = fixed-by-told answerTold (by-cases A.Packet (A.Refused 0) A.Refused) same
+  where
+    same : (a : Answer) → by-cases A.Packet (A.Refused 0) A.Refused (answerTold a) ≡ a
+    same (A.Packet p) = refl
+    same (A.Refused k) = refl
+
+pub one-opened : (a b : Opened) → openedTold a ≡ openedTold b → a ≡ b
+one-opened = fixed-by-told openedTold (by-cases O.Tables (O.Refused 0) O.Refused) same
+  where
+    same : (a : Opened) → by-cases O.Tables (O.Refused 0) O.Refused (openedTold a) ≡ a
+    same (O.Tables t) = refl
+    same (O.Refused k) = refl
 
 -- ---- how many places
 
@@ -147,7 +164,7 @@ module _ (kind : ℕ) (s : List ℕ) (count room : ℕ) where
   -- the same where number 20 is among those that do not apply
   pub passed-whole : numberOf kind s count room ≡ 0 → Passed
   unfolding numberOf
-  passed-whole e = by (refusalOf (checkOf s)) e
+  passed-whole e = by (T.numberIn (checkOf s)) e
     where
       by : (n : ℕ) → after n (numberChecked kind s count room) ≡ 0 → Passed
       by zero h = passed h
@@ -162,11 +179,11 @@ module _ (kind : ℕ) (s : List ℕ) (count room : ℕ) where
     pub header : t .header ≡ headerFor kind s
     pub there : (isXdomain kind && isNothing (uuidTable s zeroUuid)) ≡ false
 
-  pub opened-tables : {t : Tables} → openOf kind s count room ≡ O.Tables t → Open t
+  pub opened-tables : {t : Tables} → openOf kind s count room ≡ T.is t → Open t
   unfolding openOf
   opened-tables {t} e = by (numberChecked kind s count room) refl e
     where
-      by : (n : ℕ) → numberChecked kind s count room ≡ n → openBy n kind s ≡ O.Tables t → Open t
+      by : (n : ℕ) → numberChecked kind s count room ≡ n → T.unless n (T.is (tablesOf kind s)) ≡ T.is t → Open t
       by zero z h =
           let w = passed z in
           let same : record { control = controlAt s kind; header = headerFor kind s } ≡ t = cc in
@@ -180,11 +197,11 @@ module _ (kind : ℕ) (s : List ℕ) (count room : ℕ) where
           }
       by (suc n) z h = absurd (let q : _≡_ {A = ℕ} 0 1 = cc in omega arith)
 
-  pub opened-refused : {k : ℕ} → openOf kind s count room ≡ O.Refused k → (numberChecked kind s count room ≡ k) × (0 < k)
+  pub opened-refused : {k : ℕ} → openOf kind s count room ≡ T.refused k → (numberChecked kind s count room ≡ k) × (0 < k)
   unfolding openOf
   opened-refused {k} e = by (numberChecked kind s count room) refl e
     where
-      by : (n : ℕ) → numberChecked kind s count room ≡ n → openBy n kind s ≡ O.Refused k → (numberChecked kind s count room ≡ k) × (0 < k)
+      by : (n : ℕ) → numberChecked kind s count room ≡ n → T.unless n (T.is (tablesOf kind s)) ≡ T.refused k → (numberChecked kind s count room ≡ k) × (0 < k)
       by zero z h = absurd (let q : _≡_ {A = ℕ} 0 1 = cc in omega arith)
       by (suc n) z h = let same : suc n ≡ k = cc in (z ∙ same, omega (arith, same))
 
@@ -229,7 +246,7 @@ module _ (kind : ℕ) (s ds out : List ℕ) (fits : length s ≤ 65535) where
   number-is = rw (le-ltb 65535 (length s) fits)
 
   -- a packet: its places in front, the rest as found
-  pub over-packet : {t : Tables} → openOf kind s (length ds) (length out) ≡ O.Tables t → {p : Packet} {ps exit : List ℕ} → Made kind s t ds ps p
+  pub over-packet : {t : Tables} → openOf kind s (length ds) (length out) ≡ T.is t → {p : Packet} {ps exit : List ℕ} → Made kind s t ds ps p
       → exit ≡ ps ++ drop (length ds) out → Over kind s ds out exit (A.Packet p)
   unfolding overOf packetOf listBy
   over-packet {t} e {p} {ps} m x =
@@ -239,12 +256,12 @@ module _ (kind : ℕ) (s ds out : List ℕ) (fits : length s ≤ 65535) where
       let start : p .start ≡ word (viewFrom kind s (placesOf kind s ds)) = m .start-is ∙ ap (λ (l : List ℕ). word (viewFrom kind s l)) places in
       let uuid : p .uuid ≡ uuidOf kind s ds = m .uuid-is ∙ described-uuid kind s ds o in
       record {
-        answer = rw none (λ i. A.Packet (record { kind = m .kind-is i; dwords = m .dwords-are i; uuid = uuid i; start = start i }));
+        answer = rw none (λ i. T.is (record { kind = m .kind-is i; dwords = m .dwords-are i; uuid = uuid i; start = start i }));
         places = x ∙ ap₂ _++_ places (ap (λ (n : ℕ). drop n out) (sym (length-places kind s ds)));
       }
 
   -- as many places as before
-  pub length-over : {t : Tables} → openOf kind s (length ds) (length out) ≡ O.Tables t → {p : Packet} {ps : List ℕ} → Made kind s t ds ps p
+  pub length-over : {t : Tables} → openOf kind s (length ds) (length out) ≡ T.is t → {p : Packet} {ps : List ℕ} → Made kind s t ds ps p
       → length (ps ++ drop (length ds) out) ≡ length out
   length-over e {p} {ps} m =
       let o = opened-tables kind s (length ds) (length out) e in
@@ -252,50 +269,50 @@ module _ (kind : ℕ) (s ds out : List ℕ) (fits : length s ≤ 65535) where
       length-append ps (drop (length ds) out) ∙ omega (arith, size, length-drop (length ds) out, o .fit)
 
   -- a number: nothing is touched
-  pub over-number : {k : ℕ} → openOf kind s (length ds) (length out) ≡ O.Refused k → Over kind s ds out out (A.Refused k)
+  pub over-number : {k : ℕ} → openOf kind s (length ds) (length out) ≡ T.refused k → Over kind s ds out out (A.Refused k)
   unfolding overOf listBy
   over-number {k} e =
       let w = opened-refused kind s (length ds) (length out) e in
       record { answer = sym (refuses k (number-is ∙ w .0) (w .1)); places = refl }
     where
       refuses : (n : ℕ) → numberOver kind s (length ds) (length out) ≡ n → 0 < n
-          → unless (numberOver kind s (length ds) (length out)) (packetOf kind s ds) ≡ A.Refused n
+          → T.unless (numberOver kind s (length ds) (length out)) (T.is (packetOf kind s ds)) ≡ T.refused n
       refuses zero h lt = absurd (omega arith)
       refuses (suc n) h lt = rw h
 
 -- the check refuses by one number
-pub number-20 : (s : List ℕ) {k : ℕ} → checkOf s ≡ C.Refused k → k ≡ 20
+pub number-20 : (s : List ℕ) {k : ℕ} → checkOf s ≡ T.refused k → k ≡ 20
 unfolding checkOf
 number-20 s {k} e = by (leb (length s) 65535 && tablesFill s 0) e
   where
-    by : (b : Bool) → cond b C.Accepted (C.Refused 20) ≡ C.Refused k → k ≡ 20
+    by : (b : Bool) → cond b accepted (T.refused 20) ≡ T.refused k → k ≡ 20
     by true h = absurd (let q : _≡_ {A = ℕ} 0 1 = cc in omega arith)
     by false h = let same : 20 ≡ k = cc in sym same
 
 -- a checked book is not too long
-pub checked-fits : (s : List ℕ) → checkOf s ≡ C.Accepted → length s ≤ 65535
+pub checked-fits : (s : List ℕ) → checkOf s ≡ accepted → length s ≤ 65535
 unfolding checkOf
 checked-fits s e = by (leb (length s) 65535) refl (tablesFill s 0) e
   where
-    by : (a : Bool) → leb (length s) 65535 ≡ a → (b : Bool) → cond (a && b) C.Accepted (C.Refused 20) ≡ C.Accepted → length s ≤ 65535
+    by : (a : Bool) → leb (length s) 65535 ≡ a → (b : Bool) → cond (a && b) accepted (T.refused 20) ≡ accepted → length s ≤ 65535
     by true h b x = leb-true (length s) 65535 h
     by false h b x = absurd (let q : _≡_ {A = ℕ} 0 1 = cc in omega arith)
 
 -- number 20
-pub parsed-20 : (kind : ℕ) (s ds out : List ℕ) {k : ℕ} → checkOf s ≡ C.Refused k → Parsed kind s ds out out (A.Refused k)
+pub parsed-20 : (kind : ℕ) (s ds out : List ℕ) {k : ℕ} → checkOf s ≡ T.refused k → Parsed kind s ds out out (A.Refused k)
 unfolding parseOf numberOf listBy
 parsed-20 kind s ds out {k} e =
     let twenty : k ≡ 20 = number-20 s e in
-    let none : checkOf s ≡ C.Refused 20 = e ∙ ap C.Refused twenty in
+    let none : checkOf s ≡ T.refused 20 = e ∙ ap T.refused twenty in
     record { answer = rw (twenty, none); places = refl }
 
 -- a call leaves as many places as it was lent
 pub length-listed : (kind : ℕ) (s ds out : List ℕ) → length (listBy (parseOf kind s ds (length out)) (placesOf kind s ds) out) ≡ length out
 unfolding parseOf listBy numberOf
-length-listed kind s ds out = by (refusalOf (checkOf s)) (numberChecked kind s (length ds) (length out)) refl
+length-listed kind s ds out = by (T.numberIn (checkOf s)) (numberChecked kind s (length ds) (length out)) refl
   where
     by : (a b : ℕ) → numberChecked kind s (length ds) (length out) ≡ b
-        → length (listBy (unless (after a b) (packetOf kind s ds)) (placesOf kind s ds) out) ≡ length out
+        → length (listBy (T.unless (after a b) (T.is (packetOf kind s ds))) (placesOf kind s ds) out) ≡ length out
     by (suc a) b e = refl
     by zero (suc b) e = refl
     by zero zero e =
@@ -310,7 +327,7 @@ unfolding overOf numberOver listBy
 over-20 kind s ds out long = record { answer = rw (lt-ltb 65535 (length s) long); places = refl }
 
 -- over a checked book it makes no difference that the check was made before
-pub over-is-parsed : (kind : ℕ) (s ds : List ℕ) {out exit : List ℕ} {r : Answer} → checkOf s ≡ C.Accepted → Over kind s ds out exit r
+pub over-is-parsed : (kind : ℕ) (s ds : List ℕ) {out exit : List ℕ} {r : Answer} → checkOf s ≡ accepted → Over kind s ds out exit r
     → Parsed kind s ds out exit r
 unfolding overOf parseOf numberOf numberOver
 over-is-parsed kind s ds {out} checked o =

@@ -4,23 +4,22 @@ use Prim.Native.Nat.{ℕ, zero, suc, _+_, _<_}
 use mathlib.Core.Path.{_≡_, refl, sym, ap, subst, _∙_}
 use mathlib.Core.Bool.{Bool, true, false, cond, _&&_}
 use mathlib.Core.List.{List, [], _∷_, _++_}
-use mathlib.Core.Logic.{_↔_}
+use mathlib.Core.Logic.{_↔_, ⊎-elim}
 use native.Mathlib.Omega.{arith}
 use borrow.Author.Tests.{ltb-true, ltb-false, eqb-true, eqb-false, ne-eqb}
 use lib.Dec.{eqb, ltb}
 use lib.ListN.{length, take, drop}
 use lib.Seq.{take-at, drop-at}
+use Rattle.text.specs.Told as T
 use Rattle.text.proofs.Places.{by-order}
 use Rattle.text.specs.declared.place.Found.{Found}
 use Rattle.text.specs.declared.place.Found.the-variants.{At, Nothing}
 use Rattle.tlv.specs.Number.{Bytes}
 use Rattle.tlv.specs.Grammar.{All, Apart}
-use Rattle.book.specs.declared.Checked.{Checked}
-use Rattle.book.specs.declared.Checked.the-variants as C
 use Rattle.book.specs.Grammar.{Owner, kind, uuid, entryPiece, Table, GoodTable, tablePiece, IsBook}
-use Rattle.book.specs.Reading.{checkOf, refusalOf}
+use Rattle.book.specs.Reading.{accepted, checkOf}
 use Rattle.book.specs.Finders.{FirstSo, Finds, placeOf, controlTable, uuidTable, entryCount, entryOfOffset}
-use Rattle.book.proofs.Book.{book-is, book-all}
+use Rattle.book.proofs.Book.{book-is, book-all, check-decides}
 use Rattle.book.proofs.Unique.{one-book}
 use Rattle.book.proofs.Answers.{control-table-is, control-table-none, uuid-table-is, uuid-table-none, count-entries-is, first-good, entry-of-offset-is}
 use Rattle.book.proofs.Finding.{first-stands}
@@ -39,16 +38,16 @@ use Rattle.packet.specs.Packet.{
   after,
   parseOf,
   placesOf,
-  unless,
   packetOf,
-  numberOfAnswer,
+  answerTold,
   listBy,
   Parsed,
+  Over,
 }
 use Rattle.packet.specs.declared.fill.Pick.the-variants.{Any}
 use Rattle.packet.specs.Steps.{entryOf}
 use Rattle.packet.specs.Conditions.{Has, HasNot, NoHeader, TooFew, Condition, Applies}
-use Rattle.packet.proofs.Packets.{number-20, length-places}
+use Rattle.packet.proofs.Packets.{one-packet-answer, length-places}
 
 -- ---- tables
 
@@ -174,15 +173,16 @@ module _ (k : ℕ) (s : List ℕ) (count room : ℕ) where
 
   chain : Bytes s → Answered (numberOf k s count room)
   unfolding numberOf Condition
-  chain bytes = by (checkOf s) refl
+  chain bytes = ⊎-elim passes fails (check-decides s)
     where
-      by : (r : Checked) → checkOf s ≡ r → Answered (after (refusalOf r) (numberChecked k s count room))
-      by C.Accepted e =
+      passes : checkOf s ≡ accepted → Answered (after (T.numberIn (checkOf s)) (numberChecked k s count room))
+      passes e =
           let b = book-is s bytes e in
-          checked-chain b (clear-next 20 clear-20 (λ n. n b))
-      by (C.Refused n) e =
-          let twenty = number-20 s e in
-          rw twenty (refused 20 (omega arith) (record { holds = λ b. absurd (let z : C.Accepted ≡ C.Refused n = sym (book-all s b) ∙ e in let y : _≡_ {A = ℕ} 0 1 = cc in omega arith); first = clear-20 }))
+          rw e (checked-chain b (clear-next 20 clear-20 (λ n. n b)))
+
+      fails : checkOf s ≡ T.refused 20 → Answered (after (T.numberIn (checkOf s)) (numberChecked k s count room))
+      fails e =
+          rw e (refused 20 (omega arith) (record { holds = λ b. absurd (let z : accepted ≡ T.refused 20 = sym (book-all s b) ∙ e in let y : _≡_ {A = ℕ} 0 1 = cc in omega arith); first = clear-20 }))
 
 -- above 26 there is no number
 above : (k : ℕ) (s : List ℕ) (count room n : ℕ) → 26 < n → Condition k s count room n → ⊥
@@ -217,16 +217,16 @@ packet-answered-exactly k s bytes count room = (λ q. mp (numberOf k s count roo
     mpr r (Answered.refused j p a) f = absurd (f j (a .holds))
     mpr r (Answered.packet c) f = refl
 
--- the same through the number of an answer, which is 0 for a packet alone
+-- the same through the number that is told, which is 0 for a packet alone
 pub packet-answer-number : (k : ℕ) (s : List ℕ) → Bytes s → (ds : List ℕ) (room n : ℕ) → 0 < n
-    → (numberOfAnswer (parseOf k s ds room) ≡ n) ↔ Applies k s (length ds) room n
+    → (T.numberIn (parseOf k s ds room) ≡ n) ↔ Applies k s (length ds) room n
 unfolding parseOf
 packet-answer-number k s bytes ds room n some = (
   λ q. packet-number-exactly k s bytes (length ds) room n some .0 (sym (told (numberOf k s (length ds) room)) ∙ q),
   λ a. told (numberOf k s (length ds) room) ∙ packet-number-exactly k s bytes (length ds) room n some .1 a,
 )
   where
-    told : (m : ℕ) → numberOfAnswer (unless m (packetOf k s ds)) ≡ m
+    told : (m : ℕ) → T.numberIn (T.unless m (T.is (packetOf k s ds))) ≡ m
     told zero = refl
     told (suc m) = refl
 
@@ -256,7 +256,7 @@ pub refused-packet : {k : ℕ} {s ds out exit : List ℕ} {n : ℕ} → Bytes s 
     → Applies k s (length ds) (length out) n × (exit ≡ out)
 unfolding listBy
 refused-packet {k} {s} {ds} {out} {exit} {n} bytes some p =
-    (packet-answer-number k s bytes ds (length out) n some .0 (sym (ap numberOfAnswer (p .answer))), p .places)
+    (packet-answer-number k s bytes ds (length out) n some .0 (sym (ap T.numberIn (p .answer))), p .places)
 
 -- a packet writes as many places as it has dwords, and leaves the others
 pub packet-writes-its-places : {k : ℕ} {s ds out exit : List ℕ} {p : Packet} → Parsed k s ds out exit (A.Packet p)
@@ -270,11 +270,18 @@ packet-writes-its-places {k} {s} {ds} {out} p =
 
 -- no second answer satisfies the contract, places included
 pub no-second-packet : {k : ℕ} {s ds out exit exit′ : List ℕ} {r r′ : Answer} → Parsed k s ds out exit r → Parsed k s ds out exit′ r′ → (r ≡ r′) × (exit ≡ exit′)
-no-second-packet a b =
-    let same = a .answer ∙ sym (b .answer) in
-    (same, a .places ∙ rw same (sym (b .places)))
+no-second-packet {k} {s} {ds} {out} {exit} {exit′} {r} {r′} a b =
+    let same : answerTold r ≡ answerTold r′ = a .answer ∙ sym (b .answer) in
+    (one-packet-answer r r′ same, a .places ∙ rw same (sym (b .places)))
+
+-- nor that of a call over a book that was checked before
+pub no-second-packet-over : {k : ℕ} {s ds out exit exit′ : List ℕ} {r r′ : Answer} → Over k s ds out exit r → Over k s ds out exit′ r′ → (r ≡ r′) × (exit ≡ exit′)
+no-second-packet-over {k} {s} {ds} {out} {exit} {exit′} {r} {r′} a b =
+    let same : answerTold r ≡ answerTold r′ = a .answer ∙ sym (b .answer) in
+    (one-packet-answer r r′ same, a .places ∙ rw same (sym (b .places)))
 
 -- the same answer whatever the place list held
 pub answer-needs-no-old-place : {k : ℕ} {s ds out other exit exit′ : List ℕ} {r r′ : Answer} → length out ≡ length other
     → Parsed k s ds out exit r → Parsed k s ds other exit′ r′ → r ≡ r′
-answer-needs-no-old-place {k} {s} {ds} e a b = a .answer ∙ ap (parseOf k s ds) e ∙ sym (b .answer)
+answer-needs-no-old-place {k} {s} {ds} {out} {other} {exit} {exit′} {r} {r′} e a b =
+    one-packet-answer r r′ (a .answer ∙ ap (parseOf k s ds) e ∙ sym (b .answer))

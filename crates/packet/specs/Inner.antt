@@ -6,6 +6,7 @@ use mathlib.Core.Bool.{Bool, true, false, cond, _&&_}
 use mathlib.Core.List.{List, []}
 use lib.Dec.{eqb, ltb}
 use lib.ListN.{length, getD, set, replicate}
+use Rattle.text.specs.Told.{Told, is, refused, unless}
 use Rattle.text.specs.Quote.{bytes}
 use Rattle.text.specs.Same.{sameText}
 use Rattle.text.specs.declared.place.Found.{Found}
@@ -88,12 +89,18 @@ isMissing (H.At table) = false
 isMissing H.Missing = true
 isMissing H.Unasked = false
 
-abbrev pub openBy : ℕ → ℕ → List ℕ → Opened
-openBy zero kind s = O.Tables (record { control = controlAt s kind; header = headerFor kind s })
-openBy (suc k) kind s = O.Refused (suc k)
+-- what each case of the opening's answer tells: the tables, or the number
+abbrev pub openedTold : Opened → Told Tables
+openedTold (O.Tables tables) = is tables
+openedTold (O.Refused k) = refused k
 
-unfoldable pub openOf : ℕ → List ℕ → ℕ → ℕ → Opened
-openOf kind s count room = openBy (numberChecked kind s count room) kind s
+-- the tables of a kind
+abbrev pub tablesOf : ℕ → List ℕ → Tables
+tablesOf kind s = record { control = controlAt s kind; header = headerFor kind s }
+
+-- what is told: 21 to 26 in their order, else the tables
+unfoldable pub openOf : ℕ → List ℕ → ℕ → ℕ → Told Tables
+openOf kind s count room = unless (numberChecked kind s count room) (is (tablesOf kind s))
 
 -- the places and the UUID by given tables
 abbrev pub placesWith : Header → List ℕ → List ℕ → List ℕ → List ℕ

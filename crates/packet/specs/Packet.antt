@@ -6,14 +6,14 @@ use mathlib.Core.Bool.{Bool, true, false, cond, _&&_, _||_}
 use mathlib.Core.List.{List, [], _∷_, _++_}
 use lib.Dec.{eqb, ltb}
 use lib.ListN.{length, drop}
+use Rattle.text.specs.Told.{Told, is, absent, refused, numberIn, unless}
 use Rattle.text.specs.Quote.{bytes}
 use Rattle.text.specs.declared.place.Found.{Found}
 use Rattle.text.specs.declared.place.Found.the-variants.{At, Nothing}
 use Rattle.entry.specs.declared.optional.MaybeWord.{MaybeWord}
 use Rattle.entry.specs.declared.optional.MaybeWord.the-variants as W
-use Rattle.book.specs.declared.Checked.{Checked}
 use Rattle.book.specs.declared.Uuid.{Uuid}
-use Rattle.book.specs.Reading.{checkOf, refusalOf}
+use Rattle.book.specs.Reading.{checkOf}
 use Rattle.book.specs.Finders.{placeOf, controlTable, uuidTable, entryCount}
 use Rattle.packet.specs.declared.Answer.{Answer}
 use Rattle.packet.specs.declared.Answer.the-variants as A
@@ -74,7 +74,7 @@ numberOver kind s count room = cond (ltb 65535 (length s)) 20 (numberChecked kin
 
 -- 20 comes first
 unfoldable pub numberOf : ℕ → List ℕ → ℕ → ℕ → ℕ
-numberOf kind s count room = after (refusalOf (checkOf s)) (numberChecked kind s count room)
+numberOf kind s count room = after (numberIn (checkOf s)) (numberChecked kind s count room)
 
 -- ---- the packet
 
@@ -118,34 +118,36 @@ packetOf kind s ds =
 
 -- ---- the answer
 
--- a packet, unless a number refuses it
-abbrev pub unless : ℕ → Packet → Answer
-unless zero p = A.Packet p
-unless (suc k) p = A.Refused (suc k)
+-- what each case of an answer tells: the packet, or document 01's number
+abbrev pub answerTold : Answer → Told Packet
+answerTold (A.Packet p) = is p
+answerTold (A.Refused k) = refused k
 
-unfoldable pub parseOf : ℕ → List ℕ → List ℕ → ℕ → Answer
-parseOf kind s ds room = unless (numberOf kind s (length ds) room) (packetOf kind s ds)
+-- the UUID, as a packet keeps it
+abbrev pub maybeUuid : MaybeUuid → Told Uuid
+maybeUuid (Is u) = is u
+maybeUuid Absent = absent
+
+-- what is told: 20 to 26 in their order, else the packet
+unfoldable pub parseOf : ℕ → List ℕ → List ℕ → ℕ → Told Packet
+parseOf kind s ds room = unless (numberOf kind s (length ds) room) (is (packetOf kind s ds))
 
 -- over a book that was checked before
-unfoldable pub overOf : ℕ → List ℕ → List ℕ → ℕ → Answer
-overOf kind s ds room = unless (numberOver kind s (length ds) room) (packetOf kind s ds)
-
--- document 01's number for an answer, 0 for a packet
-abbrev pub numberOfAnswer : Answer → ℕ
-numberOfAnswer (A.Packet p) = 0
-numberOfAnswer (A.Refused k) = k
+unfoldable pub overOf : ℕ → List ℕ → List ℕ → ℕ → Told Packet
+overOf kind s ds room = unless (numberOver kind s (length ds) room) (is (packetOf kind s ds))
 
 -- a packet writes its places from the first and no others; a refusal nothing
-unfoldable pub listBy : Answer → List ℕ → List ℕ → List ℕ
-listBy (A.Packet p) ps out = ps ++ drop (length ps) out
-listBy (A.Refused k) ps out = out
+unfoldable pub listBy : Told Packet → List ℕ → List ℕ → List ℕ
+listBy (is p) ps out = ps ++ drop (length ps) out
+listBy absent ps out = out
+listBy (refused k) ps out = out
 
 -- the answer, and each lent place
 pub record Parsed (kind : ℕ) (s ds out exit : List ℕ) (r : Answer) : Type 0 where
-  pub answer : r ≡ parseOf kind s ds (length out)
-  pub places : exit ≡ listBy r (placesOf kind s ds) out
+  pub answer : answerTold r ≡ parseOf kind s ds (length out)
+  pub places : exit ≡ listBy (answerTold r) (placesOf kind s ds) out
 
 -- the same over a book that was checked before; over a checked book it gives `Parsed` (`over-is-parsed`)
 pub record Over (kind : ℕ) (s ds out exit : List ℕ) (r : Answer) : Type 0 where
-  pub answer : r ≡ overOf kind s ds (length out)
-  pub places : exit ≡ listBy r (placesOf kind s ds) out
+  pub answer : answerTold r ≡ overOf kind s ds (length out)
+  pub places : exit ≡ listBy (answerTold r) (placesOf kind s ds) out

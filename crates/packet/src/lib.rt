@@ -18,7 +18,7 @@ use book::Checked;
 use book::Uuid;
 use entry::optional::MaybeWord;
 ghost use mathlib.Core.Path.{_≡_};
-ghost use Rattle.book.specs.Reading.{checkOf};
+ghost use Rattle.book.specs.Reading.{accepted, checkOf};
 ghost use Rattle.packet.specs.Packet.{Parsed, Over};
 ghost use Rattle.packet.specs.Inner.{Ready, Made};
 
@@ -72,7 +72,7 @@ pub fn parse(kind: u8, book: &[u8], dwords: &[u32], places: &mut [u32]) -> Answe
 
 // The same over a book that is known to be checked.
 pub fn parse_checked(kind: u8, book: &[u8], dwords: &[u32], places: &mut [u32]) -> Answer
-    requires { ⌜ checkOf (now book) ≡ Checked.Accepted ⌝ }
+    requires { ⌜ checkOf (now book) ≡ accepted ⌝ }
     ensures { λ r. ⌜ Parsed kind (now (book .entry)) (now (dwords .entry)) (now (places .entry)) (now (places .exit)) r ⌝ }
 {
     parse_over(kind, book, dwords, places)

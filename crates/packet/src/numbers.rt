@@ -13,7 +13,7 @@ ghost use mathlib.Core.Bool.{_&&_};
 ghost use lib.Dec.{ltb};
 ghost use Rattle.book.specs.Finders.{entryCount};
 ghost use Rattle.packet.specs.Packet.{isReadResponseOrWriteRequest, isXdomain, controlAt, viewFrom, word};
-ghost use Rattle.packet.specs.Inner.{headerFor, isMissing, openOf};
+ghost use Rattle.packet.specs.Inner.{headerFor, isMissing, openedTold, openOf};
 
 // Read responses and write requests: the data view starts behind the control entries.
 pub fn is_read_response_or_write_request(kind: u8) -> bool
@@ -37,7 +37,7 @@ pub fn is_xdomain_kind(kind: u8) -> bool
 
 // The tables of a packet with so many dwords and places, or the number that refuses it.
 pub fn open(kind: u8, book: &[u8], count: usize, room: usize) -> Opened
-    ensures { λ r. ⌜ r ≡ openOf kind (now (book .entry)) count room ⌝ }
+    ensures { λ r. ⌜ openedTold r ≡ openOf kind (now (book .entry)) count room ⌝ }
 {
     if kind == 0 {
         return Opened::Refused(21);

@@ -14,7 +14,7 @@ use Rattle.packet.specs.Steps.{valuesNamed, exactlyFour, gathered}
 use Rattle.packet.specs.Packet.{firstFrom}
 use Rattle.field.specs.declared.Field.{Field}
 use Rattle.questions.specs.declared.PacketType.{PacketType}
-use Rattle.questions.specs.Answers.{Told, is, absent, refused}
+use Rattle.text.specs.Told.{Told, is, absent, refused}
 use Rattle.questions.specs.Described.{routeIn, asked, named, typeBy, typeIn, fieldIn, fieldWith}
 
 -- ---- the route

@@ -5,7 +5,7 @@ use mathlib.Core.List.{[], _∷_}
 use Rattle.tlv.specs.Grammar.{fieldBytes}
 use Rattle.packet.specs.Packet.{entriesOf}
 use Rattle.packet.proofs.Examples.{threeEntries, threeUuids, fourUuids, packets-open}
-use Rattle.questions.specs.Answers.{is, absent, refused}
+use Rattle.text.specs.Told.{is, absent, refused}
 use Rattle.questions.specs.Questions.{refusal, answer, routeOf, startOf, viewOf, uuidAnswer}
 
 pub record CaseP12 : Type 0 where

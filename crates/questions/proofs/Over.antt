@@ -9,15 +9,14 @@ use borrow.Author.Tests.{ltb-false, le-ltb}
 use lib.Dec.{ltb}
 use lib.ListN.{length, take, drop, length-append}
 use lib.Seq.{take-at}
-use Rattle.book.specs.declared.Checked.the-variants as C
-use Rattle.book.specs.Reading.{checkOf, refusalOf}
+use Rattle.text.specs.Told as T
+use Rattle.book.specs.Reading.{accepted as checked, checkOf}
 use Rattle.packet.specs.declared.Answer.{Answer}
 use Rattle.packet.specs.declared.Answer.the-variants as A
 use Rattle.packet.specs.declared.Packet.{Packet}
-use Rattle.packet.specs.Packet as packet
-use Rattle.packet.specs.Packet.{Parsed, after, numberChecked, numberOf, placesOf, packetOf, parseOf, listBy}
+use Rattle.packet.specs.Packet.{Parsed, after, numberChecked, numberOf, placesOf, packetOf, answerTold, parseOf, listBy}
 use Rattle.packet.proofs.Packets.{Passed, passed-whole, length-places, parsed-20}
-use Rattle.questions.specs.Answers.{Told, is, refused, unless}
+use Rattle.text.specs.Told.{Told, is, refused, unless}
 use Rattle.questions.specs.Questions.{refusal, answer}
 
 -- ---- the number
@@ -25,7 +24,7 @@ use Rattle.questions.specs.Questions.{refusal, answer}
 -- room for 256 dwords is room enough
 never-26 : (kind : ℕ) (s : List ℕ) (count room : ℕ) → 256 ≤ room → numberOf kind s count room ≡ numberOf kind s count count
 unfolding numberOf numberChecked
-never-26 kind s count room le = ap (after (refusalOf (checkOf s))) (by (ltb 256 count) refl)
+never-26 kind s count room le = ap (after (T.numberIn (checkOf s))) (by (ltb 256 count) refl)
   where
     by : (b : Bool) → ltb 256 count ≡ b → numberChecked kind s count room ≡ numberChecked kind s count count
     by true e = rw e
@@ -54,21 +53,21 @@ module _ (kind : ℕ) (s ds : List ℕ) {n : ℕ} (number : n ≡ refusal kind s
   no-number none = ap (λ (k : ℕ). unless k told) (sym none ∙ number)
 
 -- a packet's answer that refuses has the number
-refused-by : (p : Packet) (n : ℕ) {k : ℕ} → packet.unless n p ≡ A.Refused k → (k ≡ n) × (k ≡ 0 → ⊥)
+refused-by : (p : Packet) (n : ℕ) {k : ℕ} → unless n (is p) ≡ refused k → (k ≡ n) × (k ≡ 0 → ⊥)
 refused-by p zero h = absurd (let q : _≡_ {A = ℕ} 0 1 = cc in omega arith)
 refused-by p (suc n) {k} h = let same : suc n ≡ k = cc in (sym same, λ z. omega (arith, same, z))
 
-accepted-by : (p : Packet) (n : ℕ) {q : Packet} → packet.unless n p ≡ A.Packet q → (n ≡ 0) × (q ≡ p)
+accepted-by : (p : Packet) (n : ℕ) {q : Packet} → unless n (is p) ≡ is q → (n ≡ 0) × (q ≡ p)
 accepted-by p zero {q} h = let same : p ≡ q = cc in (refl, sym same)
 accepted-by p (suc n) h = absurd (let q : _≡_ {A = ℕ} 0 1 = cc in omega arith)
 
 -- number 20
-pub refusal-20 : (kind : ℕ) (s ds : List ℕ) {k : ℕ} → checkOf s ≡ C.Refused k → k ≡ refusal kind s ds
+pub refusal-20 : (kind : ℕ) (s ds : List ℕ) {k : ℕ} → checkOf s ≡ T.refused k → k ≡ refusal kind s ds
 unfolding refusal parseOf
 refusal-20 kind s ds {k} e = refused-by (packetOf kind s ds) (numberOf kind s (length ds) (length ds)) (sym (parsed-20 kind s ds ds e .answer)) .0
 
 -- a checked book
-pub refusal-checked : (kind : ℕ) (s ds : List ℕ) → checkOf s ≡ C.Accepted → numberChecked kind s (length ds) (length ds) ≡ refusal kind s ds
+pub refusal-checked : (kind : ℕ) (s ds : List ℕ) → checkOf s ≡ checked → numberChecked kind s (length ds) (length ds) ≡ refusal kind s ds
 unfolding refusal numberOf
 refusal-checked kind s ds e = rw e
 
@@ -82,7 +81,7 @@ module _ {kind : ℕ} {s ds out exit : List ℕ} {r : Answer} (parsed : Parsed k
   pub refused-first : {k : ℕ} → r ≡ A.Refused k → {B : Type 0} (told : Told B) → refused k ≡ answer kind s ds told
   unfolding parseOf
   refused-first e told =
-      let w = refused-by (packetOf kind s ds) (numberOf kind s (length ds) (length out)) (sym (parsed .answer) ∙ e) in
+      let w = refused-by (packetOf kind s ds) (numberOf kind s (length ds) (length out)) (sym (parsed .answer) ∙ ap answerTold e) in
       number-first kind s ds (w .0 ∙ number-is) told (w .1)
 
   -- a packet: its places come first
@@ -95,10 +94,10 @@ module _ {kind : ℕ} {s ds out exit : List ℕ} {r : Answer} (parsed : Parsed k
   pub accepted : {p : Packet} → r ≡ A.Packet p → Accepted p
   unfolding parseOf listBy
   accepted {p} e =
-      let w = accepted-by (packetOf kind s ds) (numberOf kind s (length ds) (length out)) (sym (parsed .answer) ∙ e) in
+      let w = accepted-by (packetOf kind s ds) (numberOf kind s (length ds) (length out)) (sym (parsed .answer) ∙ ap answerTold e) in
       let ps : List ℕ = placesOf kind s ds in
       let size : length ps ≡ length ds = length-places kind s ds in
-      let exit-is : exit ≡ ps ++ drop (length ps) out = parsed .places ∙ ap (λ (a : Answer). listBy a ps out) e in
+      let exit-is : exit ≡ ps ++ drop (length ps) out = parsed .places ∙ ap (λ (a : Answer). listBy (answerTold a) ps out) e in
       record {
         none = sym number-is ∙ w .0;
         is-packet = w .1;

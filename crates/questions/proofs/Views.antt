@@ -27,8 +27,10 @@ use Rattle.questions.specs.declared.WordAnswer.{WordAnswer}
 use Rattle.questions.specs.declared.WordAnswer.the-variants as Word
 use Rattle.questions.specs.declared.TypeAnswer.{TypeAnswer}
 use Rattle.questions.specs.declared.TypeAnswer.the-variants as TypeA
-use Rattle.questions.specs.Answers.{Told, is, absent, unless, maybeWord, wordTold, typeTold}
+use Rattle.questions.specs.Answers.{wordTold, typeTold}
 use Rattle.questions.specs.Questions.{refusal, answer, startOf, viewAt, viewOf, viewPlace, DataView, nameBy}
+use Rattle.text.specs.Told.{Told, is, absent, unless}
+use Rattle.entry.specs.Entry.{maybeWord}
 use Rattle.questions.proofs.Over.{passed, no-number}
 
 -- the view of what was found, with no cut

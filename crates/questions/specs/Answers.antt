@@ -1,12 +1,9 @@
--- What a question is told, and what each case of an answer tells.
+-- What each case of a question's answer tells.
 -- Assumes nothing.
-use Prim.Native.Nat.{ℕ, zero, suc}
+use Prim.Native.Nat.{ℕ}
 use mathlib.Core.Bool.{Bool}
-use Rattle.entry.specs.declared.optional.MaybeWord.{MaybeWord}
-use Rattle.entry.specs.declared.optional.MaybeWord.the-variants as W
+use Rattle.text.specs.Told.{Told, is, absent, refused}
 use Rattle.book.specs.declared.Uuid.{Uuid}
-use Rattle.packet.specs.declared.MaybeUuid.{MaybeUuid}
-use Rattle.packet.specs.declared.MaybeUuid.the-variants as U
 use Rattle.field.specs.declared.Field.{Field}
 use Rattle.questions.specs.declared.PacketType.{PacketType}
 use Rattle.questions.specs.declared.ByteAnswer.{ByteAnswer}
@@ -25,19 +22,6 @@ use Rattle.questions.specs.declared.FieldAnswer.{FieldAnswer}
 use Rattle.questions.specs.declared.FieldAnswer.the-variants as FieldA
 use Rattle.questions.specs.declared.described.MaybeDword.{MaybeDword}
 use Rattle.questions.specs.declared.described.MaybeDword.the-variants as Dword
-
--- a value; "none", which is no number; or the one number that refuses
-pub data Told (A : Type 0) : Type 0 where
-  is : A → Told A
-  absent : Told A
-  refused : ℕ → Told A
-
--- what is told, unless a number comes first
-abbrev pub unless : {A : Type 0} → ℕ → Told A → Told A
-unless zero told = told
-unless (suc k) told = refused (suc k)
-
--- ---- each answer, case by case
 
 -- 8 bits
 abbrev pub byteTold : ByteAnswer → Told ℕ
@@ -83,13 +67,3 @@ fieldTold (FieldA.Refused k) = refused k
 abbrev pub dwordTold : MaybeDword → Told ℕ
 dwordTold (Dword.Is v) = is v
 dwordTold Dword.Absent = absent
-
--- the UUID, as a packet keeps it
-abbrev pub maybeUuid : MaybeUuid → Told Uuid
-maybeUuid (U.Is u) = is u
-maybeUuid U.Absent = absent
-
--- where the view starts, as a packet keeps it
-abbrev pub maybeWord : MaybeWord → Told ℕ
-maybeWord (W.Is v) = is v
-maybeWord W.Absent = absent

@@ -18,7 +18,8 @@ use Rattle.packet.specs.Packet.{isXdomain, firstFrom}
 use Rattle.field.specs.declared.Field.{Field}
 use Rattle.field.specs.Source.{fieldOf}
 use Rattle.questions.specs.declared.PacketType.{PacketType}
-use Rattle.questions.specs.Answers.{Told, is, absent, refused, maybeUuid}
+use Rattle.text.specs.Told.{Told, is, absent, refused}
+use Rattle.packet.specs.Packet.{maybeUuid}
 
 -- kinds 1 and 2 read, kinds 3 and 4 write
 unfoldable pub isRead : ℕ → Bool

@@ -12,7 +12,9 @@ use Rattle.packet.specs.Field.{nameIn}
 use Rattle.packet.specs.Packet.{isXdomain, numberOf, placesOf, uuidOf, viewFrom, word}
 use Rattle.field.specs.declared.Field.{Field}
 use Rattle.questions.specs.declared.PacketType.{PacketType}
-use Rattle.questions.specs.Answers.{Told, is, absent, refused, unless, maybeUuid, maybeWord}
+use Rattle.text.specs.Told.{Told, is, absent, refused, unless}
+use Rattle.packet.specs.Packet.{maybeUuid}
+use Rattle.entry.specs.Entry.{maybeWord}
 use Rattle.questions.specs.Described as described
 
 module _ (kind : ℕ) (s ds : List ℕ) where

@@ -26,16 +26,7 @@ use packet::seek::gather;
 use text::place::Found;
 ghost use mathlib.Core.Path.{_≡_};
 ghost use Prim.Native.Nat.{_+_, _*_, _^_};
-ghost use Rattle.questions.specs.Answers.{
-  byteTold,
-  wordTold,
-  wideTold,
-  flagTold,
-  uuidTold,
-  typeTold,
-  fieldTold,
-  dwordTold,
-};
+ghost use Rattle.questions.specs.Answers.{byteTold, wordTold, wideTold, flagTold, uuidTold, typeTold, fieldTold, dwordTold};
 ghost use Rattle.questions.specs.Described.{
   routeIn,
   topBit,

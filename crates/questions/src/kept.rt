@@ -8,7 +8,9 @@ use packet::Opened;
 use packet::numbers::open;
 ghost use mathlib.Core.Path.{_≡_};
 ghost use Rattle.packet.specs.Packet.{numberChecked};
-ghost use Rattle.questions.specs.Answers.{wordTold, uuidTold, maybeUuid, maybeWord};
+ghost use Rattle.packet.specs.Packet.{maybeUuid};
+ghost use Rattle.entry.specs.Entry.{maybeWord};
+ghost use Rattle.questions.specs.Answers.{wordTold, uuidTold};
 ghost use Rattle.questions.specs.Questions.{refusal};
 
 // Numbers 20 to 25, 0 for none.

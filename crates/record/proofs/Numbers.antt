@@ -24,9 +24,6 @@ use Rattle.record.specs.Judging.{framed, taskSize, judgeField, joined, j
 use Rattle.record.specs.Conditions.{GoodField, GoodFields, lastTag, Framed, GoodUpTo, Lacks, Breaks, unframed, runs-past, wrong-tag, wrong-body, lacks-tag}
 use Rattle.record.specs.Finding.{spanOf, isThere}
 use Rattle.record.specs.declared.find.Span.the-variants.{Absent}
-use Rattle.record.specs.declared.Answer.the-variants as A
-use Rattle.record.specs.Gathering.{entryOf}
-use Rattle.record.specs.Reading.{dwordCount, readOf}
 use Rattle.record.proofs.Finding.{lookup}
 use Rattle.record.proofs.Bodies.{piecesIn, body-absent, body-there}
 use Rattle.record.proofs.Judging.{judged-end, judged-cut, judged-field, field-good, body-good, body-bad, judged-zero, not-framed, field-refused, tag-missing}
@@ -290,28 +287,3 @@ module _ (t : List ℕ) (bytes : Bytes t) where
   -- a number from 30 to 34 is answered exactly if its condition holds, which says too that nothing is wrong before it
   pub number-exactly : (k : ℕ) → (k ≡ 0 → ⊥) → (refusalOf t ≡ k) ↔ Breaks t k
   number-exactly k h = ((λ e. number-breaks k e h), (λ b. breaks-number t k b))
-
-  breaks-below : (k : ℕ) → Breaks t k → k < 35
-  breaks-below k (unframed e h) = omega (arith, e)
-  breaks-below k (runs-past e at ps g r) = omega (arith, e)
-  breaks-below k (wrong-tag e at ps tag from to g f h) = omega (arith, e)
-  breaks-below k (wrong-body e at ps tag from to g f up known h) = omega (arith, e)
-  breaks-below k (lacks-tag e ps tag g m l) = omega (arith, e)
-
-  -- 35 is answered exactly if no other number is due and the slots are fewer than the dwords
-  pub slots-exactly : (n : ℕ) → (readOf t n ≡ A.Refused 35) ↔ ((refusalOf t ≡ 0) × (n < dwordCount t))
-  unfolding readOf
-  slots-exactly n = (is, (λ h. rw (h .0, lt-leb (dwordCount t) n (h .1))))
-    where
-      is : cond (eqb (refusalOf t) 0) (cond (leb (dwordCount t) n) (A.Entry (entryOf t)) (A.Refused 35)) (A.Refused (refusalOf t)) ≡ A.Refused 35
-          → (refusalOf t ≡ 0) × (n < dwordCount t)
-      is e = go (eqb (refusalOf t) 0) (leb (dwordCount t) n) refl refl e
-        where
-          go : (x y : Bool) → eqb (refusalOf t) 0 ≡ x → leb (dwordCount t) n ≡ y
-              → cond x (cond y (A.Entry (entryOf t)) (A.Refused 35)) (A.Refused (refusalOf t)) ≡ A.Refused 35
-              → (refusalOf t ≡ 0) × (n < dwordCount t)
-          go true true a b e = absurd (let z : _≡_ {A = ℕ} 0 1 = cc in omega arith)
-          go true false a b e = (eqb-true (refusalOf t) 0 a, leb-false (dwordCount t) n b)
-          go false y a b e =
-              let z : refusalOf t ≡ 35 = cc in
-              absurd (omega (arith, breaks-below 35 (number-breaks 35 z (λ k. omega (arith, k)))))

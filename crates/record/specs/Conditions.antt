@@ -7,6 +7,8 @@ use mathlib.Core.List.{List, [], _∷_, List·Memᴰ}
 use lib.ListN.{length}
 use Rattle.tlv.specs.Grammar.{Piece, fieldsBytes, FieldAt, RunsPast}
 use Rattle.tlv.specs.Reading.{between}
+use Rattle.entry.specs.Entry.{EntryValue}
+use Rattle.record.specs.Grammar.{IsRecord}
 use Rattle.record.specs.Rule.{ruleOf, isKnown, fitsRule}
 use Rattle.record.specs.Judging.{taskSize, requiredTags}
 
@@ -43,7 +45,7 @@ abbrev pub Lacks : ℕ → List Piece → Type 0
 Lacks tag [] = Unit {0}
 Lacks tag (p ∷ ps) = (p .tag ≡ tag → ⊥) × Lacks tag ps
 
--- what each number says of a text: 30; field by field 31, 32, 34; then 33
+-- what each number from 30 to 34 says of a text: 30; field by field 31, 32, 34; then 33
 pub data Breaks (t : List ℕ) (k : ℕ) : Type 0 where
   unframed : k ≡ 30 → (Framed t → ⊥) → Breaks t k
   runs-past : k ≡ 31 → (at : ℕ) (ps : List Piece) → GoodUpTo t at ps → RunsPast t at → Breaks t k
@@ -53,3 +55,14 @@ pub data Breaks (t : List ℕ) (k : ℕ) : Type 0 where
       → lastTag 0 ps < tag → isKnown (ruleOf tag) ≡ true
       → (fitsRule (ruleOf tag) (taskSize t) (between t from to) ≡ true → ⊥) → Breaks t k
   lacks-tag : k ≡ 33 → (ps : List Piece) (tag : ℕ) → GoodUpTo t (length t) ps → List·Memᴰ tag requiredTags → Lacks tag ps → Breaks t k
+
+-- 35: the text is a record, of an entry with more dwords than slots are lent
+pub record TooFewSlots (t : List ℕ) (slots : ℕ) : Type 0 where
+  pub value : EntryValue
+  pub is-record : IsRecord t value
+  pub fewer : slots < length (value .dwords)
+
+-- what each number says of a text and the slots lent: 30 to 34, which look at the text alone; then 35
+pub data Refuses (t : List ℕ) (slots k : ℕ) : Type 0 where
+  breaks : Breaks t k → Refuses t slots k
+  few-slots : k ≡ 35 → TooFewSlots t slots → Refuses t slots k

@@ -4,9 +4,11 @@ use Prim.Native.Nat.{ℕ, zero, suc, _+_, _/_}
 use mathlib.Core.Path.{_≡_}
 use mathlib.Core.Bool.{cond}
 use mathlib.Core.List.{List, [], _∷_, _++_}
-use lib.Dec.{leb, eqb}
+use lib.Dec.{leb}
 use lib.ListN.{length, drop}
+use Rattle.text.specs.Told.{Told, is, absent, refused, unless}
 use Rattle.tlv.specs.Number.{number}
+use Rattle.entry.specs.declared.Entry.{Entry}
 use Rattle.record.specs.declared.Answer.{Answer}
 use Rattle.record.specs.declared.Answer.the-variants as A
 use Rattle.record.specs.Judging.{refusalOf}
@@ -30,22 +32,22 @@ dwordCount t = placeOf t 0x13 .len / 4
 unfoldable pub dwordsOf : List ℕ → List ℕ
 dwordsOf t = dwordsAt t (placeOf t 0x13 .from) (dwordCount t)
 
--- the answer for a text, with so many slots lent: 30 to 34, then 35, else the entry
-unfoldable pub readOf : List ℕ → ℕ → Answer
-readOf t slots =
-    cond (eqb (refusalOf t) 0) (cond (leb (dwordCount t) slots) (A.Entry (entryOf t)) (A.Refused 35)) (A.Refused (refusalOf t))
+-- what each case of an answer tells: the entry, or document 01's number
+abbrev pub answerTold : Answer → Told Entry
+answerTold (A.Entry e) = is e
+answerTold (A.Refused n) = refused n
 
--- document 01's number of an answer, 0 for an entry
-abbrev pub codeOf : Answer → ℕ
-codeOf (A.Entry e) = 0
-codeOf (A.Refused n) = n
+-- what is told of a text, with so many slots lent: 30 to 34, then 35, else the entry
+unfoldable pub readOf : List ℕ → ℕ → Told Entry
+readOf t slots = unless (refusalOf t) (cond (leb (dwordCount t) slots) (is (entryOf t)) (refused 35))
 
--- the slots behind an answer: an entry's dwords over the first of them; a refusal leaves them as found
-unfoldable pub slotsBy : Answer → List ℕ → List ℕ → List ℕ
-slotsBy (A.Entry e) new slots = over new slots
-slotsBy (A.Refused n) new slots = slots
+-- the slots by what is told: an entry's dwords over the first of them; a refusal leaves them as found
+unfoldable pub slotsBy : Told Entry → List ℕ → List ℕ → List ℕ
+slotsBy (is e) new slots = over new slots
+slotsBy absent new slots = slots
+slotsBy (refused n) new slots = slots
 
 -- what a call answers and leaves in the slots
 pub record Reading (t slots : List ℕ) (r : Answer) (left : List ℕ) : Type 0 where
-  pub answer : r ≡ readOf t (length slots)
-  pub slots-left : left ≡ slotsBy r (dwordsOf t) slots
+  pub answer : answerTold r ≡ readOf t (length slots)
+  pub slots-left : left ≡ slotsBy (answerTold r) (dwordsOf t) slots

@@ -6,6 +6,7 @@ use Rattle.text.specs.Class.{between, isBlank, isDigit, isLetter, isWord, inCla
 use Rattle.text.specs.Number.{digitOf, value, allDigits, numberOf, bareOf, asHex, hexOf, numberValue, hexValue}
 use Rattle.text.specs.Place.{firstOf, firstIn, foundBelow, firstPlace, lastPlace, byteBefore, lastByte}
 use Rattle.text.specs.Quote.{bytes}
+use Rattle.text.specs.Told as T
 use Rattle.text.specs.Run.{runEnd, behind, runStart, stripped}
 use Rattle.text.specs.Same.{sameText}
 use Rattle.entry.specs.declared.optional.MaybeByte.the-variants as B
@@ -17,7 +18,6 @@ use Rattle.header.specs.Stamp as Stamp
 use Rattle.header.specs.Function.{functionOf}
 use Rattle.pairs.specs.Pair as Pair
 use Rattle.pairs.specs.Data as Data
-use Rattle.scan.specs.declared.Answer.the-variants as A
 use Rattle.scan.specs.Need.{placeValue, stampValue}
 use Rattle.scan.specs.Frame.{idle, firstHigh, frameColon, frameAscii, frameOf}
 use Rattle.scan.specs.Head.{headOf}
@@ -31,18 +31,18 @@ unfolding between isBlank isDigit isLetter isWord inClass digitOf value allDigit
 computes = tt
 
 -- P8 in a line: `data=[]` is refused with 15
-pub refused-P8 : parseOf (bytes "a-1 [002] 1.2: f: type=t size=3 domain=0 route=0 data=[]") 256 ≡ A.Refused 15
+pub refused-P8 : parseOf (bytes "a-1 [002] 1.2: f: type=t size=3 domain=0 route=0 data=[]") 256 ≡ T.refused 15
 unfolding computes
 refused-P8 = refl
 
 -- P7 in a line: `data=[0x1,0x2]` is accepted with no dwords
-pub accepted-P7 : parseOf (bytes "a-1 [002] 1.2: f: type=t size=3 domain=0 route=0 data=[0x1,0x2]") 256 ≡ A.Entry (record { «task_at» = 0; «task_len» = 1; pid = 1; cpu = 2; seconds = 1; microseconds = 2; «function_at» = 15; «function_len» = 1; kind = 0; size = 3; dropped = false; domain = 0; route = 0; offset = W.Absent; code = B.Absent; len = W.Absent; port = B.Absent; config = B.Absent; seq = B.Absent; unplug = B.Absent; dwords = 0 })
+pub accepted-P7 : parseOf (bytes "a-1 [002] 1.2: f: type=t size=3 domain=0 route=0 data=[0x1,0x2]") 256 ≡ T.is (record { «task_at» = 0; «task_len» = 1; pid = 1; cpu = 2; seconds = 1; microseconds = 2; «function_at» = 15; «function_len» = 1; kind = 0; size = 3; dropped = false; domain = 0; route = 0; offset = W.Absent; code = B.Absent; len = W.Absent; port = B.Absent; config = B.Absent; seq = B.Absent; unplug = B.Absent; dwords = 0 })
 unfolding computes
 accepted-P7 = refl
 
 -- the `fwd` line of document 01, its newline with it, is this entry with these dwords
 pub record Fwd : Type 0 where
-  pub entry : parseOf (bytes " fwd-7 [002] d..1. 12.000345: tb_tx: type=TB_CFG_PKG_READ, size=3, domain=0, route=0, data=[0x0, 0x0, 0x04002001]" ++ (10 ∷ [])) 256 ≡ A.Entry (record { «task_at» = 1; «task_len» = 3; pid = 7; cpu = 2; seconds = 12; microseconds = 345; «function_at» = 30; «function_len» = 5; kind = 1; size = 3; dropped = false; domain = 0; route = 0; offset = W.Absent; code = B.Absent; len = W.Absent; port = B.Absent; config = B.Absent; seq = B.Absent; unplug = B.Absent; dwords = 3 })
+  pub entry : parseOf (bytes " fwd-7 [002] d..1. 12.000345: tb_tx: type=TB_CFG_PKG_READ, size=3, domain=0, route=0, data=[0x0, 0x0, 0x04002001]" ++ (10 ∷ [])) 256 ≡ T.is (record { «task_at» = 1; «task_len» = 3; pid = 7; cpu = 2; seconds = 12; microseconds = 345; «function_at» = 30; «function_len» = 5; kind = 1; size = 3; dropped = false; domain = 0; route = 0; offset = W.Absent; code = B.Absent; len = W.Absent; port = B.Absent; config = B.Absent; seq = B.Absent; unplug = B.Absent; dwords = 3 })
   pub dwords : lineDwords (bytes " fwd-7 [002] d..1. 12.000345: tb_tx: type=TB_CFG_PKG_READ, size=3, domain=0, route=0, data=[0x0, 0x0, 0x04002001]" ++ (10 ∷ [])) ≡ 0 ∷ 0 ∷ 0x04002001 ∷ []
 
 pub fwd : Fwd

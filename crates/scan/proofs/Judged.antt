@@ -16,6 +16,7 @@ use Rattle.text.specs.declared.number.HexAnswer.{HexAnswer}
 use Rattle.text.specs.declared.number.HexAnswer.the-variants as X
 use Rattle.text.specs.declared.place.Found.{Found}
 use Rattle.text.specs.declared.place.Found.the-variants as P
+use Rattle.text.specs.Told.{Told}
 use Rattle.text.specs.Number.{numberValue, hexValue}
 use Rattle.text.specs.Place.{lastByte}
 use Rattle.text.specs.Quote.{bytes}
@@ -43,7 +44,6 @@ use Rattle.scan.specs.declared.head.HeadAnswer.the-variants as H
 use Rattle.scan.specs.declared.body.Body.{Body}
 use Rattle.scan.specs.declared.body.BodyAnswer.the-variants as B
 use Rattle.scan.specs.declared.dwords.DataAnswer.the-variants as D
-use Rattle.scan.specs.declared.Answer.{Answer}
 use Rattle.scan.specs.Need.{placeValue, Moment, stampValue}
 use Rattle.scan.specs.Frame.{Idle, High, Split, idle, firstHigh, frameColon, frameAscii, frameOf}
 use Rattle.scan.specs.Head.{headOf, head6, head7, head8, head9, headGot}
@@ -238,7 +238,7 @@ module _ (t : List ℕ) {k : ℕ} (framed : frameOf t ≡ F.Colon k) where
 
 -- the chain, from the last numbers to the first
 module _ (t : List ℕ) (room : ℕ) where
-  abbrev Ok : Answer → Type 0
+  abbrev Ok : Told Entry → Type 0
   Ok = Answered t room (Says t)
 
   module _ {k : ℕ} (framed : frameOf t ≡ F.Colon k) where

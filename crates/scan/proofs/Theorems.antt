@@ -11,6 +11,8 @@ use lib.Dec.{eqb}
 use lib.ListN.{length, drop}
 use borrow.Author.Tests.{eqb-true}
 use Rattle.text.specs.Quote.{bytes}
+use Rattle.text.specs.Told as T
+use Rattle.text.proofs.Told.{by-cases, fixed-by-told}
 use Rattle.text.proofs.Places.{by-order}
 use Rattle.text.proofs.Numbers.{one-number, one-hex}
 use Rattle.entry.specs.declared.Entry.{Entry}
@@ -26,7 +28,7 @@ use Rattle.pairs.proofs.Slots.{one-data}
 use Rattle.scan.specs.declared.Answer.{Answer}
 use Rattle.scan.specs.declared.Answer.the-variants as A
 use Rattle.scan.specs.Frame.{Split}
-use Rattle.scan.specs.Parse.{parseOf, lineDwords, slotsBy, Parsed, numberOfAnswer}
+use Rattle.scan.specs.Parse.{parseOf, lineDwords, answerTold, slotsBy, Parsed}
 use Rattle.scan.specs.Line.{KeyText, KeyDecimal, KeyHex, Optional, Dropped, Dwords, Line, Has, MoreThan, Condition, Applies}
 use Rattle.scan.proofs.Splits.{split-colon, one-header, one-payload}
 use Rattle.scan.proofs.Values.{dwords-part, dwords-whole}
@@ -160,37 +162,37 @@ past-table t room k l c =
         go false e y = g y
 
 -- an entry says what the line says
-pub line-entry-is : (t : List ℕ) (room : ℕ) {e : Entry} → parseOf t room ≡ A.Entry e → Line t (valueOf e t (lineDwords t))
+pub line-entry-is : (t : List ℕ) (room : ℕ) {e : Entry} → parseOf t room ≡ T.is e → Line t (valueOf e t (lineDwords t))
 line-entry-is t room {e} q = go (parseOf t room) (judge t room) q
   where
-    go : (r : Answer) → Answered t room (Says t) r → r ≡ A.Entry e → Line t (valueOf e t (lineDwords t))
+    go : (r : T.Told Entry) → Answered t room (Says t) r → r ≡ T.is e → Line t (valueOf e t (lineDwords t))
     go r (Answered.refused k a) n = absurd (let z : _≡_ {A = ℕ} 0 1 = cc in omega arith)
     go r (Answered.entry f c s) n = let same : f ≡ e = cc in rw same at (s .line)
 
 -- given 256 slots, a line of the grammar is accepted, and its entry is the grammar's
-pub line-entry-all : (t : List ℕ) {v : EntryValue} → Line t v → (e : Entry) × (parseOf t 256 ≡ A.Entry e) × (valueOf e t (lineDwords t) ≡ v)
+pub line-entry-all : (t : List ℕ) {v : EntryValue} → Line t v → (e : Entry) × (parseOf t 256 ≡ T.is e) × (valueOf e t (lineDwords t) ≡ v)
 line-entry-all t {v} a = go (parseOf t 256) (judge t 256) refl
   where
-    go : (r : Answer) → Answered t 256 (Says t) r → parseOf t 256 ≡ r → (e : Entry) × (parseOf t 256 ≡ A.Entry e) × (valueOf e t (lineDwords t) ≡ v)
+    go : (r : T.Told Entry) → Answered t 256 (Says t) r → parseOf t 256 ≡ r → (e : Entry) × (parseOf t 256 ≡ T.is e) × (valueOf e t (lineDwords t) ≡ v)
     go r (Answered.refused k p) n = absurd (line-clears t a k (p .holds))
     go r (Answered.entry e c s) n = (e, n, one-line-reading t (s .line) a)
 
 -- given 256 slots, a text is accepted as a line exactly when it belongs to the line grammar
-pub line-accepted-exactly : (t : List ℕ) → ((e : Entry) × (parseOf t 256 ≡ A.Entry e)) ↔ ((v : EntryValue) × Line t v)
+pub line-accepted-exactly : (t : List ℕ) → ((e : Entry) × (parseOf t 256 ≡ T.is e)) ↔ ((v : EntryValue) × Line t v)
 line-accepted-exactly t =
     ((λ x. (valueOf (x .0) t (lineDwords t), line-entry-is t 256 (x .1))), (λ y. let w = line-entry-all t (y .1) in (w .0, w .1)))
 
 -- a number is answered exactly when its condition holds and no earlier one does
-pub line-number-exactly : (t : List ℕ) (room k : ℕ) → (parseOf t room ≡ A.Refused k) ↔ Applies t room k
+pub line-number-exactly : (t : List ℕ) (room k : ℕ) → (parseOf t room ≡ T.refused k) ↔ Applies t room k
 line-number-exactly t room k = (λ q. mp (parseOf t room) (judge t room) q, λ a. mpr (parseOf t room) (judge t room) a)
   where
-    mp : (r : Answer) → Answered t room (Says t) r → r ≡ A.Refused k → Applies t room k
+    mp : (r : T.Told Entry) → Answered t room (Says t) r → r ≡ T.refused k → Applies t room k
     mp r (Answered.refused j a) n = let same : j ≡ k = cc in rw same at a
     mp r (Answered.entry e c s) n = absurd (let z : _≡_ {A = ℕ} 0 1 = cc in omega arith)
 
-    mpr : (r : Answer) → Answered t room (Says t) r → Applies t room k → r ≡ A.Refused k
+    mpr : (r : T.Told Entry) → Answered t room (Says t) r → Applies t room k → r ≡ T.refused k
     mpr r (Answered.refused j b) a =
-        by-order j k (λ l. absurd (a .first j l (b .holds))) (λ e. ap A.Refused e) (λ l. absurd (b .first k l (a .holds)))
+        by-order j k (λ l. absurd (a .first j l (b .holds))) (λ e. ap T.refused e) (λ l. absurd (b .first k l (a .holds)))
     mpr r (Answered.entry e c s) a = absurd (no-number (a .holds) c)
       where
         no-number : Condition t room k → Clear t room 18 → ⊥
@@ -200,26 +202,26 @@ line-number-exactly t room k = (λ q. mp (parseOf t room) (judge t room) q, λ a
             above l x = past-table t room k l x
 
 -- number 10 has no text: every pair that is found has its `=`
-pub number-10-never : (t : List ℕ) (room : ℕ) → parseOf t room ≡ A.Refused 10 → ⊥
+pub number-10-never : (t : List ℕ) (room : ℕ) → parseOf t room ≡ T.refused 10 → ⊥
 unfolding Condition
 number-10-never t room q =
     let a = line-number-exactly t room 10 .0 q in
     let h : Has t WithoutEquals = a .holds in
     no-pair-without-equals (h .payload) (h .there)
 
--- the same through the number of an answer, which is 0 for an entry alone
-pub line-number-is : (t : List ℕ) (room k : ℕ) → 0 < k → (numberOfAnswer (parseOf t room) ≡ k) ↔ Applies t room k
-unfolding numberOfAnswer
-line-number-is t room k positive = (λ q. line-number-exactly t room k .0 (mp (parseOf t room) q), λ a. ap numberOfAnswer (line-number-exactly t room k .1 a))
+-- the same through the number that is told, which is 0 for an entry alone
+pub line-number-is : (t : List ℕ) (room k : ℕ) → 0 < k → (T.numberIn (parseOf t room) ≡ k) ↔ Applies t room k
+line-number-is t room k positive = (λ q. line-number-exactly t room k .0 (mp (parseOf t room) q), λ a. ap T.numberIn (line-number-exactly t room k .1 a))
   where
-    mp : (r : Answer) → numberOfAnswer r ≡ k → r ≡ A.Refused k
-    mp (A.Entry e) q = absurd (omega arith)
-    mp (A.Refused j) q = ap A.Refused q
+    mp : (r : T.Told Entry) → T.numberIn r ≡ k → r ≡ T.refused k
+    mp (T.is e) q = absurd (omega arith)
+    mp T.absent q = absurd (omega arith)
+    mp (T.refused j) q = ap T.refused q
 
-entry-says : (t : List ℕ) (room : ℕ) {e : Entry} → parseOf t room ≡ A.Entry e → Says t e
+entry-says : (t : List ℕ) (room : ℕ) {e : Entry} → parseOf t room ≡ T.is e → Says t e
 entry-says t room {e} q = go (parseOf t room) (judge t room) q
   where
-    go : (r : Answer) → Answered t room (Says t) r → r ≡ A.Entry e → Says t e
+    go : (r : T.Told Entry) → Answered t room (Says t) r → r ≡ T.is e → Says t e
     go r (Answered.refused k a) n = absurd (let z : _≡_ {A = ℕ} 0 1 = cc in omega arith)
     go r (Answered.entry f c s) n = let same : f ≡ e = cc in rw same at s
 
@@ -246,8 +248,16 @@ pub parsed-refused : (t out : List ℕ) {exit : List ℕ} {k : ℕ} → Parsed t
 unfolding slotsBy
 parsed-refused t out p = (line-number-exactly t (length out) _ .0 (sym (p .answer)), p .slots)
 
+-- two answers that tell the same are the same
+pub one-line-answer : (a b : Answer) → answerTold a ≡ answerTold b → a ≡ b
+one-line-answer = fixed-by-told answerTold (by-cases A.Entry (A.Refused 0) A.Refused) same
+  where
+    same : (a : Answer) → by-cases A.Entry (A.Refused 0) A.Refused (answerTold a) ≡ a
+    same (A.Entry e) = refl
+    same (A.Refused k) = refl
+
 -- no second answer satisfies the contract, slots included
 pub no-second-answer : (t out : List ℕ) {exit exit′ : List ℕ} {r r′ : Answer} → Parsed t out exit r → Parsed t out exit′ r′ → (r ≡ r′) × (exit ≡ exit′)
 no-second-answer t out {exit} {exit′} {r} {r′} a b =
-    let same : r ≡ r′ = a .answer ∙ sym (b .answer) in
-    (same, a .slots ∙ rw same (sym (b .slots)))
+    let same : answerTold r ≡ answerTold r′ = a .answer ∙ sym (b .answer) in
+    (one-line-answer r r′ same, a .slots ∙ rw same (sym (b .slots)))

@@ -4,6 +4,7 @@ use mathlib.Core.Bool.{Bool, false, cond}
 use mathlib.Core.List.{List}
 use mathlib.Core.Option.{Option, some, none}
 use lib.Dec.{eqb}
+use Rattle.text.specs.Told.{Told, is, refused}
 use Rattle.text.specs.declared.number.Number.{Number}
 use Rattle.text.specs.declared.number.Number.the-variants as N
 use Rattle.text.specs.Number.{numberValue, hexValue}
@@ -17,6 +18,7 @@ use Rattle.pairs.specs.declared.pair.Span.{Span}
 use Rattle.pairs.specs.declared.pair.Span.the-variants.{At, Nothing}
 use Rattle.pairs.specs.Pair.{part, lastPair, pairWithoutEquals, decimalOf, hexAt}
 use Rattle.scan.specs.declared.body.Optionals.{Optionals}
+use Rattle.scan.specs.declared.body.Body.{Body}
 use Rattle.scan.specs.declared.body.BodyAnswer.{BodyAnswer}
 use Rattle.scan.specs.declared.body.BodyAnswer.the-variants.{Got, Refused}
 use Rattle.scan.specs.Need.{need}
@@ -73,6 +75,11 @@ optionalsOf p =
       seq = decimalByte p (bytes "seq");
       unplug = hexByte p (bytes "unplug");
     }
+
+-- what each case of the payload's answer tells: what it says but for its dwords, or the number
+abbrev pub bodyTold : BodyAnswer → Told Body
+bodyTold (Got body) = is body
+bodyTold (Refused k) = refused k
 
 -- from each number on
 abbrev pub body14 : List ℕ → ℕ → ℕ → ℕ → BodyAnswer

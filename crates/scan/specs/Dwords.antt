@@ -6,6 +6,7 @@ use mathlib.Core.List.{List, []}
 use mathlib.Core.Option.{Option, some, none}
 use lib.Dec.{ltb}
 use lib.ListN.{length}
+use Rattle.text.specs.Told.{Told, is, refused}
 use Rattle.text.specs.Quote.{bytes}
 use Rattle.pairs.specs.Pair.{lastPair}
 use Rattle.pairs.specs.Data.{dataOf, filled}
@@ -17,6 +18,11 @@ use Rattle.scan.specs.Body.{textAt}
 -- the dwords of the last pair of `data`
 unfoldable pub payloadData : List ℕ → Option (List ℕ)
 payloadData p = need none (textAt p (lastPair p (bytes "data"))) dataOf
+
+-- what each case of the data's answer tells: how many dwords, or the number
+abbrev pub dataTold : DataAnswer → Told ℕ
+dataTold (Got n) = is n
+dataTold (Refused k) = refused k
 
 -- 16 counts dwords, then 17 the slots
 abbrev pub data16 : ℕ → List ℕ → DataAnswer

@@ -5,6 +5,7 @@ use mathlib.Core.Bool.{Bool, cond, _&&_, _||_}
 use mathlib.Core.List.{List, [], _∷_, _++_}
 use lib.Dec.{ltb, leb, eqb}
 use lib.ListN.{length, getD}
+use Rattle.text.specs.Told.{Told, is, refused}
 use Rattle.text.specs.declared.place.Found.{Found}
 use Rattle.text.specs.declared.place.Found.the-variants.{At, Nothing}
 use Rattle.text.specs.Place.{firstPlace, lastByte, isAt}
@@ -32,6 +33,11 @@ pub record Split (t header payload : List ℕ) : Type 0 where
   pub last : (k : ℕ) → k < length after → getD after k 0 ≡ 58 → ⊥
   pub header-stripped : Stripped before header
   pub payload-stripped : Stripped after payload
+
+-- what each case of the frame's answer tells: the place of the last colon, or the number
+abbrev pub frameTold : FrameAnswer → Told ℕ
+frameTold (Colon k) = is k
+frameTold (Refused k) = refused k
 
 -- is the line empty, a newline alone, or a comment?
 unfoldable pub idle : List ℕ → Bool

@@ -1,14 +1,21 @@
 -- Numbers 5 to 9: what a header says, in the order of the numbers.
 use Prim.Native.Nat.{ℕ}
 use mathlib.Core.List.{List}
+use Rattle.text.specs.Told.{Told, is, refused}
 use Rattle.text.specs.Number.{numberValue}
 use Rattle.header.specs.Dash.{taskOf, pidOf}
 use Rattle.header.specs.Cpu.{cpuOf}
 use Rattle.header.specs.Stamp.{stampOf}
 use Rattle.header.specs.Function.{functionOf}
+use Rattle.scan.specs.declared.head.Head.{Head}
 use Rattle.scan.specs.declared.head.HeadAnswer.{HeadAnswer}
 use Rattle.scan.specs.declared.head.HeadAnswer.the-variants.{Got, Refused}
 use Rattle.scan.specs.Need.{need, placeValue, Moment, stampValue}
+
+-- what each case of the header's answer tells: what it says, or the number
+abbrev pub headTold : HeadAnswer → Told Head
+headTold (Got head) = is head
+headTold (Refused k) = refused k
 
 -- all five found
 abbrev pub headGot : ℕ → ℕ → ℕ → Moment → ℕ → HeadAnswer

@@ -3,6 +3,7 @@ use Prim.Native.Nat.{ℕ, _+_, _-_}
 use mathlib.Core.Path.{_≡_}
 use mathlib.Core.List.{List, []}
 use lib.ListN.{length, take, drop}
+use Rattle.text.specs.Told.{Told, is, absent, refused, andThen}
 use Rattle.text.specs.Class.{isBlank}
 use Rattle.text.specs.Run.{runEnd, stripped}
 use Rattle.entry.specs.declared.Entry.{Entry}
@@ -11,18 +12,15 @@ use Rattle.scan.specs.declared.frame.FrameAnswer.{FrameAnswer}
 use Rattle.scan.specs.declared.frame.FrameAnswer.the-variants as F
 use Rattle.scan.specs.declared.head.Head.{Head}
 use Rattle.scan.specs.declared.head.HeadAnswer.{HeadAnswer}
-use Rattle.scan.specs.declared.head.HeadAnswer.the-variants as H
 use Rattle.scan.specs.declared.body.Body.{Body}
 use Rattle.scan.specs.declared.body.BodyAnswer.{BodyAnswer}
-use Rattle.scan.specs.declared.body.BodyAnswer.the-variants as B
 use Rattle.scan.specs.declared.dwords.DataAnswer.{DataAnswer}
-use Rattle.scan.specs.declared.dwords.DataAnswer.the-variants as D
 use Rattle.scan.specs.declared.Answer.{Answer}
 use Rattle.scan.specs.declared.Answer.the-variants as A
-use Rattle.scan.specs.Frame.{frameOf}
-use Rattle.scan.specs.Head.{headOf}
-use Rattle.scan.specs.Body.{bodyOf}
-use Rattle.scan.specs.Dwords.{payloadData, orEmpty, dataAnswer}
+use Rattle.scan.specs.Frame.{frameTold, frameOf}
+use Rattle.scan.specs.Head.{headTold, headOf}
+use Rattle.scan.specs.Body.{bodyTold, bodyOf}
+use Rattle.scan.specs.Dwords.{payloadData, dataTold, orEmpty, dataAnswer}
 
 -- header and payload of a line whose last colon stands at a place, and where the header starts
 abbrev pub headerOf : List ℕ → ℕ → List ℕ
@@ -61,37 +59,37 @@ entryOf start size head body dwords =
       dwords = dwords;
     }
 
+-- ---- the stages, each going on with what the one before tells
+
 -- with the dwords
-unfoldable pub withData : List ℕ → ℕ → Head → Body → DataAnswer → Answer
-withData header start head body (D.Got n) = A.Entry (entryOf start (length header) head body n)
-withData header start head body (D.Refused k) = A.Refused k
+unfoldable pub withData : List ℕ → ℕ → Head → Body → DataAnswer → Told Entry
+withData header start head body got = andThen (dataTold got) (λ n. is (entryOf start (length header) head body n))
 
 -- with the payload
-unfoldable pub withBody : List ℕ → ℕ → Head → List ℕ → ℕ → BodyAnswer → Answer
-withBody header start head payload room (B.Got body) = withData header start head body (dataAnswer payload room)
-withBody header start head payload room (B.Refused k) = A.Refused k
+unfoldable pub withBody : List ℕ → ℕ → Head → List ℕ → ℕ → BodyAnswer → Told Entry
+withBody header start head payload room got =
+    andThen (bodyTold got) (λ body. withData header start head body (dataAnswer payload room))
 
 -- header and payload, given what the header says
-unfoldable pub payloadAnswer : List ℕ → ℕ → Head → List ℕ → ℕ → Answer
+unfoldable pub payloadAnswer : List ℕ → ℕ → Head → List ℕ → ℕ → Told Entry
 payloadAnswer header start head payload room =
     withBody header start head payload room (bodyOf payload (drop (head .function) header))
 
 -- with the header
-unfoldable pub withHead : List ℕ → ℕ → ℕ → HeadAnswer → Answer
-withHead t colon room (H.Got head) = payloadAnswer (headerOf t colon) (startOf t colon) head (payloadOf t colon) room
-withHead t colon room (H.Refused k) = A.Refused k
+unfoldable pub withHead : List ℕ → ℕ → ℕ → HeadAnswer → Told Entry
+withHead t colon room got =
+    andThen (headTold got) (λ head. payloadAnswer (headerOf t colon) (startOf t colon) head (payloadOf t colon) room)
 
 -- a line parted at a colon
-unfoldable pub partedAnswer : List ℕ → ℕ → ℕ → Answer
+unfoldable pub partedAnswer : List ℕ → ℕ → ℕ → Told Entry
 partedAnswer t colon room = withHead t colon room (headOf (headerOf t colon))
 
 -- with the frame
-unfoldable pub withFrame : List ℕ → ℕ → FrameAnswer → Answer
-withFrame t room (F.Colon k) = partedAnswer t k room
-withFrame t room (F.Refused k) = A.Refused k
+unfoldable pub withFrame : List ℕ → ℕ → FrameAnswer → Told Entry
+withFrame t room got = andThen (frameTold got) (λ colon. partedAnswer t colon room)
 
--- the reading of a line, given the number of slots
-unfoldable pub parseOf : List ℕ → ℕ → Answer
+-- what is told of a line, given the number of slots: the first number that applies, else the entry
+unfoldable pub parseOf : List ℕ → ℕ → Told Entry
 parseOf t room = withFrame t room (frameOf t)
 
 -- the dwords that a line would hand over
@@ -102,27 +100,30 @@ dwordsBy t (F.Refused k) = []
 unfoldable pub lineDwords : List ℕ → List ℕ
 lineDwords t = dwordsBy t (frameOf t)
 
--- the slots by the answer: success writes the dwords from the first and no others, a refusal none
-unfoldable pub slotsBy : Answer → List ℕ → List ℕ → List ℕ
-slotsBy (A.Entry e) ds out = filled ds out
-slotsBy (A.Refused k) ds out = out
+-- ---- what is promised
+
+-- what each case of an answer tells: the entry, or document 01's number
+abbrev pub answerTold : Answer → Told Entry
+answerTold (A.Entry e) = is e
+answerTold (A.Refused k) = refused k
+
+-- the slots by what is told: success writes the dwords from the first and no others, a refusal none
+unfoldable pub slotsBy : Told Entry → List ℕ → List ℕ → List ℕ
+slotsBy (is e) ds out = filled ds out
+slotsBy absent ds out = out
+slotsBy (refused k) ds out = out
 
 -- the answer, and each slot
 pub record Parsed (t out exit : List ℕ) (r : Answer) : Type 0 where
-  pub answer : r ≡ parseOf t (length out)
-  pub slots : exit ≡ slotsBy r (lineDwords t) out
+  pub answer : answerTold r ≡ parseOf t (length out)
+  pub slots : exit ≡ slotsBy (answerTold r) (lineDwords t) out
 
 -- the same of a line parted at a colon
 pub record PartedRead (t : List ℕ) (colon : ℕ) (out exit : List ℕ) (r : Answer) : Type 0 where
-  pub answer : r ≡ partedAnswer t colon (length out)
-  pub slots : exit ≡ slotsBy r (orEmpty (payloadData (payloadOf t colon))) out
+  pub answer : answerTold r ≡ partedAnswer t colon (length out)
+  pub slots : exit ≡ slotsBy (answerTold r) (orEmpty (payloadData (payloadOf t colon))) out
 
 -- the same of a header that was read and a payload
 pub record PayloadRead (header : List ℕ) (start : ℕ) (head : Head) (payload out exit : List ℕ) (r : Answer) : Type 0 where
-  pub answer : r ≡ payloadAnswer header start head payload (length out)
-  pub slots : exit ≡ slotsBy r (orEmpty (payloadData payload)) out
-
--- document 01's number of an answer, 0 for an entry
-unfoldable pub numberOfAnswer : Answer → ℕ
-numberOfAnswer (A.Entry e) = 0
-numberOfAnswer (A.Refused k) = k
+  pub answer : answerTold r ≡ payloadAnswer header start head payload (length out)
+  pub slots : exit ≡ slotsBy (answerTold r) (orEmpty (payloadData payload)) out

@@ -6,4 +6,5 @@ pub mod OwnParts
 pub mod Texts
 pub mod Numbers
 pub mod Decimals
+pub mod Told
 pub mod Cases

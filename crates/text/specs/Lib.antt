@@ -1,4 +1,4 @@
--- What the contracts of `text` cite: classes, places, runs, equal texts, numbers, and quoted texts for worked examples.
+-- What the contracts of `text` cite: classes, places, runs, equal texts, numbers, and quoted texts for worked examples; and what a call tells, for all crates.
 pub mod Class
 pub mod Place
 pub mod Run
@@ -7,3 +7,4 @@ pub mod Same
 pub mod Number
 pub mod Decimal
 pub mod Quote
+pub mod Told

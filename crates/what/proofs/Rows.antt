@@ -4,6 +4,7 @@ use mathlib.Core.Path.{_≡_, ap}
 use mathlib.Core.List.{List, [], _∷_, _++_}
 use native.Mathlib.Omega.{arith}
 use lib.ListN.{length, take}
+use Rattle.text.specs.Told.{Told}
 use Rattle.text.specs.Decimal.{decimalText}
 use Rattle.text.specs.Quote.{bytes}
 use Rattle.tlv.specs.Number.{Bytes}
@@ -12,17 +13,17 @@ use Rattle.listing_rows.specs.Rows.{Put}
 use Rattle.listing_rows.proofs.Putting.{put-whole, put-then, put-size, word-number, word-length, newline-put}
 use Rattle.intake.specs.declared.What.{What}
 use Rattle.intake.specs.declared.What.the-variants as W
-use Rattle.intake.specs.What.{whatOf}
+use Rattle.intake.specs.What.{Grammar, whatTold, whatOf}
 use Rattle.intake.proofs.FirstBytes.{first-bytes-tell}
 use Rattle.what.specs.Row.{neitherRow, whatRow}
 
 -- the row of a text that belongs, from its word
 module _ {w : What} {out exit : List ℕ} {r : ℕ} (room : 32 ≤ length out) where
-  pub record-row : w ≡ W.Record → Placed out 0 (bytes "record" ++ (10 ∷ [])) exit r → Put out 0 (whatRow w) exit r
+  pub record-row : w ≡ W.Record → Placed out 0 (bytes "record" ++ (10 ∷ [])) exit r → Put out 0 (whatRow (whatTold w)) exit r
   unfolding whatRow
   record-row e p = rw e (put-whole (omega arith) p)
 
-  pub line-row : w ≡ W.Line → Placed out 0 (bytes "line" ++ (10 ∷ [])) exit r → Put out 0 (whatRow w) exit r
+  pub line-row : w ≡ W.Line → Placed out 0 (bytes "line" ++ (10 ∷ [])) exit r → Put out 0 (whatRow (whatTold w)) exit r
   unfolding whatRow
   line-row e p = rw e (put-whole (omega arith) p)
 
@@ -34,12 +35,12 @@ neither-row k {out} room x y z =
     let p = word-number k {out = out} {word = bytes "neither "} (omega arith) x y in
     put-then p (newline-put (omega (arith, p .place, put-size p, word-length (bytes "neither ") k)) z)
 
-pub outside-row : {w : What} {k : ℕ} {out exit : List ℕ} {r : ℕ} → w ≡ W.Neither k → Put out 0 (neitherRow k) exit r → Put out 0 (whatRow w) exit r
+pub outside-row : {w : What} {k : ℕ} {out exit : List ℕ} {r : ℕ} → w ≡ W.Neither k → Put out 0 (neitherRow k) exit r → Put out 0 (whatRow (whatTold w)) exit r
 unfolding whatRow
 outside-row e p = rw e p
 
 -- the row of the answer is that of the text
-pub answer-row : (t : List ℕ) {w : What} {out exit : List ℕ} {r : ℕ} → w ≡ whatOf t → Put out 0 (whatRow w) exit r → Put out 0 (whatRow (whatOf t)) exit r
+pub answer-row : (t : List ℕ) {told : Told Grammar} {out exit : List ℕ} {r : ℕ} → told ≡ whatOf t → Put out 0 (whatRow told) exit r → Put out 0 (whatRow (whatOf t)) exit r
 answer-row t e p = rw e at p
 
 -- the row of the first 65,539 bytes is that of the whole text

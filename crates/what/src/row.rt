@@ -6,7 +6,7 @@ use print::put::put_decimal;
 ghost use Prim.Native.Nat.{_≤_};
 ghost use lib.ListN.{length};
 ghost use Rattle.listing_rows.specs.Rows.{Put};
-ghost use Rattle.intake.specs.What.{whatOf};
+ghost use Rattle.intake.specs.What.{whatTold, whatOf};
 ghost use Rattle.what.specs.Row.{neitherRow, whatRow};
 
 pub fn put_answer(out: &mut [u8], text: &[u8]) -> usize
@@ -18,7 +18,7 @@ pub fn put_answer(out: &mut [u8], text: &[u8]) -> usize
 
 fn put_what(out: &mut [u8], what: What) -> usize
     requires { ⌜ 32 ≤ length (now out) ⌝ }
-    ensures { λ r. ⌜ Put (now (out .entry)) 0 (whatRow what) (now (out .exit)) r ⌝ }
+    ensures { λ r. ⌜ Put (now (out .entry)) 0 (whatRow (whatTold what)) (now (out .exit)) r ⌝ }
 {
     match what {
         What::Record => put(out, 0, b"record\n"),

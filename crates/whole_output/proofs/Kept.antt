@@ -11,7 +11,6 @@ use Rattle.text.proofs.Places.{by-order}
 use Rattle.tlv.specs.Number.{Bytes}
 use Rattle.tlv.specs.Grammar.{All}
 use Rattle.tlv.proofs.Places.{bytes-take}
-use Rattle.scan.specs.declared.Answer.the-variants as A
 use Rattle.scan.specs.Parse.{parseOf}
 use Rattle.record.specs.Reading.{readOf}
 use Rattle.intake.specs.Intake.{startsA1}

@@ -6,35 +6,30 @@ use mathlib.Core.Bool.{Bool, true, false, cond, _&&_}
 use mathlib.Core.List.{List, [], _∷_, _++_}
 use mathlib.Core.Logic.{_↔_}
 use native.Mathlib.Omega.{arith}
-use borrow.Author.Tests.{eq-eqb, eqb-true, ne-eqb, le-leb, leb-true}
+use borrow.Author.Tests.{eq-eqb, eqb-true, le-leb, leb-true}
 use lib.Dec.{leb, eqb}
 use lib.ListN.{length, getD, length-append, replicate, length-replicate}
+use Rattle.text.specs.Told as T
 use Rattle.text.proofs.Places.{clash}
 use Rattle.tlv.specs.Number.{Bytes}
 use Rattle.tlv.proofs.Fields.{Found, two-bytes, found-field, field-found, field-is, field-all}
 use Rattle.entry.specs.declared.Entry.{Entry}
 use Rattle.entry.specs.Entry.{EntryValue, valueOf}
-use Rattle.scan.specs.declared.Answer.{Answer}
-use Rattle.scan.specs.declared.Answer.the-variants as A
 use Rattle.scan.specs.Parse.{parseOf, lineDwords, slotsBy}
 use Rattle.scan.specs.Line.{Line, Applies}
 use Rattle.scan.proofs.Theorems.{one-line-reading, line-entry-is, line-entry-all, line-number-exactly, Handed, parsed-entry}
-use Rattle.record.specs.declared.Answer as Record
-use Rattle.record.specs.declared.Answer.the-variants as R
 use Rattle.record.specs.Grammar.{recordBytes, IsRecord}
-use Rattle.record.specs.Conditions.{Framed, Breaks, unframed}
+use Rattle.record.specs.Conditions.{Framed, Breaks, unframed, breaks}
 use Rattle.record.specs.Reading.{over, dwordsOf, readOf}
-use Rattle.record.proofs.Numbers.{number-exactly}
-use Rattle.record.proofs.Records.{Accepts, record-accepted-exactly, accepted-is-record}
+use Rattle.record.proofs.Records.{Accepts, record-accepted-exactly, accepted-is-record, record-refused-exactly}
 use Rattle.writer.proofs.Puts.{part-length}
-use Rattle.intake.specs.Intake as Intake
-use Rattle.intake.proofs.WhatItIs.{refused-record, record-number-range}
+use Rattle.intake.proofs.WhatItIs.{refused-record, line-never-none, record-never-none}
 use Rattle.framing.specs.declared.Framing.{Framing}
 use Rattle.framing.specs.declared.Framing.the-variants.{Records}
 use Rattle.framing.specs.Units.{statedSize, isWhole, Units, unitsOf}
 use Rattle.framing.proofs.OneList.{units-are}
 use Rattle.filters.specs.declared.row.Seen.the-variants as S
-use Rattle.filters.specs.Texts.{fromLine, seenLine, fromRecord, seenRecord, recordBy, recordOf}
+use Rattle.filters.specs.Texts.{seenBy, seenLine, seenRecord, recordBy, recordOf}
 use Rattle.whole_output.specs.Meaning.{Tells, TextsMean}
 
 -- slots enough for any entry
@@ -48,15 +43,15 @@ slots-256 = length-replicate {A = ℕ} 256 0
 
 module _ (u : List ℕ) where
   -- an entry's kind and count are those of what the line says
-  line-tells : (e : Entry) → parseOf u 256 ≡ A.Entry e → Tells (Line u) (e .kind) (e .dwords)
+  line-tells : (e : Entry) → parseOf u 256 ≡ T.is e → Tells (Line u) (e .kind) (e .dwords)
   unfolding valueOf
   line-tells e q =
-      let h : Handed u slots (slotsBy (A.Entry e) (lineDwords u) slots) e = parsed-entry u slots (record { answer = rw slots-256 (sym q); slots = refl }) in
+      let h : Handed u slots (slotsBy (T.is e) (lineDwords u) slots) e = parsed-entry u slots (record { answer = rw slots-256 (sym q); slots = refl }) in
       record { value = _; says = h .line; kind-is = refl; dwords-are = sym (h .count) }
 
   -- reading a line gives its kind and count
   pub line-seen : (v : EntryValue) → Line u v → seenLine u ≡ S.Entry (v .kind) (length (v .dwords))
-  unfolding seenLine fromLine
+  unfolding seenLine seenBy
   line-seen v a =
       let f = line-entry-all u a in
       let t = line-tells (f .0) (f .1) in
@@ -64,23 +59,25 @@ module _ (u : List ℕ) where
       rw (f .1, ← t .kind-is, ← t .dwords-are, same)
 
   pub line-row : (kind dwords : ℕ) → (seenLine u ≡ S.Entry kind dwords) ↔ Tells (Line u) kind dwords
-  unfolding seenLine fromLine
+  unfolding seenLine seenBy
   line-row kind dwords = (λ x. is (parseOf u 256) refl x, λ t. line-seen (t .value) (t .says) ∙ rw (t .kind-is, t .dwords-are))
     where
-      is : (r : Answer) → parseOf u 256 ≡ r → fromLine r ≡ S.Entry kind dwords → Tells (Line u) kind dwords
-      is (A.Entry e) q x =
+      is : (r : T.Told Entry) → parseOf u 256 ≡ r → seenBy r ≡ S.Entry kind dwords → Tells (Line u) kind dwords
+      is (T.is e) q x =
           let a : e .kind ≡ kind = cc in
           let b : e .dwords ≡ dwords = cc in
           rw (a, b) at (line-tells e q)
-      is (A.Refused k) q x = absurd (let z : _≡_ {A = ℕ} 0 1 = cc in omega arith)
+      is T.absent q x = absurd (let z : _≡_ {A = ℕ} 0 1 = cc in omega arith)
+      is (T.refused k) q x = absurd (let z : _≡_ {A = ℕ} 0 1 = cc in omega arith)
 
   pub line-refused : (k : ℕ) → (seenLine u ≡ S.Refused k) ↔ Applies u 256 k
-  unfolding seenLine fromLine
+  unfolding seenLine seenBy
   line-refused k = (λ x. is (parseOf u 256) refl x, λ a. rw (line-number-exactly u 256 k .1 a))
     where
-      is : (r : Answer) → parseOf u 256 ≡ r → fromLine r ≡ S.Refused k → Applies u 256 k
-      is (A.Entry e) q x = absurd (let z : _≡_ {A = ℕ} 0 1 = cc in omega arith)
-      is (A.Refused j) q x = let same : j ≡ k = cc in line-number-exactly u 256 k .0 (q ∙ ap A.Refused same)
+      is : (r : T.Told Entry) → parseOf u 256 ≡ r → seenBy r ≡ S.Refused k → Applies u 256 k
+      is (T.is e) q x = absurd (let z : _≡_ {A = ℕ} 0 1 = cc in omega arith)
+      is T.absent q x = absurd (line-never-none u 256 q)
+      is (T.refused j) q x = let same : j ≡ k = cc in line-number-exactly u 256 k .0 (q ∙ ap T.refused same)
 
   pub line-record : (v : EntryValue) → Line u v → recordOf u ≡ recordBytes v
   unfolding recordOf recordBy
@@ -90,9 +87,10 @@ module _ (u : List ℕ) where
   unfolding recordOf recordBy
   no-line-no-record none = go (parseOf u 256) refl
     where
-      go : (r : Answer) → parseOf u 256 ≡ r → recordBy u r ≡ []
-      go (A.Entry e) q = absurd (none _ (line-entry-is u 256 q))
-      go (A.Refused k) q = refl
+      go : (r : T.Told Entry) → parseOf u 256 ≡ r → recordBy u r ≡ []
+      go (T.is e) q = absurd (none _ (line-entry-is u 256 q))
+      go T.absent q = refl
+      go (T.refused k) q = refl
 
 -- ---- records
 
@@ -102,44 +100,42 @@ module _ (u : List ℕ) (bytes : Bytes u) where
 
   -- reading a record gives its kind and count
   pub record-seen : (v : EntryValue) → IsRecord u v → seenRecord u ≡ S.Entry (v .kind) (length (v .dwords))
-  unfolding seenRecord fromRecord valueOf
+  unfolding seenRecord seenBy valueOf
   record-seen v r =
       let a = accepts v r in
-      let q : readOf u 256 ≡ R.Entry (a .entry) = rw slots-256 at (a .answer) in
+      let q : readOf u 256 ≡ T.is (a .entry) = rw slots-256 at (a .answer) in
       let kind : a .entry .kind ≡ v .kind = ap (λ (w : EntryValue). w .kind) (a .value) in
       let count : a .entry .dwords ≡ length (v .dwords) = sym (part-length (over (dwordsOf u) slots) 0 (a .entry .dwords) (omega (arith, a .lies .dwords))) ∙ ap (λ (w : EntryValue). length (w .dwords)) (a .value) in
       rw (q, kind, count)
 
   pub record-row : (kind dwords : ℕ) → (seenRecord u ≡ S.Entry kind dwords) ↔ Tells (IsRecord u) kind dwords
-  unfolding seenRecord fromRecord
+  unfolding seenRecord seenBy
   record-row kind dwords = (λ x. is (readOf u 256) refl x, λ t. record-seen (t .value) (t .says) ∙ rw (t .kind-is, t .dwords-are))
     where
-      is : (r : Record.Answer) → readOf u 256 ≡ r → fromRecord r ≡ S.Entry kind dwords → Tells (IsRecord u) kind dwords
-      is (R.Entry e) q x =
+      is : (r : T.Told Entry) → readOf u 256 ≡ r → seenBy r ≡ S.Entry kind dwords → Tells (IsRecord u) kind dwords
+      is (T.is e) q x =
           let says = accepted-is-record u bytes 256 e q in
-          let same : fromRecord (readOf u 256) ≡ S.Entry kind dwords = rw q x in
+          let same : seenBy (readOf u 256) ≡ S.Entry kind dwords = rw q x in
           let seen = sym (record-seen _ says) ∙ same in
           record { value = _; says = says; kind-is = cc; dwords-are = cc }
-      is (R.Refused k) q x = absurd (let z : _≡_ {A = ℕ} 0 1 = cc in omega arith)
+      is T.absent q x = absurd (let z : _≡_ {A = ℕ} 0 1 = cc in omega arith)
+      is (T.refused k) q x = absurd (let z : _≡_ {A = ℕ} 0 1 = cc in omega arith)
 
   -- the record's number, as reading answers it
-  read-breaks : (k : ℕ) → readOf u 256 ≡ R.Refused k → Breaks u k
-  unfolding Intake.fromRecord
-  read-breaks k q = refused-record u bytes k (ap Intake.fromRecord q)
+  read-breaks : (k : ℕ) → readOf u 256 ≡ T.refused k → Breaks u k
+  read-breaks k q = refused-record u bytes k q
 
-  breaks-read : (k : ℕ) → Breaks u k → readOf u 256 ≡ R.Refused k
-  unfolding readOf
-  breaks-read k b =
-      let some : k ≡ 0 → ⊥ = λ z. omega (arith, z, record-number-range u k b .0) in
-      rw (number-exactly u bytes k some .1 b, ne-eqb k 0 some)
+  breaks-read : (k : ℕ) → Breaks u k → readOf u 256 ≡ T.refused k
+  breaks-read k b = record-refused-exactly u bytes 256 k .1 (breaks b)
 
   pub record-refused : (k : ℕ) → (seenRecord u ≡ S.Refused k) ↔ Breaks u k
-  unfolding seenRecord fromRecord
+  unfolding seenRecord seenBy
   record-refused k = (λ x. is (readOf u 256) refl x, λ b. rw (breaks-read k b))
     where
-      is : (r : Record.Answer) → readOf u 256 ≡ r → fromRecord r ≡ S.Refused k → Breaks u k
-      is (R.Entry e) q x = absurd (let z : _≡_ {A = ℕ} 0 1 = cc in omega arith)
-      is (R.Refused j) q x = let same : j ≡ k = cc in read-breaks k (q ∙ ap R.Refused same)
+      is : (r : T.Told Entry) → readOf u 256 ≡ r → seenBy r ≡ S.Refused k → Breaks u k
+      is (T.is e) q x = absurd (let z : _≡_ {A = ℕ} 0 1 = cc in omega arith)
+      is T.absent q x = absurd (record-never-none u 256 q)
+      is (T.refused j) q x = let same : j ≡ k = cc in read-breaks k (q ∙ ap T.refused same)
 
   -- ---- frames
 

@@ -14,7 +14,7 @@ use Rattle.listing_rows.specs.Rows.{wordAndNumber, refusedRow, entryRow, totals
 use Rattle.framing.specs.declared.Framing.the-variants.{Lines}
 use Rattle.framing.specs.Units.{isWhole, closed, unitsFrom, unitsOf}
 use Rattle.filters.specs.declared.row.Seen.the-variants as S
-use Rattle.filters.specs.Texts.{fromLine, seenLine, rowOf, isEntry}
+use Rattle.filters.specs.Texts.{seenBy, seenLine, rowOf, isEntry}
 use Rattle.whole_output.specs.Output.{rowsFrom, entriesIn, listed, listingOf}
 
 -- a quoted line with its newline
@@ -26,7 +26,7 @@ fwdLine = line " fwd-7 [002] d..1. 12.000345: tb_tx: type=TB_CFG_PKG_READ, size=
 
 -- one word for all that the two refused lines compute with, and one for the rows
 reads : Unit {0}
-unfolding foundBelow firstOf firstIn firstPlace lastPlace byteBefore lastByte idle firstHigh frameColon frameAscii frameOf withFrame parseOf fromLine seenLine
+unfolding foundBelow firstOf firstIn firstPlace lastPlace byteBefore lastByte idle firstHigh frameColon frameAscii frameOf withFrame parseOf seenBy seenLine
 reads = tt
 
 prints : Unit {0}
@@ -38,7 +38,7 @@ unfolding reads
 comment-seen = refl
 
 fwd-seen : seenLine fwdLine ≡ S.Entry 1 3
-unfolding seenLine fromLine
+unfolding seenLine seenBy
 fwd-seen = rw (fwd .entry)
 
 nonsense-seen : seenLine (line "nonsense") ≡ S.Refused 4

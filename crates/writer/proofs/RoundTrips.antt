@@ -1,17 +1,19 @@
--- The promises of writing: number 37 is the ranges and the parts; what is written reads back to the same entry; every record is what writing its entry
--- gives; a refusal changes nothing. Assumes nothing.
+-- The promises of writing: 37 and 36 are told exactly where their conditions hold; what is written reads back to the same entry; every record is what writing its entry
+-- gives; a refusal changes nothing; no second answer. Assumes nothing.
 use Prim.Native.Nat.{ℕ, suc, _+_, _-_, _^_, _≤_, _<_}
 use mathlib.Core.Path.{_≡_, _∙_, sym, ap, refl}
-use mathlib.Core.Bool.{Bool, true, false, cond}
+use mathlib.Core.Bool.{Bool, true, false, cond, false≢true}
 use mathlib.Core.List.{List, [], _∷_}
 use mathlib.Core.Logic.{_↔_}
 use native.Mathlib.Omega.{arith}
 use native.Mathlib.Decide.{decLt}
-use borrow.Author.Tests.{le-leb, leb-true}
+use borrow.Author.Tests.{le-leb, lt-leb, leb-true, leb-false}
 use lib.Dec.{leb}
 use lib.ListN.{length, getD, take, drop, length-take, List·getD-eq-default}
 use lib.Seq.{take-append-seam, getD-take}
 use Rattle.text.specs.Class.{isWord}
+use Rattle.text.specs.Told as T
+use Rattle.text.proofs.Told.{by-cases, fixed-by-told}
 use Rattle.tlv.specs.Number.{Bytes as AreBytes}
 use Rattle.tlv.specs.Grammar.{All}
 use Rattle.tlv.specs.Reading.{between}
@@ -19,7 +21,6 @@ use Rattle.tlv.proofs.Places.{between-is, bytes-take}
 use Rattle.entry.specs.declared.Entry.{Entry}
 use Rattle.entry.specs.Entry.{EntryValue, partOf, valueOf, Lies, SameEntry}
 use Rattle.entry.proofs.Parts.{part-in}
-use Rattle.record.specs.declared.Answer.the-variants as A
 use Rattle.record.specs.declared.rule.Letters.the-variants as L
 use Rattle.record.specs.Grammar.{recordBytes, Ranged, IsRecord}
 use Rattle.record.specs.Rule.{isLetter}
@@ -32,7 +33,8 @@ use Rattle.writer.specs.declared.Written.{Written}
 use Rattle.writer.specs.declared.Written.the-variants.{Bytes, Refused}
 use Rattle.writer.specs.Ranges.{fitsPart, fitsTexts, fitsNumbers, writable}
 use Rattle.writer.specs.Typed.{Typed}
-use Rattle.writer.specs.Writing.{bytesOf, writeOf, bufferBy, Writing}
+use Rattle.writer.specs.Writing.{bytesOf, writtenTold, writeOf, bufferBy, Writing}
+use Rattle.writer.specs.Conditions.{Writable, Refuses, not-writable, short-buffer}
 use Rattle.writer.proofs.Puts.{part-length}
 use Rattle.writer.proofs.Writes.{Fits, fits-all}
 
@@ -58,12 +60,7 @@ below-part l n h b =
     ]))
 
 module _ (text : List ℕ) (e : Entry) (dwords : List ℕ) where
-  -- number 37 is not due: the entry's parts lie in what is lent, and it keeps the record's ranges
-  pub record Writable : Type 0 where
-    pub lies : Lies e text dwords
-    pub ranged : Ranged (valueOf e text dwords)
-
-  writable-is : Typed e dwords → writable text e dwords ≡ true → Writable
+  writable-is : Typed e dwords → writable text e dwords ≡ true → Writable text e dwords
   unfolding valueOf
   writable-is t h =
       let f : Fits text e dwords = fits-all text e dwords h in
@@ -113,7 +110,7 @@ module _ (text : List ℕ) (e : Entry) (dwords : List ℕ) where
   part-fits ok P g at n h some letters =
       rw (le-leb (at + n) (length text) h, part-between text at n h) (fits-text-all ok P g (partOf text at n) some letters)
 
-  writable-all : Writable → writable text e dwords ≡ true
+  writable-all : Writable text e dwords → writable text e dwords ≡ true
   unfolding writable fitsTexts fitsNumbers valueOf
   writable-all w =
       let l = w .lies in
@@ -141,18 +138,26 @@ module _ (text : List ℕ) (e : Entry) (dwords : List ℕ) where
       )
 
   -- number 37 is due exactly if the entry breaks the ranges or its parts lie outside what is lent
-  pub writable-exactly : Typed e dwords → (writable text e dwords ≡ true) ↔ Writable
+  pub writable-exactly : Typed e dwords → (writable text e dwords ≡ true) ↔ Writable text e dwords
   writable-exactly t = (writable-is t, writable-all)
 
+-- two answers that tell the same are the same
+pub one-written : (a b : Written) → writtenTold a ≡ writtenTold b → a ≡ b
+one-written = fixed-by-told writtenTold (by-cases Bytes (Refused 0) Refused) same
+  where
+    same : (a : Written) → by-cases Bytes (Refused 0) Refused (writtenTold a) ≡ a
+    same (Bytes n) = refl
+    same (Refused k) = refl
+
 -- an answer that is bytes: the entry was writable, and the bytes are the record's
-bytes-answered : (text : List ℕ) (e : Entry) (dwords : List ℕ) (room n : ℕ) → writeOf text e dwords room ≡ Bytes n
+bytes-answered : (text : List ℕ) (e : Entry) (dwords : List ℕ) (room n : ℕ) → writeOf text e dwords room ≡ T.is n
     → (writable text e dwords ≡ true) × (length (bytesOf text e dwords) ≤ room) × (length (bytesOf text e dwords) ≡ n)
 unfolding writeOf
 bytes-answered text e dwords room n h =
     go (writable text e dwords) (leb (length (bytesOf text e dwords)) room) refl refl h
   where
     go : (x y : Bool) → writable text e dwords ≡ x → leb (length (bytesOf text e dwords)) room ≡ y
-        → cond x (cond y (Bytes (length (bytesOf text e dwords))) (Refused 36)) (Refused 37) ≡ Bytes n
+        → cond x (cond y (T.is (length (bytesOf text e dwords))) (T.refused 36)) (T.refused 37) ≡ T.is n
         → (writable text e dwords ≡ true) × (length (bytesOf text e dwords) ≤ room) × (length (bytesOf text e dwords) ≡ n)
     go false y a b h = absurd (let z : _≡_ {A = ℕ} 0 1 = cc in omega arith)
     go true false a b h = absurd (let z : _≡_ {A = ℕ} 0 1 = cc in omega arith)
@@ -174,7 +179,7 @@ written-is-record text e dwords out n left t w =
 -- what was written reads back, with 256 slots, to the same entry
 pub record ReadsBack (text : List ℕ) (e : Entry) (dwords t slots : List ℕ) : Type 0 where
   pub entry : Entry
-  pub answer : readOf t (length slots) ≡ A.Entry entry
+  pub answer : readOf t (length slots) ≡ T.is entry
   pub same : SameEntry e text dwords entry t (over (dwordsOf t) slots)
 
 pub record-reads-back : (text : List ℕ) (e : Entry) (dwords out : List ℕ) (n : ℕ) (left slots : List ℕ)
@@ -196,7 +201,7 @@ record-reads-back text e dwords out n left slots t bytes w room =
 -- gives the record's bytes again
 pub record-writes-back : (t slots : List ℕ) → AreBytes t → 256 ≤ length slots → (v : EntryValue) (a : Accepts t slots v)
     → (room : ℕ) → 5227 ≤ room
-    → (writeOf t (a .entry) (over (dwordsOf t) slots) room ≡ Bytes (length t)) × (bytesOf t (a .entry) (over (dwordsOf t) slots) ≡ t)
+    → (writeOf t (a .entry) (over (dwordsOf t) slots) room ≡ T.is (length t)) × (bytesOf t (a .entry) (over (dwordsOf t) slots) ≡ t)
 unfolding writeOf bytesOf
 record-writes-back t slots bytes enough v a room h =
     let r : IsRecord t v = record-accepted-exactly t bytes slots enough v .0 a in
@@ -215,8 +220,9 @@ unfolding writeOf bytesOf bufferBy
 writable-is-written text e dwords out {r} {left} w room c =
     let short : length (recordBytes (valueOf e text dwords)) ≤ 5227 =
     record-at-most-5227 (recordBytes (valueOf e text dwords)) (valueOf e text dwords) (record { ranged = w .ranged; bytes = refl }) in
-    let answer : r ≡ Bytes (length (recordBytes (valueOf e text dwords))) =
+    let told : writtenTold r ≡ T.is (length (recordBytes (valueOf e text dwords))) =
     c .answer ∙ rw (writable-all text e dwords w, le-leb (length (recordBytes (valueOf e text dwords))) (length out) (omega (arith, short))) in
+    let answer : r ≡ Bytes (length (recordBytes (valueOf e text dwords))) = one-written r (Bytes (length (recordBytes (valueOf e text dwords)))) told in
     (answer, c .buffer ∙ rw answer)
 
 -- a refusal changes nothing
@@ -224,3 +230,55 @@ pub refused-writing-changes-nothing : (text : List ℕ) (e : Entry) (dwords out 
     → Writing text e dwords out (Refused k) left → left ≡ out
 unfolding bufferBy
 refused-writing-changes-nothing text e dwords out k left w = w .buffer
+
+-- 37 is told exactly if the entry breaks the record's ranges or its parts lie outside what is lent; 36 exactly if that is not so and the buffer is
+-- shorter than the record; no other number is
+pub write-refused-exactly : (text : List ℕ) (e : Entry) (dwords : List ℕ) → Typed e dwords → (room k : ℕ)
+    → (writeOf text e dwords room ≡ T.refused k) ↔ Refuses text e dwords room k
+unfolding writeOf bytesOf
+write-refused-exactly text e dwords typed room k = (is, all)
+  where
+    go : (x y : Bool) → writable text e dwords ≡ x → leb (length (recordBytes (valueOf e text dwords))) room ≡ y
+        → cond x (cond y (T.is (length (recordBytes (valueOf e text dwords)))) (T.refused 36)) (T.refused 37) ≡ T.refused k
+        → Refuses text e dwords room k
+    go false y a b h =
+        let number : 37 ≡ k = cc in
+        not-writable (sym number) (λ w. false≢true (sym a ∙ writable-all text e dwords w))
+    go true false a b h =
+        let number : 36 ≡ k = cc in
+        short-buffer (sym number) (writable-is text e dwords typed a) (omega (arith, leb-false (length (recordBytes (valueOf e text dwords))) room b))
+    go true true a b h = absurd (let z : _≡_ {A = ℕ} 0 1 = cc in omega arith)
+
+    is : cond (writable text e dwords)
+        (cond (leb (length (recordBytes (valueOf e text dwords))) room) (T.is (length (recordBytes (valueOf e text dwords)))) (T.refused 36))
+        (T.refused 37) ≡ T.refused k → Refuses text e dwords room k
+    is h = go (writable text e dwords) (leb (length (recordBytes (valueOf e text dwords))) room) refl refl h
+
+    refuses-37 : (x : Bool) → writable text e dwords ≡ x → (Writable text e dwords → ⊥) → writable text e dwords ≡ false
+    refuses-37 true a n = absurd (n (writable-is text e dwords typed a))
+    refuses-37 false a n = a
+
+    all : Refuses text e dwords room k → cond (writable text e dwords)
+        (cond (leb (length (recordBytes (valueOf e text dwords))) room) (T.is (length (recordBytes (valueOf e text dwords)))) (T.refused 36))
+        (T.refused 37) ≡ T.refused k
+    all (not-writable q n) = rw (refuses-37 (writable text e dwords) refl n, q)
+    all (short-buffer q w l) =
+        rw (writable-all text e dwords w, lt-leb (length (recordBytes (valueOf e text dwords))) room l, q)
+
+-- no second answer satisfies the contract, buffer included
+pub no-second-writing : (text : List ℕ) (e : Entry) (dwords out : List ℕ) {r s : Written} {left other : List ℕ}
+    → Writing text e dwords out r left → Writing text e dwords out s other → (r ≡ s) × (left ≡ other)
+no-second-writing text e dwords out {r} {s} a b =
+    let same : writtenTold r ≡ writtenTold s = a .answer ∙ sym (b .answer) in
+    (one-written r s same, a .buffer ∙ rw same (sym (b .buffer)))
+
+-- every call has an answer: some answer tells what is told
+pub some-written : (text : List ℕ) (e : Entry) (dwords : List ℕ) (room : ℕ) → (r : Written) × (writtenTold r ≡ writeOf text e dwords room)
+unfolding writeOf
+some-written text e dwords room = go (writable text e dwords) (leb (length (bytesOf text e dwords)) room)
+  where
+    go : (x y : Bool)
+        → (r : Written) × (writtenTold r ≡ cond x (cond y (T.is (length (bytesOf text e dwords))) (T.refused 36)) (T.refused 37))
+    go false y = (Refused 37, refl)
+    go true false = (Refused 36, refl)
+    go true true = (Bytes (length (bytesOf text e dwords)), refl)

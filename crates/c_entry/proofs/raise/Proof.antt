@@ -2,7 +2,7 @@
 use mathlib.Core.Path.{sym, _∙_, ap}
 use borrow.Author.Tests.{not-true, not-false}
 use Rattle.c_entry.specs.Flat.{raiseOf}
-use Rattle.c_entry.specs.declared.Raised.the-variants as R
+use Rattle.text.specs.Told.{is}
 use borrow.Author.Needs.{needs}
 use Rattle.c_entry.proofs.raise.Statement.{statement}
 use Rattle.c_entry.proofs.raise.Tie as tie
@@ -19,7 +19,7 @@ entry-of-requires c κs = search needs
 
 returns-2 : tie.Need-returns-2
 unfolding raiseOf
-returns-2 c = rw (sym (c .before .before .is-in-range .ensures) ∙ not-false _ (c .before .if1 .left)) (ap R.Entry (c .entry-of .ensures))
+returns-2 c = rw (sym (c .before .before .is-in-range .ensures) ∙ not-false _ (c .before .if1 .left)) (ap is (c .entry-of .ensures))
 
 pub raise-spec : {M : Type 1} → statement M
 raise-spec = tie.close (tie.spec is-in-range-requires returns entry-of-requires returns-2)

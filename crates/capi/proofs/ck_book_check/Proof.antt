@@ -1,5 +1,6 @@
 -- `ck_book_check` meets its contract, by cases. Assumes nothing.
-use mathlib.Core.Path.{sym, _∙_}
+use mathlib.Core.Path.{sym, ap, _∙_}
+use Rattle.book.specs.Reading.{checkTold}
 use borrow.Author.Needs.{needs}
 use Rattle.capi.proofs.ck_book_check.Statement.{statement}
 use Rattle.capi.proofs.ck_book_check.Tie as tie
@@ -14,10 +15,10 @@ enum-known-number : tie.Need-enum-known-number
 enum-known-number c = search needs
 
 returns : tie.Need-returns
-returns c = rw (sym (c .before .before .check .ensures) ∙ c .enum-told .given .1)
+returns c = rw (sym (c .before .before .check .ensures) ∙ ap checkTold (c .enum-told .given .1))
 
 returns-2 : tie.Need-returns-2
-returns-2 c = rw (sym (c .before .before .before .check .ensures) ∙ c .before .number .given .1)
+returns-2 c = rw (sym (c .before .before .before .check .ensures) ∙ ap checkTold (c .before .number .given .1))
 
 pub ck-book-check-spec : {M : Type 1} → statement M
 ck-book-check-spec =

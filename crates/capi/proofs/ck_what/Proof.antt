@@ -1,5 +1,6 @@
 -- `ck_what` meets its contract, by cases. Assumes nothing.
-use mathlib.Core.Path.{sym, _∙_}
+use mathlib.Core.Path.{sym, ap, _∙_}
+use Rattle.intake.specs.What.{whatTold}
 use borrow.Author.Needs.{needs}
 use Rattle.capi.specs.Calls.{whatBy}
 use Rattle.capi.proofs.ck_what.Statement.{statement}
@@ -19,15 +20,15 @@ enum-known-number c = search needs
 
 returns : tie.Need-returns
 unfolding whatBy
-returns c = rw (sym (c .before .before .what-is .ensures) ∙ c .enum-told .given .1)
+returns c = rw (sym (c .before .before .what-is .ensures) ∙ ap whatTold (c .enum-told .given .1))
 
 returns-2 : tie.Need-returns-2
 unfolding whatBy
-returns-2 c = rw (sym (c .before .before .what-is .ensures) ∙ c .enum-told2 .given .1)
+returns-2 c = rw (sym (c .before .before .what-is .ensures) ∙ ap whatTold (c .enum-told2 .given .1))
 
 returns-3 : tie.Need-returns-3
 unfolding whatBy
-returns-3 c = rw (sym (c .before .before .before .what-is .ensures) ∙ c .before .number .given .1)
+returns-3 c = rw (sym (c .before .before .before .what-is .ensures) ∙ ap whatTold (c .before .number .given .1))
 
 pub ck-what-spec : {M : Type 1} → statement M
 ck-what-spec =

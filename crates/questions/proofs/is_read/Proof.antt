@@ -3,7 +3,7 @@ use mathlib.Core.Path.{ap, _∙_}
 use Rattle.questions.proofs.Over.{number-first, no-number}
 use Rattle.questions.specs.Questions.{readOf}
 use Rattle.questions.specs.Described.{isRead}
-use Rattle.questions.specs.Answers.{is}
+use Rattle.text.specs.Told.{is}
 use borrow.Author.Needs.{needs}
 use Rattle.questions.proofs.is_read.Statement.{statement}
 use Rattle.questions.proofs.is_read.Tie as tie

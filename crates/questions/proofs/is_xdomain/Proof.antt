@@ -2,7 +2,7 @@
 use mathlib.Core.Path.{ap, _∙_}
 use Rattle.questions.proofs.Over.{number-first, no-number}
 use Rattle.questions.specs.Questions.{xdomainOf}
-use Rattle.questions.specs.Answers.{is}
+use Rattle.text.specs.Told.{is}
 use Rattle.packet.specs.Packet.{isXdomain}
 use borrow.Author.Needs.{needs}
 use Rattle.questions.proofs.is_xdomain.Statement.{statement}

@@ -3,7 +3,7 @@ use mathlib.Core.Path.{_∙_}
 use mathlib.Core.Path.{refl}
 use Rattle.questions.proofs.Over.{refused-first, answers-of}
 use Rattle.questions.specs.Questions.{uuidAnswer}
-use Rattle.questions.specs.Answers.{maybeUuid}
+use Rattle.packet.specs.Packet.{maybeUuid}
 use Rattle.packet.specs.Packet.{packetOf}
 use Rattle.packet.specs.declared.Packet.{Packet}
 use borrow.Author.Needs.{needs}

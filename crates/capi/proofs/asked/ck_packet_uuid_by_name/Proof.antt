@@ -1,7 +1,7 @@
 -- `capi::asked::ck_packet_uuid_by_name` meets its contract: the question's answer as a plain struct. Assumes nothing.
 use Rattle.book.specs.declared.Uuid.{Uuid}
 use mathlib.Core.Path.{_∙_, ap}
-use Rattle.questions.specs.Answers.{Told}
+use Rattle.text.specs.Told.{Told}
 use Rattle.capi.specs.Told.{uuidBy}
 use borrow.Author.Needs.{needs}
 use Rattle.capi.proofs.asked.ck_packet_uuid_by_name.Statement.{statement}

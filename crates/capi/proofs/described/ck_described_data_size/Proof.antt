@@ -1,7 +1,7 @@
 -- `capi::described::ck_described_data_size` meets its contract: the question's answer as a plain struct. Assumes nothing.
 use Prim.Native.Nat.{ℕ}
 use mathlib.Core.Path.{_∙_, ap}
-use Rattle.questions.specs.Answers.{Told}
+use Rattle.text.specs.Told.{Told}
 use Rattle.capi.specs.Told.{valueBy}
 use borrow.Author.Needs.{needs}
 use Rattle.capi.proofs.described.ck_described_data_size.Statement.{statement}

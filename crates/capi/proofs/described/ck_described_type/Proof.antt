@@ -1,7 +1,7 @@
 -- `capi::described::ck_described_type` meets its contract: the question's answer as a plain struct. Assumes nothing.
 use Rattle.questions.specs.declared.PacketType.{PacketType}
 use mathlib.Core.Path.{_∙_, ap}
-use Rattle.questions.specs.Answers.{Told}
+use Rattle.text.specs.Told.{Told}
 use Rattle.capi.specs.Told.{typeBy}
 use borrow.Author.Needs.{needs}
 use Rattle.capi.proofs.described.ck_described_type.Statement.{statement}

@@ -1,7 +1,8 @@
 -- `capi::packets::ck_read_packet` meets its contract: what the intake's packet call answers. Assumes nothing.
 use Rattle.capi.specs.Packets.{textBy}
 use Rattle.packet.specs.Packet.{placesOf, listBy}
-use Rattle.packet.specs.declared.Answer.{Answer}
+use Rattle.text.specs.Told.{Told}
+use Rattle.packet.specs.declared.Packet.{Packet}
 use Rattle.intake.specs.Intake.{takenDwords}
 use Rattle.intake.specs.Packets.{kindIn}
 use mathlib.Core.Path.{ap, _∙_}
@@ -25,8 +26,8 @@ returns : tie.Need-returns
 returns c =
     record {
       is = c .text-packet .ensures ∙ ap textBy (c .before .before .before .before .before .packet .ensures .answer);
-      slots-left = c .before .before .before .before .before .packet .ensures .slots-left ∙ ap (λ (r : Answer). listBy r (takenDwords (c .before .before .before .before .before .before .before .before .before .before .before .before .args .text .now)) (c .before .before .before .before .before .before .before .before .before .before .before .before .args .slots .now)) (c .before .before .before .before .before .packet .ensures .answer);
-      places-left = c .before .before .before .before .before .packet .ensures .places-left ∙ ap (λ (r : Answer). listBy r (placesOf (kindIn r) (c .before .before .before .before .before .before .before .before .before .before .before .before .args .book .now) (takenDwords (c .before .before .before .before .before .before .before .before .before .before .before .before .args .text .now))) (c .before .before .before .before .before .before .before .before .before .before .before .before .args .places .now)) (c .before .before .before .before .before .packet .ensures .answer);
+      slots-left = c .before .before .before .before .before .packet .ensures .slots-left ∙ ap (λ (r : Told Packet). listBy r (takenDwords (c .before .before .before .before .before .before .before .before .before .before .before .before .args .text .now)) (c .before .before .before .before .before .before .before .before .before .before .before .before .args .slots .now)) (c .before .before .before .before .before .packet .ensures .answer);
+      places-left = c .before .before .before .before .before .packet .ensures .places-left ∙ ap (λ (r : Told Packet). listBy r (placesOf (kindIn r) (c .before .before .before .before .before .before .before .before .before .before .before .before .args .book .now) (takenDwords (c .before .before .before .before .before .before .before .before .before .before .before .before .args .text .now))) (c .before .before .before .before .before .before .before .before .before .before .before .before .args .places .now)) (c .before .before .before .before .before .packet .ensures .answer);
     }
 
 pub ck-read-packet-spec : {M : Type 1} → statement M

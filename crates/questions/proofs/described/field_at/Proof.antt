@@ -1,7 +1,7 @@
 -- `questions::described::field_at` meets its contract: a field for each dword. Assumes nothing.
 use mathlib.Core.Path.{ap}
 use Rattle.questions.specs.Described.{fieldAt}
-use Rattle.questions.specs.Answers.{is}
+use Rattle.text.specs.Told.{is}
 use borrow.Author.Tests.{lt-ltb, le-ltb}
 use lib.ListN.{length}
 use borrow.Author.Needs.{needs}

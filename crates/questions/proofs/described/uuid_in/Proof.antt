@@ -1,7 +1,7 @@
 -- `questions::described::uuid_in` meets its contract: dwords without places and places without dwords name nothing. Assumes nothing.
 use mathlib.Core.Path.{sym, ap, _∙_}
 use Rattle.questions.proofs.Asking.{gathered-places, gathered-dwords}
-use Rattle.questions.specs.Answers.{maybeUuid}
+use Rattle.packet.specs.Packet.{maybeUuid}
 use Rattle.questions.specs.Described.{uuidIn}
 use lib.Seq.{length-take-le}
 use lib.ListN.{length}

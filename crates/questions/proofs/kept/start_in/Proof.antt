@@ -1,6 +1,6 @@
 -- `questions::kept::start_in` meets its contract, case by case. Assumes nothing.
 use mathlib.Core.Path.{sym, ap}
-use Rattle.questions.specs.Answers.{maybeWord}
+use Rattle.entry.specs.Entry.{maybeWord}
 use borrow.Author.Needs.{needs}
 use Rattle.questions.proofs.kept.start_in.Statement.{statement}
 use Rattle.questions.proofs.kept.start_in.Tie as tie

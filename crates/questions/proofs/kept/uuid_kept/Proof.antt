@@ -1,6 +1,6 @@
 -- `questions::kept::uuid_kept` meets its contract, case by case. Assumes nothing.
 use mathlib.Core.Path.{sym, ap}
-use Rattle.questions.specs.Answers.{maybeUuid}
+use Rattle.packet.specs.Packet.{maybeUuid}
 use borrow.Author.Needs.{needs}
 use Rattle.questions.proofs.kept.uuid_kept.Statement.{statement}
 use Rattle.questions.proofs.kept.uuid_kept.Tie as tie

@@ -24,7 +24,9 @@ use Rattle.packet.specs.Steps.{valuesNamed, exactlyFour, gathered}
 use Rattle.packet.specs.Packet.{isXdomain, firstFrom, numberOf, placesOf, uuidOf, viewFrom, word}
 use Rattle.packet.proofs.Packets.{length-places, passed}
 use Rattle.packet.proofs.Theorems.{packet-number-exactly, packet-answered-exactly}
-use Rattle.questions.specs.Answers.{Told, is, absent, refused, unless, maybeUuid, maybeWord}
+use Rattle.text.specs.Told.{Told, is, absent, refused, unless}
+use Rattle.entry.specs.Entry.{maybeWord}
+use Rattle.packet.specs.Packet.{maybeUuid}
 use Rattle.questions.specs.Described.{isRead, isWrite, routeIn, topBit, cut, askedAt, asked, adapterIn, addressIn, sizeIn, uuidIn}
 use Rattle.questions.specs.Questions.{refusal, answer, adapterOf, addressOf, sizeOf, uuidByName, uuidAnswer, startOf, routeOf, cmOf}
 use Rattle.meaning.specs.First.{First, None}

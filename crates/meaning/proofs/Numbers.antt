@@ -2,30 +2,36 @@
 -- Assumes nothing.
 use Prim.Native.Nat.{ℕ, zero, suc, _<_}
 use mathlib.Core.Path.{_≡_, refl, sym, ap, subst, _∙_}
-use mathlib.Core.Bool.{Bool, true, false, cond}
+use mathlib.Core.Bool.{Bool, true, false, cond, _&&_}
 use mathlib.Core.List.{List, [], _∷_, _++_}
-use mathlib.Core.Logic.{_↔_}
+use mathlib.Core.Logic.{_↔_, _⊎_, inl, inr}
 use mathlib.Core.Option.{Option, some, none}
 use native.Mathlib.Omega.{arith}
 use borrow.Author.Tests.{eqb-true, ne-eqb}
-use lib.Dec.{eqb}
+use lib.Dec.{eqb, leb}
 use lib.ListN.{length}
 use Rattle.text.proofs.Places.{by-order}
 use Rattle.tlv.specs.Number.{Bytes}
 use Rattle.tlv.specs.Grammar.{All, Apart}
-use Rattle.book.specs.declared.Checked.{Checked}
-use Rattle.book.specs.declared.Checked.the-variants as C
-use Rattle.book.specs.Reading.{checkOf, refusalOf}
+use Rattle.book.specs.Reading.{tablesFill, checkOf}
 use Rattle.book.specs.Grammar.{Owner, kind, uuid, Table, IsBook}
-use Rattle.book.proofs.Book.{book-is, book-all}
+use Rattle.book.proofs.Book.{book-is, book-refused-exactly}
 use Rattle.book.proofs.Unique.{one-book}
 use Rattle.packet.specs.Conditions.{Has, HasNot, NoHeader, TooFew as FewDwords, Condition, Applies as PacketApplies}
 use Rattle.packet.specs.Packet.{isReadResponseOrWriteRequest, isXdomain, zeroUuid}
-use Rattle.packet.proofs.Packets.{number-20}
 use Rattle.meaning.specs.First.{First, None}
 use Rattle.meaning.specs.Packet.{TableOf, TooFew, Refuses}
 use Rattle.meaning.specs.Call.{Applies, IsNumber, NoNumber}
 use Rattle.meaning.proofs.One.{among-all}
+
+-- a text is a book or it is none
+pub book-or-not : (s : List ℕ) → Bytes s → (IsBook s) ⊎ (IsBook s → ⊥)
+unfolding checkOf
+book-or-not s s-bytes = by (leb (length s) 65535 && tablesFill s 0) refl
+  where
+    by : (b : Bool) → (leb (length s) 65535 && tablesFill s 0) ≡ b → (IsBook s) ⊎ (IsBook s → ⊥)
+    by true e = inl (book-is s s-bytes (rw e))
+    by false e = inr (book-refused-exactly s s-bytes .0 (rw e))
 
 -- none is so, if of each that stands among them it is not
 all-from : {X : Type 0} {So : X → Type 0} (xs : List X) → ((before : List X) (x : X) (behind : List X) → xs ≡ before ++ (x ∷ behind) → So x → ⊥) → None So xs
@@ -132,7 +138,7 @@ module _ (k : ℕ) (s : List ℕ) (count room : ℕ) where
           }
 
   packet-number : Bytes s → (n : ℕ) → PacketApplies k s count room n → IsNumber k s count room n
-  packet-number s-bytes n f = by (checkOf s) refl
+  packet-number s-bytes n f = by (book-or-not s s-bytes)
     where
       with-book : IsBook s → IsNumber k s count room n
       with-book b =
@@ -152,10 +158,9 @@ module _ (k : ℕ) (s : List ℕ) (count room : ℕ) where
           earlier j l (Applies.no-book h q) = absurd (omega (arith, l, e, q))
           earlier j l (Applies.of-tables c r) = unlike c
 
-      by : (r : Checked) → checkOf s ≡ r → IsNumber k s count room n
-      by C.Accepted q = with-book (book-is s s-bytes q)
-      by (C.Refused m) q =
-          let unlike : IsBook s → ⊥ = λ b. absurd (omega (arith, number-20 s q, ap refusalOf (sym (book-all s b) ∙ q))) in
+      by : (IsBook s) ⊎ (IsBook s → ⊥) → IsNumber k s count room n
+      by (inl b) = with-book b
+      by (inr unlike) =
           without unlike
           (by-order n 20 (λ l. absurd (below-20 n l (f .holds))) (λ e. e) (λ l. absurd (f .first 20 l (condition-20 unlike))))
 

@@ -10,6 +10,7 @@ use native.Mathlib.Omega.{arith}
 use borrow.Author.Tests.{ltb-true, ltb-false}
 use lib.Dec.{ltb}
 use lib.ListN.{length, getD, take, drop, length-append}
+use Rattle.text.specs.Told.{Told, is, absent, refused}
 use Rattle.text.specs.Part.{orStart}
 use Rattle.tlv.specs.Grammar.{Piece, fieldsBytes}
 use Rattle.tlv.specs.Reading.{between}
@@ -25,8 +26,6 @@ use Rattle.field.specs.declared.Source.the-variants as S
 use Rattle.field.specs.declared.Field.{Field}
 use Rattle.field.specs.declared.Span.{Span}
 use Rattle.field.specs.declared.Range.{Range as RangeAnswer}
-use Rattle.field.specs.declared.MaybeRange.{MaybeRange}
-use Rattle.field.specs.declared.MaybeRange.the-variants as M
 use Rattle.field.specs.Source.{placeIn, entryOf}
 use Rattle.field.specs.Ranges.{fieldName, rangeCount, rangeAt, nthRange, rangeNamed, rangeName, valuePlace, valueName}
 use Rattle.book.specs.Finders.{beforeName, namePlace}
@@ -296,24 +295,30 @@ module _ (s : List ℕ) (b : IsBook s) (o : Option Description) (dword : ℕ) wh
       (cc, r .1)
 
   -- a field has one range behind so many others
-  pub one-range-at : (k : ℕ) (x y : MaybeRange) → RangeAt (b .tables) o dword k x → RangeAt (b .tables) o dword k y → x ≡ y
-  one-range-at k (M.Is x) (M.Is y) f g =
+  pub one-range-at : (k : ℕ) (x y : Told RangeAnswer) → RangeAt (b .tables) o dword k x → RangeAt (b .tables) o dword k y → x ≡ y
+  one-range-at k (is x) (is y) f g =
       let w = same-split (f .before) (g .before) (f .range) (g .range) (f .behind) (g .behind) (sym (f .among) ∙ g .among) (f .so-many ∙ sym (g .so-many)) in
-      ap M.Is
+      ap is
       (one-is-range (f .before) (g .before) (w .0) (g .range) x y (subst (λ r. IsRange (b .tables) o dword (f .before) r x) (w .1) (f .is)) (g .is))
-  one-range-at k (M.Is x) M.Absent f g =
+  one-range-at k (is x) absent f g =
       absurd (omega (arith, g, ap length (f .among), length-append (f .before) (f .range ∷ f .behind), f .so-many))
-  one-range-at k M.Absent (M.Is y) f g =
+  one-range-at k absent (is y) f g =
       absurd (omega (arith, f, ap length (g .among), length-append (g .before) (g .range ∷ g .behind), g .so-many))
-  one-range-at k M.Absent M.Absent f g = refl
+  one-range-at k absent absent f g = refl
+  one-range-at k (refused n) y f g = absurd f
+  one-range-at k (is x) (refused n) f g = absurd g
+  one-range-at k absent (refused n) f g = absurd g
 
   -- and one that is the first of a name
-  pub one-range-of-name : (name : List ℕ) (x y : MaybeRange) → RangeOfName (b .tables) o dword name x → RangeOfName (b .tables) o dword name y → x ≡ y
-  one-range-of-name name (M.Is x) (M.Is y) f g =
+  pub one-range-of-name : (name : List ℕ) (x y : Told RangeAnswer) → RangeOfName (b .tables) o dword name x → RangeOfName (b .tables) o dword name y → x ≡ y
+  one-range-of-name name (is x) (is y) f g =
       let w = one-first (λ (q : Range). q .name ≡ name) (f .first) (g .first) in
-      ap M.Is
+      ap is
       (one-is-range (f .first .before) (g .first .before) (w .1) (g .range) x y
       (subst (λ r. IsRange (b .tables) o dword (f .first .before) r x) (w .0) (f .is)) (g .is))
-  one-range-of-name name (M.Is x) M.Absent f g = absurd (first-some (λ (q : Range). q .name ≡ name) (f .first) g)
-  one-range-of-name name M.Absent (M.Is y) f g = absurd (first-some (λ (q : Range). q .name ≡ name) (g .first) f)
-  one-range-of-name name M.Absent M.Absent f g = refl
+  one-range-of-name name (is x) absent f g = absurd (first-some (λ (q : Range). q .name ≡ name) (f .first) g)
+  one-range-of-name name absent (is y) f g = absurd (first-some (λ (q : Range). q .name ≡ name) (g .first) f)
+  one-range-of-name name absent absent f g = refl
+  one-range-of-name name (refused n) y f g = absurd f
+  one-range-of-name name (is x) (refused n) f g = absurd g
+  one-range-of-name name absent (refused n) f g = absurd g

@@ -10,7 +10,7 @@ use lib.ListN.{length}
 use Rattle.bits.specs.Range.{bit}
 use Rattle.tlv.specs.Number.{Bytes}
 use Rattle.packet.specs.Packet.{isXdomain}
-use Rattle.questions.specs.Answers.{Told, is, absent, refused}
+use Rattle.text.specs.Told.{Told, is, absent, refused}
 use Rattle.questions.specs.Described.{isRead, isWrite, routeIn, topBit}
 use Rattle.questions.specs.Questions.{routeOf, cmOf, readOf, writeOf, xdomainOf}
 use Rattle.meaning.specs.Questions.{RouteIs, Route, Cm, Read, Write, Xdomain, Question}

@@ -12,7 +12,8 @@ use Rattle.tlv.specs.Number.{Bytes}
 use Rattle.entry.specs.declared.optional.MaybeWord.{MaybeWord}
 use Rattle.entry.specs.declared.optional.MaybeWord.the-variants as W
 use Rattle.packet.specs.Packet.{numberOf, placesOf, viewFrom, word}
-use Rattle.questions.specs.Answers.{Told, is, absent, refused, unless, maybeWord}
+use Rattle.text.specs.Told.{Told, is, absent, refused, unless}
+use Rattle.entry.specs.Entry.{maybeWord}
 use Rattle.questions.specs.Questions.{refusal, answer, startOf, viewAt, viewOf}
 use Rattle.questions.proofs.Views.{start-within}
 use Rattle.meaning.specs.Call.{optionWord}

@@ -5,6 +5,7 @@ use mathlib.Core.Path.{_≡_}
 use mathlib.Core.List.{List, _++_}
 use mathlib.Core.Option.{Option, some, none}
 use lib.ListN.{length, drop}
+use Rattle.text.specs.Told.{Told, is, absent, refused}
 use Rattle.entry.specs.declared.optional.MaybeWord.{MaybeWord}
 use Rattle.entry.specs.declared.optional.MaybeWord.the-variants as W
 use Rattle.book.specs.declared.Uuid.{Uuid}
@@ -12,8 +13,6 @@ use Rattle.book.specs.Grammar.{IsBook}
 use Rattle.packet.specs.declared.MaybeUuid.{MaybeUuid}
 use Rattle.packet.specs.declared.MaybeUuid.the-variants as U
 use Rattle.packet.specs.declared.Packet.{Packet}
-use Rattle.packet.specs.declared.Answer.{Answer}
-use Rattle.packet.specs.declared.Answer.the-variants as A
 use Rattle.meaning.specs.Packet.{Description, IsPacket, Refuses}
 use Rattle.meaning.specs.Places.{PlacesOf}
 
@@ -58,6 +57,7 @@ pub record Answered (k : ℕ) (s ds out exit : List ℕ) (p : Packet) : Type 0 w
   pub written : exit ≡ places ++ drop (length ds) out
 
 -- a number: the first that applies, and nothing is written
-abbrev pub Means : ℕ → List ℕ → List ℕ → List ℕ → List ℕ → Answer → Type 0
-Means k s ds out exit (A.Packet p) = Answered k s ds out exit p
-Means k s ds out exit (A.Refused n) = IsNumber k s (length ds) (length out) n × (exit ≡ out)
+abbrev pub Means : ℕ → List ℕ → List ℕ → List ℕ → List ℕ → Told Packet → Type 0
+Means k s ds out exit (is p) = Answered k s ds out exit p
+Means k s ds out exit absent = ⊥
+Means k s ds out exit (refused n) = IsNumber k s (length ds) (length out) n × (exit ≡ out)

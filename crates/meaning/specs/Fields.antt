@@ -7,12 +7,11 @@ use mathlib.Core.Logic.{_⊎_}
 use mathlib.Core.Option.{Option, some, none}
 use lib.ListN.{length}
 use Rattle.book.specs.Grammar.{textOf, Value, Range, Table}
+use Rattle.text.specs.Told.{Told, is, absent, refused}
 use Rattle.tlv.specs.Reading.{between}
 use Rattle.field.specs.declared.Field.{Field}
 use Rattle.field.specs.declared.Span.{Span}
 use Rattle.field.specs.declared.Range.{Range as RangeAnswer}
-use Rattle.field.specs.declared.MaybeRange.{MaybeRange}
-use Rattle.field.specs.declared.MaybeRange.the-variants as M
 use Rattle.field.specs.Ranges.{fieldName, rangeCount, nthRange, rangeNamed, rangeName, valuePlace, valueName}
 use Rattle.meaning.specs.First.{None, First}
 use Rattle.meaning.specs.Packet.{Description, rangesOf, valueOf, ValueNumbered}
@@ -46,9 +45,10 @@ module _ (tables : List Table) (o : Option Description) (dword : ℕ) where
     pub so-many : length before ≡ k
     pub is : IsRange before range r
 
-  abbrev pub RangeAt : ℕ → MaybeRange → Type 0
-  RangeAt k (M.Is r) = NthRange k r
-  RangeAt k M.Absent = length (rangesOf o) ≤ k
+  abbrev pub RangeAt : ℕ → Told RangeAnswer → Type 0
+  RangeAt k (is r) = NthRange k r
+  RangeAt k absent = length (rangesOf o) ≤ k
+  RangeAt k (refused n) = ⊥
 
   -- the first bit range of a name
   pub record FirstNamed (name : List ℕ) (r : RangeAnswer) : Type 0 where
@@ -56,9 +56,10 @@ module _ (tables : List Table) (o : Option Description) (dword : ℕ) where
     pub first : First (λ q. q .name ≡ name) (rangesOf o) range
     pub is : IsRange (first .before) range r
 
-  abbrev pub RangeOfName : List ℕ → MaybeRange → Type 0
-  RangeOfName name (M.Is r) = FirstNamed name r
-  RangeOfName name M.Absent = None (λ q. q .name ≡ name) (rangesOf o)
+  abbrev pub RangeOfName : List ℕ → Told RangeAnswer → Type 0
+  RangeOfName name (is r) = FirstNamed name r
+  RangeOfName name absent = None (λ q. q .name ≡ name) (rangesOf o)
+  RangeOfName name (refused n) = ⊥
 
 -- the place of a number among the values of a range
 pub record NumberedAt (tables : List Table) (d : Description) (ranges-before : List Range) (range : Range) (number place : ℕ) : Type 0 where

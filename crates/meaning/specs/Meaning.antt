@@ -13,13 +13,12 @@ use Rattle.book.specs.declared.Uuid.{Uuid}
 use Rattle.book.specs.Grammar.{textOf, Value, Range, Table, IsBook}
 use Rattle.packet.specs.declared.Answer.{Answer}
 use Rattle.packet.specs.declared.field.Ask.the-variants as Ask
-use Rattle.packet.specs.Packet.{Parsed}
+use Rattle.packet.specs.Packet.{answerTold, Parsed}
 use Rattle.field.specs.declared.Field.{Field}
 use Rattle.field.specs.declared.Range.{Range as RangeAnswer}
-use Rattle.field.specs.declared.MaybeRange.{MaybeRange}
 use Rattle.field.specs.declared.Span.{Span}
 use Rattle.field.specs.Names.{Names}
-use Rattle.questions.specs.Answers.{Told}
+use Rattle.text.specs.Told.{Told}
 use Rattle.questions.specs.Questions as questions
 use Rattle.meaning.specs.Packet.{Description, IsPacket}
 use Rattle.meaning.specs.Places.{Stands, RangeStands, ValueStands}
@@ -64,7 +63,7 @@ pub record OneList (k : ℕ) (s ds : List ℕ) (Say : Sentence (List ℕ)) (hand
 -- The packet call.
 pub record PacketCall : Type 0 where
   -- What it answers, and what it leaves in the place list, is what the relation says; and whatever the relation says is that.
-  pub exactly : (k : ℕ) (s : List ℕ) → Bytes s → (ds out exit : List ℕ) (r : Answer) → Parsed k s ds out exit r ↔ Means k s ds out exit r
+  pub exactly : (k : ℕ) (s : List ℕ) → Bytes s → (ds out exit : List ℕ) (r : Answer) → Parsed k s ds out exit r ↔ Means k s ds out exit (answerTold r)
   -- A kind, tables and dwords make one packet.
   pub one-packet : (k : ℕ) (tables : List Table) (ds : List ℕ) (os qs : List (Option Description)) (u v : Option Uuid) (n m : Option ℕ)
       → IsPacket k tables ds os u n → IsPacket k tables ds qs v m → (os ≡ qs) × (u ≡ v) × (n ≡ m)
@@ -101,8 +100,8 @@ pub record FieldCalls (s : List ℕ) (b : IsBook s) : Type 0 where
   -- A field says what its description has.
   pub of-field : (o : Option Description) (f : Field) → IsSource (b .tables) o (f .source) → FieldSays s (b .tables) o f
   -- It has one range behind so many others, and one that is the first of a name.
-  pub one-nth : (o : Option Description) (dword k : ℕ) (x y : MaybeRange) → RangeAt (b .tables) o dword k x → RangeAt (b .tables) o dword k y → x ≡ y
-  pub one-named : (o : Option Description) (dword : ℕ) (name : List ℕ) (x y : MaybeRange) → RangeOfName (b .tables) o dword name x
+  pub one-nth : (o : Option Description) (dword k : ℕ) (x y : Told RangeAnswer) → RangeAt (b .tables) o dword k x → RangeAt (b .tables) o dword k y → x ≡ y
+  pub one-named : (o : Option Description) (dword : ℕ) (name : List ℕ) (x y : Told RangeAnswer) → RangeOfName (b .tables) o dword name x
       → RangeOfName (b .tables) o dword name y → x ≡ y
   -- A range says what it has in its description.
   pub of-range : (d : Description) (before : List Range) (range : Range) (behind : List Range) → d .entry .ranges ≡ before ++ (range ∷ behind)

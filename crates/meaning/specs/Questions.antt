@@ -16,7 +16,7 @@ use Rattle.field.specs.declared.Source.{Source}
 use Rattle.field.specs.declared.Source.the-variants as S
 use Rattle.field.specs.declared.Field.{Field}
 use Rattle.questions.specs.declared.PacketType.{PacketType}
-use Rattle.questions.specs.Answers.{Told, is, absent, refused}
+use Rattle.text.specs.Told.{Told, is, absent, refused}
 use Rattle.questions.specs.Described.{isRead, isWrite}
 use Rattle.meaning.specs.First.{First, None}
 use Rattle.meaning.specs.Packet.{Description, Named, RangeNamed, valueOf, TypeNamed, IsUuid, Holds, FoundAt, IsPacket}

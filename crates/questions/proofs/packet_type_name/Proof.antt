@@ -3,7 +3,8 @@ use mathlib.Core.Path.{refl, sym, ap, _∙_}
 use Rattle.text.proofs.OwnParts.{no-text, text-is}
 use Rattle.book.specs.Finders.{namePlace}
 use Rattle.questions.proofs.Views.{no-type}
-use Rattle.questions.specs.Answers.{Told, typeTold}
+use Rattle.text.specs.Told.{Told}
+use Rattle.questions.specs.Answers.{typeTold}
 use Rattle.questions.specs.declared.PacketType.{PacketType}
 use Rattle.questions.specs.Questions.{nameBy, typeName, namedPlace}
 use borrow.Author.Needs.{needs}

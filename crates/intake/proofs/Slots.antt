@@ -17,14 +17,8 @@ use Rattle.tlv.specs.Number.{Bytes}
 use Rattle.entry.specs.declared.Entry.{Entry}
 use Rattle.scan.specs.declared.Answer.{Answer}
 use Rattle.scan.specs.declared.Answer.the-variants as A
-use Rattle.scan.specs.declared.frame.FrameAnswer.{FrameAnswer}
-use Rattle.scan.specs.declared.frame.FrameAnswer.the-variants as F
 use Rattle.scan.specs.declared.head.Head.{Head}
-use Rattle.scan.specs.declared.head.HeadAnswer.{HeadAnswer}
-use Rattle.scan.specs.declared.head.HeadAnswer.the-variants as H
-use Rattle.scan.specs.declared.body.BodyAnswer.{BodyAnswer}
-use Rattle.scan.specs.declared.body.BodyAnswer.the-variants as B
-use Rattle.scan.specs.declared.dwords.DataAnswer.the-variants as D
+use Rattle.scan.specs.declared.body.Body.{Body}
 use Rattle.scan.specs.Need.{need}
 use Rattle.scan.specs.Frame.{frameOf}
 use Rattle.scan.specs.Head.{headOf}
@@ -50,7 +44,7 @@ enough-slots payload room h = by-data (payloadData payload)
     by-count ds true e = rw e
     by-count ds false e = rw (e, le-ltb room (length ds) (omega (arith, h, ltb-false 256 (length ds) e)))
 
-    by-data : (o : Option (List ℕ)) → need (D.Refused 15) o (data16 room) ≡ need (D.Refused 15) o (data16 256)
+    by-data : (o : Option (List ℕ)) → need (T.refused 15) o (data16 room) ≡ need (T.refused 15) o (data16 256)
     by-data none = refl
     by-data (some ds) = by-count ds (ltb 256 (length ds)) refl
 
@@ -58,19 +52,22 @@ pub line-with-more-slots : (t : List ℕ) (room : ℕ) → 256 ≤ room → pars
 unfolding parseOf withFrame partedAnswer withHead payloadAnswer withBody
 line-with-more-slots t room h = by-frame (frameOf t)
   where
-    by-body : (header : List ℕ) (start : ℕ) (head : Head) (payload : List ℕ) (b : BodyAnswer)
+    by-body : (header : List ℕ) (start : ℕ) (head : Head) (payload : List ℕ) (b : T.Told Body)
         → withBody header start head payload room b ≡ withBody header start head payload 256 b
-    by-body header start head payload (B.Got body) = ap (withData header start head body) (enough-slots payload room h)
-    by-body header start head payload (B.Refused k) = refl
+    by-body header start head payload (T.is body) = ap (withData header start head body) (enough-slots payload room h)
+    by-body header start head payload T.absent = refl
+    by-body header start head payload (T.refused k) = refl
 
-    by-head : (colon : ℕ) (a : HeadAnswer) → withHead t colon room a ≡ withHead t colon 256 a
-    by-head colon (H.Got head) =
+    by-head : (colon : ℕ) (a : T.Told Head) → withHead t colon room a ≡ withHead t colon 256 a
+    by-head colon (T.is head) =
         by-body (headerOf t colon) (startOf t colon) head (payloadOf t colon) (bodyOf (payloadOf t colon) (drop (head .function) (headerOf t colon)))
-    by-head colon (H.Refused k) = refl
+    by-head colon T.absent = refl
+    by-head colon (T.refused k) = refl
 
-    by-frame : (f : FrameAnswer) → withFrame t room f ≡ withFrame t 256 f
-    by-frame (F.Colon colon) = by-head colon (headOf (headerOf t colon))
-    by-frame (F.Refused k) = refl
+    by-frame : (f : T.Told ℕ) → withFrame t room f ≡ withFrame t 256 f
+    by-frame (T.is colon) = by-head colon (headOf (headerOf t colon))
+    by-frame T.absent = refl
+    by-frame (T.refused k) = refl
 
 -- an entry counts the line's dwords
 line-count : (t : List ℕ) (room : ℕ) {e : Entry} → parseOf t room ≡ T.is e → e .dwords ≡ length (lineDwords t)

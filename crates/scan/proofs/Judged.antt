@@ -16,7 +16,7 @@ use Rattle.text.specs.declared.number.HexAnswer.{HexAnswer}
 use Rattle.text.specs.declared.number.HexAnswer.the-variants as X
 use Rattle.text.specs.declared.place.Found.{Found}
 use Rattle.text.specs.declared.place.Found.the-variants as P
-use Rattle.text.specs.Told.{Told}
+use Rattle.text.specs.Told as T
 use Rattle.text.specs.Number.{numberValue, hexValue}
 use Rattle.text.specs.Place.{lastByte}
 use Rattle.text.specs.Quote.{bytes}
@@ -38,12 +38,8 @@ use Rattle.pairs.specs.Pair.{lastPair, decimalOf, hexAt, pairWithoutEquals, Wit
 use Rattle.pairs.specs.Data.{dataOf}
 use Rattle.pairs.proofs.PairLists.{no-pair-without-equals, never-without-equals}
 use Rattle.pairs.proofs.Slots.{data-is, data-all}
-use Rattle.scan.specs.declared.frame.FrameAnswer.the-variants as F
 use Rattle.scan.specs.declared.head.Head.{Head}
-use Rattle.scan.specs.declared.head.HeadAnswer.the-variants as H
 use Rattle.scan.specs.declared.body.Body.{Body}
-use Rattle.scan.specs.declared.body.BodyAnswer.the-variants as B
-use Rattle.scan.specs.declared.dwords.DataAnswer.the-variants as D
 use Rattle.scan.specs.Need.{placeValue, Moment, stampValue}
 use Rattle.scan.specs.Frame.{Idle, High, Split, idle, firstHigh, frameColon, frameAscii, frameOf}
 use Rattle.scan.specs.Head.{headOf, head6, head7, head8, head9, headGot}
@@ -174,7 +170,7 @@ pub record Says (t : List ℕ) (e : Entry) : Type 0 where
   pub count : e .dwords ≡ length (lineDwords t)
   pub line : Line t (valueOf e t (lineDwords t))
 
-module _ (t : List ℕ) {k : ℕ} (framed : frameOf t ≡ F.Colon k) where
+module _ (t : List ℕ) {k : ℕ} (framed : frameOf t ≡ T.is k) where
   line-dwords : {ds : List ℕ} → payloadData (payloadOf t k) ≡ some ds → lineDwords t ≡ ds
   unfolding lineDwords dwordsBy
   line-dwords e = rw (framed, e)
@@ -238,10 +234,10 @@ module _ (t : List ℕ) {k : ℕ} (framed : frameOf t ≡ F.Colon k) where
 
 -- the chain, from the last numbers to the first
 module _ (t : List ℕ) (room : ℕ) where
-  abbrev Ok : Told Entry → Type 0
+  abbrev Ok : T.Told Entry → Type 0
   Ok = Answered t room (Says t)
 
-  module _ {k : ℕ} (framed : frameOf t ≡ F.Colon k) where
+  module _ {k : ℕ} (framed : frameOf t ≡ T.is k) where
     colon : lastByte 58 t ≡ P.At k
     colon = frame-passed t framed .3
 
@@ -249,18 +245,18 @@ module _ (t : List ℕ) (room : ℕ) where
     judge-data : (head : Head) (body : Body) → Clear t room 15 → ((ds : List ℕ) → payloadData (payloadOf t k) ≡ some ds → length ds ≤ 256 → Says t (entryOf (startOf t k) (length (headerOf t k)) head body (length ds))) → Ok (withData (headerOf t k) (startOf t k) head body (dataAnswer (payloadOf t k) room))
     unfolding Condition dataAnswer withData
     judge-data head body clear done =
-        check t room (Says t) (withData (headerOf t k) (startOf t k) head body) 15 (payloadData (payloadOf t k)) (D.Refused 15) (data16 room) refl clear
+        check t room (Says t) (withData (headerOf t k) (startOf t k) head body) 15 (payloadData (payloadOf t k)) (T.refused 15) (data16 room) refl clear
         (λ e. lacking t room colon (λ (x y ds : List ℕ). Dwords y ds) (λ ds r. nothing e (dwords-all (payloadOf t k) r)))
         (λ ds e. (
           having t room colon (λ (x y ds : List ℕ). Dwords y ds) ds (dwords-are (payloadOf t k) e),
           λ c16.
-              refuse t room (Says t) (withData (headerOf t k) (startOf t k) head body) 16 (ltb 256 (length ds)) (D.Refused 16)
-              (cond (ltb room (length ds)) (D.Refused 17) (D.Got (length ds))) refl c16
+              refuse t room (Says t) (withData (headerOf t k) (startOf t k) head body) 16 (ltb 256 (length ds)) (T.refused 16)
+              (cond (ltb room (length ds)) (T.refused 17) (T.is (length ds))) refl c16
               (λ m. payload-has t room colon (MoreThan 256) (record { dwords = ds; are = dwords-are (payloadOf t k) e; more = ltb-true 256 (length ds) m }))
               (λ m. (
                 payload-not t room colon (MoreThan 256) (λ r. more-than e (ltb-false 256 (length ds) m) r),
                 λ c17.
-                    refuse t room (Says t) (withData (headerOf t k) (startOf t k) head body) 17 (ltb room (length ds)) (D.Refused 17) (D.Got (length ds)) refl c17
+                    refuse t room (Says t) (withData (headerOf t k) (startOf t k) head body) 17 (ltb room (length ds)) (T.refused 17) (T.is (length ds)) refl c17
                     (λ q. payload-has t room colon (MoreThan room) (record { dwords = ds; are = dwords-are (payloadOf t k) e; more = ltb-true room (length ds) q }))
                     (λ q. (
                       payload-not t room colon (MoreThan room) (λ r. more-than e (ltb-false room (length ds) q) r),
@@ -291,28 +287,28 @@ module _ (t : List ℕ) (room : ℕ) where
         → Ok (payloadAnswer (headerOf t k) (startOf t k) head (payloadOf t k) room)
     unfolding Condition payloadAnswer bodyOf withBody
     judge-body head clear done =
-        refuse t room (Says t) (withBody (headerOf t k) (startOf t k) head (payloadOf t k) room) 10 (pairWithoutEquals (payloadOf t k)) (B.Refused 10) (body11 (payloadOf t k) (drop (head .function) (headerOf t k))) refl clear
+        refuse t room (Says t) (withBody (headerOf t k) (startOf t k) head (payloadOf t k) room) 10 (pairWithoutEquals (payloadOf t k)) (T.refused 10) (body11 (payloadOf t k) (drop (head .function) (headerOf t k))) refl clear
         (λ e. absurd (clash e (never-without-equals (payloadOf t k))))
         (λ e. (
           payload-not t room colon WithoutEquals (no-pair-without-equals (payloadOf t k)),
           λ c11.
-              check t room (Says t) (withBody (headerOf t k) (startOf t k) head (payloadOf t k) room) 11 (textAt (payloadOf t k) (lastPair (payloadOf t k) (bytes "type"))) (B.Refused 11) (λ name. body12 (payloadOf t k) (kindOf name (drop (head .function) (headerOf t k)))) refl c11
+              check t room (Says t) (withBody (headerOf t k) (startOf t k) head (payloadOf t k) room) 11 (textAt (payloadOf t k) (lastPair (payloadOf t k) (bytes "type"))) (T.refused 11) (λ name. body12 (payloadOf t k) (kindOf name (drop (head .function) (headerOf t k)))) refl c11
               (λ n. lacking t room colon (λ (x y name : List ℕ). KeyText y (bytes "type") name) (λ a r. nothing n (key-text-all (payloadOf t k) (bytes "type") r)))
               (λ name n. (
                 having t room colon (λ (x y name : List ℕ). KeyText y (bytes "type") name) name (key-text-is (payloadOf t k) (bytes "type") n),
                 λ c12.
-                    check t room (Says t) (withBody (headerOf t k) (startOf t k) head (payloadOf t k) room) 12 (numberValue (decimalOf (payloadOf t k) (bytes "size") (2 ^ 16 - 1))) (B.Refused 12) (body13 (payloadOf t k) (kindOf name (drop (head .function) (headerOf t k)))) refl c12
+                    check t room (Says t) (withBody (headerOf t k) (startOf t k) head (payloadOf t k) room) 12 (numberValue (decimalOf (payloadOf t k) (bytes "size") (2 ^ 16 - 1))) (T.refused 12) (body13 (payloadOf t k) (kindOf name (drop (head .function) (headerOf t k)))) refl c12
                     (λ s. lacking t room colon (λ (x y : List ℕ) (v : ℕ). KeyDecimal y (bytes "size") (2 ^ 16 - 1) v) (λ v r. no-decimal (bytes "size") (2 ^ 16 - 1) s r))
                     (λ size s. (
                       having t room colon (λ (x y : List ℕ) (v : ℕ). KeyDecimal y (bytes "size") (2 ^ 16 - 1) v) size (key-decimal-is (payloadOf t k) (bytes "size") (2 ^ 16 - 1) (number-tells _ s)),
                       λ c13.
-                          check t room (Says t) (withBody (headerOf t k) (startOf t k) head (payloadOf t k) room) 13 (numberValue (decimalOf (payloadOf t k) (bytes "domain") (2 ^ 32 - 1))) (B.Refused 13) (body14 (payloadOf t k) (kindOf name (drop (head .function) (headerOf t k))) size) refl c13
+                          check t room (Says t) (withBody (headerOf t k) (startOf t k) head (payloadOf t k) room) 13 (numberValue (decimalOf (payloadOf t k) (bytes "domain") (2 ^ 32 - 1))) (T.refused 13) (body14 (payloadOf t k) (kindOf name (drop (head .function) (headerOf t k))) size) refl c13
                           (λ o. lacking t room colon (λ (x y : List ℕ) (v : ℕ). KeyDecimal y (bytes "domain") (2 ^ 32 - 1) v) (λ v r. no-decimal (bytes "domain") (2 ^ 32 - 1) o r))
                           (λ domain o. (
                             having t room colon (λ (x y : List ℕ) (v : ℕ). KeyDecimal y (bytes "domain") (2 ^ 32 - 1) v) domain (key-decimal-is (payloadOf t k) (bytes "domain") (2 ^ 32 - 1) (number-tells _ o)),
                             λ c14.
-                                check t room (Says t) (withBody (headerOf t k) (startOf t k) head (payloadOf t k) room) 14 (hexValue (hexAt (payloadOf t k) (bytes "route") (2 ^ 64 - 1))) (B.Refused 14)
-                                (λ route. B.Got (record { kind = kindOf name (drop (head .function) (headerOf t k)); size = size; dropped = droppedOf (payloadOf t k); domain = domain; route = route; optionals = optionalsOf (payloadOf t k) })) refl c14
+                                check t room (Says t) (withBody (headerOf t k) (startOf t k) head (payloadOf t k) room) 14 (hexValue (hexAt (payloadOf t k) (bytes "route") (2 ^ 64 - 1))) (T.refused 14)
+                                (λ route. T.is (record { kind = kindOf name (drop (head .function) (headerOf t k)); size = size; dropped = droppedOf (payloadOf t k); domain = domain; route = route; optionals = optionalsOf (payloadOf t k) })) refl c14
                                 (λ r. lacking t room colon (λ (x y : List ℕ) (v : ℕ). KeyHex y (bytes "route") (2 ^ 64 - 1) v) (λ v q. no-hex (bytes "route") (2 ^ 64 - 1) r q))
                                 (λ route r. (
                                   having t room colon (λ (x y : List ℕ) (v : ℕ). KeyHex y (bytes "route") (2 ^ 64 - 1) v) route (key-hex-is (payloadOf t k) (bytes "route") (2 ^ 64 - 1) (hex-tells _ r)),
@@ -335,27 +331,27 @@ module _ (t : List ℕ) (room : ℕ) where
     judge-head : Clear t room 5 → Ok (partedAnswer t k room)
     unfolding Condition partedAnswer headOf withHead
     judge-head clear =
-        check t room (Says t) (withHead t k room) 5 (placeValue (taskOf (headerOf t k))) (H.Refused 5) (head6 (headerOf t k)) refl clear
+        check t room (Says t) (withHead t k room) 5 (placeValue (taskOf (headerOf t k))) (T.refused 5) (head6 (headerOf t k)) refl clear
         (λ a. lacking t room colon (λ (x y task : List ℕ). Task x task) (λ task r. nothing a (ap placeValue (task-all (headerOf t k) r) ∙ place-there _)))
         (λ task a. (
           having t room colon (λ (x y task : List ℕ). Task x task) (take task (headerOf t k)) (task-is (headerOf t k) (place-tells _ a)),
           λ c6.
-              check t room (Says t) (withHead t k room) 6 (numberValue (pidOf (headerOf t k))) (H.Refused 6) (head7 (headerOf t k) task) refl c6
+              check t room (Says t) (withHead t k room) 6 (numberValue (pidOf (headerOf t k))) (T.refused 6) (head7 (headerOf t k) task) refl c6
               (λ b. lacking t room colon (λ (x y : List ℕ) (pid : ℕ). Pid x pid) (λ pid r. nothing b (ap numberValue (pid-all (headerOf t k) r) ∙ decimal-there _)))
               (λ pid b. (
                 having t room colon (λ (x y : List ℕ) (pid : ℕ). Pid x pid) pid (pid-is (headerOf t k) (number-tells _ b)),
                 λ c7.
-                    check t room (Says t) (withHead t k room) 7 (numberValue (cpuOf (headerOf t k))) (H.Refused 7) (head8 (headerOf t k) task pid) refl c7
+                    check t room (Says t) (withHead t k room) 7 (numberValue (cpuOf (headerOf t k))) (T.refused 7) (head8 (headerOf t k) task pid) refl c7
                     (λ c. lacking t room colon (λ (x y : List ℕ) (cpu : ℕ). Cpu x cpu) (λ cpu r. nothing c (ap numberValue (cpu-all (headerOf t k) r) ∙ decimal-there _)))
                     (λ cpu c. (
                       having t room colon (λ (x y : List ℕ) (cpu : ℕ). Cpu x cpu) cpu (cpu-is (headerOf t k) (number-tells _ c)),
                       λ c8.
-                          check t room (Says t) (withHead t k room) 8 (stampValue (stampOf (headerOf t k))) (H.Refused 8) (head9 (headerOf t k) task pid cpu) refl c8
+                          check t room (Says t) (withHead t k room) 8 (stampValue (stampOf (headerOf t k))) (T.refused 8) (head9 (headerOf t k) task pid cpu) refl c8
                           (λ d. no-stamp d)
                           (λ moment d. (
                             (λ m. m (headerOf t k) (payloadOf t k) (split t room colon) (record { seconds = moment .seconds; microseconds = moment .microseconds; timestamp = timestamp-is (headerOf t k) (stamp-tells _ d) })),
                             λ c9.
-                                check t room (Says t) (withHead t k room) 9 (placeValue (functionOf (headerOf t k))) (H.Refused 9) (headGot task pid cpu moment) refl c9
+                                check t room (Says t) (withHead t k room) 9 (placeValue (functionOf (headerOf t k))) (T.refused 9) (headGot task pid cpu moment) refl c9
                                 (λ f. lacking t room colon (λ (x y function : List ℕ). Function x function) (λ function r. nothing f (ap placeValue (function-all (headerOf t k) r) ∙ place-there _)))
                                 (λ function f. (
                                   having t room colon (λ (x y function : List ℕ). Function x function) (drop function (headerOf t k)) (function-is (headerOf t k) (place-tells _ f)),
@@ -378,12 +374,12 @@ module _ (t : List ℕ) (room : ℕ) where
   pub judge : Answered t room (Says t) (parseOf t room)
   unfolding Condition parseOf frameOf frameAscii frameColon withFrame
   judge =
-      refuse t room (Says t) (withFrame t room) 1 (idle t) (F.Refused 1) (cond (ltb 4096 (length t)) (F.Refused 2) (frameAscii t (firstHigh t))) refl (clear-starts t room)
+      refuse t room (Says t) (withFrame t room) 1 (idle t) (T.refused 1) (cond (ltb 4096 (length t)) (T.refused 2) (frameAscii t (firstHigh t))) refl (clear-starts t room)
       (λ e. idle-is t e)
       (λ e. (
         (λ i. clash (idle-all t i) e),
         λ c2.
-            refuse t room (Says t) (withFrame t room) 2 (ltb 4096 (length t)) (F.Refused 2) (frameAscii t (firstHigh t)) refl c2
+            refuse t room (Says t) (withFrame t room) 2 (ltb 4096 (length t)) (T.refused 2) (frameAscii t (firstHigh t)) refl c2
             (λ l. ltb-true 4096 (length t) l)
             (λ l. (
               (λ m. absurd (omega (arith, ltb-false 4096 (length t) l))),

@@ -8,6 +8,8 @@ use native.Mathlib.Omega.{arith}
 use lib.ListN.{length, take, drop, length-take, take-append-drop}
 use lib.Seq.{drop-append-le}
 use borrow.Author.Tests.{lt-ltb, le-ltb}
+use Rattle.text.specs.Told as T
+use Rattle.text.proofs.Told.{by-cases, fixed-by-told}
 use Rattle.text.specs.declared.place.Found.{Found}
 use Rattle.text.specs.declared.place.Found.the-variants as P
 use Rattle.text.specs.Number.{numberValue}
@@ -22,20 +24,23 @@ use Rattle.pairs.specs.Data.{insideOf, dataIn, dataOf, dwordsOf, filled, slotsA
 use Rattle.pairs.proofs.Slots.{slots-fit, slots-short}
 use Rattle.text.proofs.Stripping.{strip-size}
 use Rattle.header.proofs.Functions.{function-within}
+use Rattle.scan.specs.declared.frame.FrameAnswer.{FrameAnswer}
 use Rattle.scan.specs.declared.frame.FrameAnswer.the-variants as F
-use Rattle.scan.specs.declared.head.Head.{Head}
+use Rattle.scan.specs.declared.head.HeadAnswer.{HeadAnswer}
 use Rattle.scan.specs.declared.head.HeadAnswer.the-variants as H
-use Rattle.scan.specs.declared.body.Body.{Body}
+use Rattle.scan.specs.declared.body.BodyAnswer.{BodyAnswer}
 use Rattle.scan.specs.declared.body.BodyAnswer.the-variants as B
+use Rattle.scan.specs.declared.head.Head.{Head}
+use Rattle.scan.specs.declared.body.Body.{Body}
 use Rattle.scan.specs.declared.dwords.DataAnswer.{DataAnswer}
 use Rattle.scan.specs.declared.dwords.DataAnswer.the-variants as D
 use Rattle.scan.specs.declared.Answer.{Answer}
 use Rattle.scan.specs.declared.Answer.the-variants as A
 use Rattle.scan.specs.Need.{need, placeValue, stampValue}
-use Rattle.scan.specs.Frame.{frameOf}
-use Rattle.scan.specs.Head.{headOf, head6, head7, head8, head9, headGot}
-use Rattle.scan.specs.Body.{textAt, bodyOf}
-use Rattle.scan.specs.Dwords.{payloadData, dataAnswer, dataSlots, DataRead}
+use Rattle.scan.specs.Frame.{frameTold, frameOf}
+use Rattle.scan.specs.Head.{headTold, headOf, head6, head7, head8, head9, headGot}
+use Rattle.scan.specs.Body.{textAt, bodyTold, bodyOf}
+use Rattle.scan.specs.Dwords.{payloadData, dataTold, dataAnswer, dataSlots, DataRead}
 use Rattle.scan.specs.Parse.{headerOf, payloadOf, startOf, entryOf, withData, withBody, payloadAnswer, withHead, partedAnswer, withFrame, parseOf, dwordsBy, lineDwords, slotsBy, Parsed, PartedRead, PayloadRead}
 
 -- the dwords of a payload, as code finds them
@@ -84,40 +89,40 @@ module _ (ds out : List ℕ) (room : ℕ) (within : room ≤ length out) where
 
 -- header and payload together
 module _ (header : List ℕ) (start : ℕ) (head : Head) (payload out : List ℕ) where
-  pub payload-refused : {k : ℕ} → bodyOf payload (drop (head .function) header) ≡ B.Refused k → PayloadRead header start head payload out out (A.Refused k)
+  pub payload-refused : {k : ℕ} → bodyOf payload (drop (head .function) header) ≡ T.refused k → PayloadRead header start head payload out out (A.Refused k)
   unfolding payloadAnswer withBody slotsBy
   payload-refused e = record { answer = rw e; slots = refl }
 
-  module _ {body : Body} (got : bodyOf payload (drop (head .function) header) ≡ B.Got body) {exit : List ℕ} {r : DataAnswer} (read : DataRead payload out exit r) where
+  module _ {body : Body} (got : bodyOf payload (drop (head .function) header) ≡ T.is body) {exit : List ℕ} {r : DataAnswer} (read : DataRead payload out exit r) where
     pub data-refused : {k : ℕ} → r ≡ D.Refused k → PayloadRead header start head payload out exit (A.Refused k)
     unfolding payloadAnswer withBody withData slotsBy dataSlots
     data-refused e =
-        let a : dataAnswer payload (length out) ≡ D.Refused _ = sym (read .answer) ∙ e in
+        let a : dataAnswer payload (length out) ≡ T.refused _ = sym (read .answer) ∙ ap dataTold e in
         record { answer = rw (got, a); slots = read .slots ∙ rw e }
 
     pub payload-read : {n : ℕ} {x : _} → r ≡ D.Got n → x ≡ entryOf start (length header) head body n → PayloadRead header start head payload out exit (A.Entry x)
     unfolding payloadAnswer withBody withData slotsBy dataSlots
     payload-read e q =
-        let a : dataAnswer payload (length out) ≡ D.Got _ = sym (read .answer) ∙ e in
+        let a : dataAnswer payload (length out) ≡ T.is _ = sym (read .answer) ∙ ap dataTold e in
         record { answer = rw (got, a, q); slots = read .slots ∙ rw e }
 
 -- a line parted at a colon
 module _ (t : List ℕ) (colon : ℕ) (out : List ℕ) where
-  pub parted-refused : {k : ℕ} → headOf (headerOf t colon) ≡ H.Refused k → PartedRead t colon out out (A.Refused k)
+  pub parted-refused : {k : ℕ} → headOf (headerOf t colon) ≡ T.refused k → PartedRead t colon out out (A.Refused k)
   unfolding partedAnswer withHead slotsBy
   parted-refused e = record { answer = rw e; slots = refl }
 
-  pub parted-read : {head : Head} {exit : List ℕ} {r : Answer} → headOf (headerOf t colon) ≡ H.Got head → PayloadRead (headerOf t colon) (startOf t colon) head (payloadOf t colon) out exit r → PartedRead t colon out exit r
+  pub parted-read : {head : Head} {exit : List ℕ} {r : Answer} → headOf (headerOf t colon) ≡ T.is head → PayloadRead (headerOf t colon) (startOf t colon) head (payloadOf t colon) out exit r → PartedRead t colon out exit r
   unfolding partedAnswer withHead
   parted-read e p = record { answer = p .answer ∙ rw e; slots = p .slots }
 
 -- a line
 module _ (t out : List ℕ) where
-  pub line-refused : {k : ℕ} → frameOf t ≡ F.Refused k → Parsed t out out (A.Refused k)
+  pub line-refused : {k : ℕ} → frameOf t ≡ T.refused k → Parsed t out out (A.Refused k)
   unfolding parseOf withFrame slotsBy
   line-refused e = record { answer = rw e; slots = refl }
 
-  pub line-read : {k : ℕ} {exit : List ℕ} {r : Answer} → frameOf t ≡ F.Colon k → PartedRead t k out exit r → Parsed t out exit r
+  pub line-read : {k : ℕ} {exit : List ℕ} {r : Answer} → frameOf t ≡ T.is k → PartedRead t k out exit r → Parsed t out exit r
   unfolding parseOf withFrame lineDwords dwordsBy
   line-read e p = record { answer = p .answer ∙ rw e; slots = p .slots ∙ rw e }
 
@@ -131,21 +136,21 @@ unfolding placeValue
 place-tells (P.At j) e = cc
 place-tells P.Nothing e = absurd (let z : _≡_ {A = ℕ} 0 1 = cc in omega arith)
 
-unlike : {k : ℕ} {head : Head} → H.Refused k ≡ H.Got head → ⊥
+unlike : {k : ℕ} {head : Head} → T.refused k ≡ T.is head → ⊥
 unlike e = let z : _≡_ {A = ℕ} 0 1 = cc in omega arith
 
-same-function : {x y : Head} → H.Got x ≡ H.Got y → x .function ≡ y .function
+same-function : {x y : Head} → T.is x ≡ T.is y → x .function ≡ y .function
 same-function {x} {y} q = let e : x ≡ y = cc in ap (λ (z : Head). z .function) e
 
 -- a header that was read has its function where it says
-pub head-function : (h : List ℕ) {head : Head} → headOf h ≡ H.Got head → functionOf h ≡ P.At (head .function)
+pub head-function : (h : List ℕ) {head : Head} → headOf h ≡ T.is head → functionOf h ≡ P.At (head .function)
 unfolding headOf
 head-function h {head} e =
-    let a = need-goes-on (placeValue (taskOf h)) (H.Refused 5) (head6 h) e unlike in
-    let b = need-goes-on (numberValue (pidOf h)) (H.Refused 6) (head7 h (a .0)) (a .2) unlike in
-    let c = need-goes-on (numberValue (cpuOf h)) (H.Refused 7) (head8 h (a .0) (b .0)) (b .2) unlike in
-    let d = need-goes-on (stampValue (stampOf h)) (H.Refused 8) (head9 h (a .0) (b .0) (c .0)) (c .2) unlike in
-    let f = need-goes-on (placeValue (functionOf h)) (H.Refused 9) (headGot (a .0) (b .0) (c .0) (d .0)) (d .2) unlike in
+    let a = need-goes-on (placeValue (taskOf h)) (T.refused 5) (head6 h) e unlike in
+    let b = need-goes-on (numberValue (pidOf h)) (T.refused 6) (head7 h (a .0)) (a .2) unlike in
+    let c = need-goes-on (numberValue (cpuOf h)) (T.refused 7) (head8 h (a .0) (b .0)) (b .2) unlike in
+    let d = need-goes-on (stampValue (stampOf h)) (T.refused 8) (head9 h (a .0) (b .0) (c .0)) (c .2) unlike in
+    let f = need-goes-on (placeValue (functionOf h)) (T.refused 9) (headGot (a .0) (b .0) (c .0) (d .0)) (d .2) unlike in
     place-tells (functionOf h) (f .1 ∙ ap some (same-function (f .2)))
 
 -- the same header, start and payload under other names
@@ -153,8 +158,38 @@ pub payload-same : {h h′ p p′ out exit : List ℕ} {s s′ : ℕ} {head : He
 payload-same a b c q = rw (← a, ← b, ← c) q
 
 -- what a header that was read allows: its function lies in it, and the line has its places
-pub parted-allows : (t : List ℕ) (colon : ℕ) {head : Head} {h : List ℕ} {s : ℕ} → h ≡ headerOf t colon → s ≡ startOf t colon → length t < 2 ^ 64 → headOf h ≡ H.Got head → (head .function ≤ length h) × (s + length h < 2 ^ 64)
+pub parted-allows : (t : List ℕ) (colon : ℕ) {head : Head} {h : List ℕ} {s : ℕ} → h ≡ headerOf t colon → s ≡ startOf t colon → length t < 2 ^ 64 → headOf h ≡ T.is head → (head .function ≤ length h) × (s + length h < 2 ^ 64)
 parted-allows t colon {head} {h} {s} a b fits e =
     let f = function-within h (head-function h e) in
     let size : s + length h ≤ length (take colon t) = rw (b, a) (strip-size (take colon t)) in
     (omega arith, omega (arith, length-take colon t))
+
+-- ---- no second answer of a stage: two that tell the same are the same
+
+pub one-frame-answer : (a b : FrameAnswer) → frameTold a ≡ frameTold b → a ≡ b
+one-frame-answer = fixed-by-told frameTold (by-cases F.Colon (F.Refused 0) F.Refused) same
+  where
+    same : (a : FrameAnswer) → by-cases F.Colon (F.Refused 0) F.Refused (frameTold a) ≡ a
+    same (F.Colon k) = refl
+    same (F.Refused k) = refl
+
+pub one-head-answer : (a b : HeadAnswer) → headTold a ≡ headTold b → a ≡ b
+one-head-answer = fixed-by-told headTold (by-cases H.Got (H.Refused 0) H.Refused) same
+  where
+    same : (a : HeadAnswer) → by-cases H.Got (H.Refused 0) H.Refused (headTold a) ≡ a
+    same (H.Got head) = refl
+    same (H.Refused k) = refl
+
+pub one-body-answer : (a b : BodyAnswer) → bodyTold a ≡ bodyTold b → a ≡ b
+one-body-answer = fixed-by-told bodyTold (by-cases B.Got (B.Refused 0) B.Refused) same
+  where
+    same : (a : BodyAnswer) → by-cases B.Got (B.Refused 0) B.Refused (bodyTold a) ≡ a
+    same (B.Got body) = refl
+    same (B.Refused k) = refl
+
+pub one-data-answer : (a b : DataAnswer) → dataTold a ≡ dataTold b → a ≡ b
+one-data-answer = fixed-by-told dataTold (by-cases D.Got (D.Refused 0) D.Refused) same
+  where
+    same : (a : DataAnswer) → by-cases D.Got (D.Refused 0) D.Refused (dataTold a) ≡ a
+    same (D.Got n) = refl
+    same (D.Refused k) = refl

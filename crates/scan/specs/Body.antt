@@ -82,21 +82,21 @@ bodyTold (Got body) = is body
 bodyTold (Refused k) = refused k
 
 -- from each number on
-abbrev pub body14 : List ℕ → ℕ → ℕ → ℕ → BodyAnswer
+abbrev pub body14 : List ℕ → ℕ → ℕ → ℕ → Told Body
 body14 p kind size domain =
-    need (Refused 14) (hexValue (hexAt p (bytes "route") (2 ^ 64 - 1)))
-    (λ route. Got (record { kind = kind; size = size; dropped = droppedOf p; domain = domain; route = route; optionals = optionalsOf p }))
+    need (refused 14) (hexValue (hexAt p (bytes "route") (2 ^ 64 - 1)))
+    (λ route. is (record { kind = kind; size = size; dropped = droppedOf p; domain = domain; route = route; optionals = optionalsOf p }))
 
-abbrev pub body13 : List ℕ → ℕ → ℕ → BodyAnswer
-body13 p kind size = need (Refused 13) (numberValue (decimalOf p (bytes "domain") (2 ^ 32 - 1))) (body14 p kind size)
+abbrev pub body13 : List ℕ → ℕ → ℕ → Told Body
+body13 p kind size = need (refused 13) (numberValue (decimalOf p (bytes "domain") (2 ^ 32 - 1))) (body14 p kind size)
 
-abbrev pub body12 : List ℕ → ℕ → BodyAnswer
-body12 p kind = need (Refused 12) (numberValue (decimalOf p (bytes "size") (2 ^ 16 - 1))) (body13 p kind)
+abbrev pub body12 : List ℕ → ℕ → Told Body
+body12 p kind = need (refused 12) (numberValue (decimalOf p (bytes "size") (2 ^ 16 - 1))) (body13 p kind)
 
-abbrev pub body11 : List ℕ → List ℕ → BodyAnswer
+abbrev pub body11 : List ℕ → List ℕ → Told Body
 body11 p function =
-    need (Refused 11) (textAt p (lastPair p (bytes "type"))) (λ name. body12 p (kindOf name function))
+    need (refused 11) (textAt p (lastPair p (bytes "type"))) (λ name. body12 p (kindOf name function))
 
 -- what a payload says, given the function
-unfoldable pub bodyOf : List ℕ → List ℕ → BodyAnswer
-bodyOf p function = cond (pairWithoutEquals p) (Refused 10) (body11 p function)
+unfoldable pub bodyOf : List ℕ → List ℕ → Told Body
+bodyOf p function = cond (pairWithoutEquals p) (refused 10) (body11 p function)

@@ -6,7 +6,7 @@ use mathlib.Core.List.{List, []}
 use mathlib.Core.Option.{Option, some, none}
 use lib.Dec.{ltb}
 use lib.ListN.{length}
-use Rattle.text.specs.Told.{Told, is, refused}
+use Rattle.text.specs.Told.{Told, is, absent, refused}
 use Rattle.text.specs.Quote.{bytes}
 use Rattle.pairs.specs.Pair.{lastPair}
 use Rattle.pairs.specs.Data.{dataOf, filled}
@@ -25,24 +25,25 @@ dataTold (Got n) = is n
 dataTold (Refused k) = refused k
 
 -- 16 counts dwords, then 17 the slots
-abbrev pub data16 : ℕ → List ℕ → DataAnswer
-data16 room ds = cond (ltb 256 (length ds)) (Refused 16) (cond (ltb room (length ds)) (Refused 17) (Got (length ds)))
+abbrev pub data16 : ℕ → List ℕ → Told ℕ
+data16 room ds = cond (ltb 256 (length ds)) (refused 16) (cond (ltb room (length ds)) (refused 17) (is (length ds)))
 
 -- numbers 15 to 17 in their order, or the count of dwords
-unfoldable pub dataAnswer : List ℕ → ℕ → DataAnswer
-dataAnswer p room = need (Refused 15) (payloadData p) (data16 room)
+unfoldable pub dataAnswer : List ℕ → ℕ → Told ℕ
+dataAnswer p room = need (refused 15) (payloadData p) (data16 room)
 
 -- the dwords, none where there is no data
 abbrev pub orEmpty : Option (List ℕ) → List ℕ
 orEmpty (some ds) = ds
 orEmpty none = []
 
--- the slots by the answer: success writes the dwords from the first and no others, a refusal none
-unfoldable pub dataSlots : DataAnswer → List ℕ → List ℕ → List ℕ
-dataSlots (Got n) ds out = filled ds out
-dataSlots (Refused k) ds out = out
+-- the slots by what is told: success writes the dwords from the first and no others, a refusal none
+unfoldable pub dataSlots : Told ℕ → List ℕ → List ℕ → List ℕ
+dataSlots (is n) ds out = filled ds out
+dataSlots absent ds out = out
+dataSlots (refused k) ds out = out
 
 -- the answer, and each slot
 pub record DataRead (p out exit : List ℕ) (r : DataAnswer) : Type 0 where
-  pub answer : r ≡ dataAnswer p (length out)
-  pub slots : exit ≡ dataSlots r (orEmpty (payloadData p)) out
+  pub answer : dataTold r ≡ dataAnswer p (length out)
+  pub slots : exit ≡ dataSlots (dataTold r) (orEmpty (payloadData p)) out

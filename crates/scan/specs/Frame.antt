@@ -48,15 +48,15 @@ unfoldable pub firstHigh : List ℕ → Found
 firstHigh t = firstPlace (λ (k : ℕ). leb 128 (getD t k 0)) (length t) 0
 
 -- the colon, or 4
-unfoldable pub frameColon : Found → FrameAnswer
-frameColon (At k) = Colon k
-frameColon Nothing = Refused 4
+unfoldable pub frameColon : Found → Told ℕ
+frameColon (At k) = is k
+frameColon Nothing = refused 4
 
 -- 3 where a high byte was found, else on to the colon
-unfoldable pub frameAscii : List ℕ → Found → FrameAnswer
-frameAscii t (At k) = Refused 3
+unfoldable pub frameAscii : List ℕ → Found → Told ℕ
+frameAscii t (At k) = refused 3
 frameAscii t Nothing = frameColon (lastByte 58 t)
 
 -- numbers 1 to 4 in their order, or the place of the last colon
-unfoldable pub frameOf : List ℕ → FrameAnswer
-frameOf t = cond (idle t) (Refused 1) (cond (ltb 4096 (length t)) (Refused 2) (frameAscii t (firstHigh t)))
+unfoldable pub frameOf : List ℕ → Told ℕ
+frameOf t = cond (idle t) (refused 1) (cond (ltb 4096 (length t)) (refused 2) (frameAscii t (firstHigh t)))

@@ -18,23 +18,23 @@ headTold (Got head) = is head
 headTold (Refused k) = refused k
 
 -- all five found
-abbrev pub headGot : ℕ → ℕ → ℕ → Moment → ℕ → HeadAnswer
+abbrev pub headGot : ℕ → ℕ → ℕ → Moment → ℕ → Told Head
 headGot task pid cpu moment function =
-    Got (record { task = task; pid = pid; cpu = cpu; seconds = moment .seconds; microseconds = moment .microseconds; function = function })
+    is (record { task = task; pid = pid; cpu = cpu; seconds = moment .seconds; microseconds = moment .microseconds; function = function })
 
 -- from each number on
-abbrev pub head9 : List ℕ → ℕ → ℕ → ℕ → Moment → HeadAnswer
-head9 h task pid cpu moment = need (Refused 9) (placeValue (functionOf h)) (headGot task pid cpu moment)
+abbrev pub head9 : List ℕ → ℕ → ℕ → ℕ → Moment → Told Head
+head9 h task pid cpu moment = need (refused 9) (placeValue (functionOf h)) (headGot task pid cpu moment)
 
-abbrev pub head8 : List ℕ → ℕ → ℕ → ℕ → HeadAnswer
-head8 h task pid cpu = need (Refused 8) (stampValue (stampOf h)) (head9 h task pid cpu)
+abbrev pub head8 : List ℕ → ℕ → ℕ → ℕ → Told Head
+head8 h task pid cpu = need (refused 8) (stampValue (stampOf h)) (head9 h task pid cpu)
 
-abbrev pub head7 : List ℕ → ℕ → ℕ → HeadAnswer
-head7 h task pid = need (Refused 7) (numberValue (cpuOf h)) (head8 h task pid)
+abbrev pub head7 : List ℕ → ℕ → ℕ → Told Head
+head7 h task pid = need (refused 7) (numberValue (cpuOf h)) (head8 h task pid)
 
-abbrev pub head6 : List ℕ → ℕ → HeadAnswer
-head6 h task = need (Refused 6) (numberValue (pidOf h)) (head7 h task)
+abbrev pub head6 : List ℕ → ℕ → Told Head
+head6 h task = need (refused 6) (numberValue (pidOf h)) (head7 h task)
 
 -- what a header says
-unfoldable pub headOf : List ℕ → HeadAnswer
-headOf h = need (Refused 5) (placeValue (taskOf h)) (head6 h)
+unfoldable pub headOf : List ℕ → Told Head
+headOf h = need (refused 5) (placeValue (taskOf h)) (head6 h)

@@ -8,19 +8,14 @@ use Rattle.text.specs.Class.{isBlank}
 use Rattle.text.specs.Run.{runEnd, stripped}
 use Rattle.entry.specs.declared.Entry.{Entry}
 use Rattle.pairs.specs.Data.{filled}
-use Rattle.scan.specs.declared.frame.FrameAnswer.{FrameAnswer}
-use Rattle.scan.specs.declared.frame.FrameAnswer.the-variants as F
 use Rattle.scan.specs.declared.head.Head.{Head}
-use Rattle.scan.specs.declared.head.HeadAnswer.{HeadAnswer}
 use Rattle.scan.specs.declared.body.Body.{Body}
-use Rattle.scan.specs.declared.body.BodyAnswer.{BodyAnswer}
-use Rattle.scan.specs.declared.dwords.DataAnswer.{DataAnswer}
 use Rattle.scan.specs.declared.Answer.{Answer}
 use Rattle.scan.specs.declared.Answer.the-variants as A
-use Rattle.scan.specs.Frame.{frameTold, frameOf}
-use Rattle.scan.specs.Head.{headTold, headOf}
-use Rattle.scan.specs.Body.{bodyTold, bodyOf}
-use Rattle.scan.specs.Dwords.{payloadData, dataTold, orEmpty, dataAnswer}
+use Rattle.scan.specs.Frame.{frameOf}
+use Rattle.scan.specs.Head.{headOf}
+use Rattle.scan.specs.Body.{bodyOf}
+use Rattle.scan.specs.Dwords.{payloadData, orEmpty, dataAnswer}
 
 -- header and payload of a line whose last colon stands at a place, and where the header starts
 abbrev pub headerOf : List ℕ → ℕ → List ℕ
@@ -62,13 +57,13 @@ entryOf start size head body dwords =
 -- ---- the stages, each going on with what the one before tells
 
 -- with the dwords
-unfoldable pub withData : List ℕ → ℕ → Head → Body → DataAnswer → Told Entry
-withData header start head body got = andThen (dataTold got) (λ n. is (entryOf start (length header) head body n))
+unfoldable pub withData : List ℕ → ℕ → Head → Body → Told ℕ → Told Entry
+withData header start head body got = andThen got (λ n. is (entryOf start (length header) head body n))
 
 -- with the payload
-unfoldable pub withBody : List ℕ → ℕ → Head → List ℕ → ℕ → BodyAnswer → Told Entry
+unfoldable pub withBody : List ℕ → ℕ → Head → List ℕ → ℕ → Told Body → Told Entry
 withBody header start head payload room got =
-    andThen (bodyTold got) (λ body. withData header start head body (dataAnswer payload room))
+    andThen got (λ body. withData header start head body (dataAnswer payload room))
 
 -- header and payload, given what the header says
 unfoldable pub payloadAnswer : List ℕ → ℕ → Head → List ℕ → ℕ → Told Entry
@@ -76,26 +71,27 @@ payloadAnswer header start head payload room =
     withBody header start head payload room (bodyOf payload (drop (head .function) header))
 
 -- with the header
-unfoldable pub withHead : List ℕ → ℕ → ℕ → HeadAnswer → Told Entry
+unfoldable pub withHead : List ℕ → ℕ → ℕ → Told Head → Told Entry
 withHead t colon room got =
-    andThen (headTold got) (λ head. payloadAnswer (headerOf t colon) (startOf t colon) head (payloadOf t colon) room)
+    andThen got (λ head. payloadAnswer (headerOf t colon) (startOf t colon) head (payloadOf t colon) room)
 
 -- a line parted at a colon
 unfoldable pub partedAnswer : List ℕ → ℕ → ℕ → Told Entry
 partedAnswer t colon room = withHead t colon room (headOf (headerOf t colon))
 
 -- with the frame
-unfoldable pub withFrame : List ℕ → ℕ → FrameAnswer → Told Entry
-withFrame t room got = andThen (frameTold got) (λ colon. partedAnswer t colon room)
+unfoldable pub withFrame : List ℕ → ℕ → Told ℕ → Told Entry
+withFrame t room got = andThen got (λ colon. partedAnswer t colon room)
 
 -- what is told of a line, given the number of slots: the first number that applies, else the entry
 unfoldable pub parseOf : List ℕ → ℕ → Told Entry
 parseOf t room = withFrame t room (frameOf t)
 
 -- the dwords that a line would hand over
-unfoldable pub dwordsBy : List ℕ → FrameAnswer → List ℕ
-dwordsBy t (F.Colon k) = orEmpty (payloadData (payloadOf t k))
-dwordsBy t (F.Refused k) = []
+unfoldable pub dwordsBy : List ℕ → Told ℕ → List ℕ
+dwordsBy t (is k) = orEmpty (payloadData (payloadOf t k))
+dwordsBy t absent = []
+dwordsBy t (refused k) = []
 
 unfoldable pub lineDwords : List ℕ → List ℕ
 lineDwords t = dwordsBy t (frameOf t)

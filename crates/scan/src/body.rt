@@ -14,7 +14,7 @@ use text::number::MAX_32;
 use text::number::MAX_64;
 use text::number::Number;
 ghost use mathlib.Core.Path.{_≡_};
-ghost use Rattle.scan.specs.Body.{hexByte, hexWord, decimalByte, decimalWord, droppedOf, optionalsOf, bodyOf};
+ghost use Rattle.scan.specs.Body.{hexByte, hexWord, decimalByte, decimalWord, droppedOf, optionalsOf, bodyTold, bodyOf};
 
 pub struct Optionals {
     pub offset: MaybeWord,
@@ -42,7 +42,7 @@ pub enum BodyAnswer {
 
 // The kind goes by the type and the header's function.
 pub fn read_body(p: &[u8], function: &[u8]) -> BodyAnswer
-    ensures { λ r. ⌜ r ≡ bodyOf (now (p .entry)) (now (function .entry)) ⌝ }
+    ensures { λ r. ⌜ bodyTold r ≡ bodyOf (now (p .entry)) (now (function .entry)) ⌝ }
 {
     if pair_without_equals(p) {
         return BodyAnswer::Refused(10);

@@ -3,7 +3,7 @@ use text::place::Found;
 use text::place::byte_at;
 use text::place::last;
 ghost use mathlib.Core.Path.{_≡_};
-ghost use Rattle.scan.specs.Frame.{idle, firstHigh, frameOf};
+ghost use Rattle.scan.specs.Frame.{idle, firstHigh, frameTold, frameOf};
 
 pub enum FrameAnswer {
     Colon(usize),
@@ -12,7 +12,7 @@ pub enum FrameAnswer {
 
 // The last colon, which parts header from payload.
 pub fn read_frame(line: &[u8]) -> FrameAnswer
-    ensures { λ r. ⌜ r ≡ frameOf (now (line .entry)) ⌝ }
+    ensures { λ r. ⌜ frameTold r ≡ frameOf (now (line .entry)) ⌝ }
 {
     if is_idle(line) {
         return FrameAnswer::Refused(1);

@@ -8,7 +8,7 @@ use header::stamp::parse_timestamp;
 use text::number::Number;
 use text::place::Found;
 ghost use mathlib.Core.Path.{_≡_};
-ghost use Rattle.scan.specs.Head.{headOf};
+ghost use Rattle.scan.specs.Head.{headTold, headOf};
 
 // Task and function by their places in the header: the task starts it, the function ends it.
 pub struct Head {
@@ -26,7 +26,7 @@ pub enum HeadAnswer {
 }
 
 pub fn read_head(h: &[u8]) -> HeadAnswer
-    ensures { λ r. ⌜ r ≡ headOf (now (h .entry)) ⌝ }
+    ensures { λ r. ⌜ headTold r ≡ headOf (now (h .entry)) ⌝ }
 {
     let Found::At(task) = parse_task(h) else {
         return HeadAnswer::Refused(5);

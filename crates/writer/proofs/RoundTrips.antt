@@ -19,10 +19,10 @@ use Rattle.tlv.specs.Grammar.{All}
 use Rattle.tlv.specs.Reading.{between}
 use Rattle.tlv.proofs.Places.{between-is, bytes-take}
 use Rattle.entry.specs.declared.Entry.{Entry}
-use Rattle.entry.specs.Entry.{EntryValue, partOf, valueOf, Lies, SameEntry}
+use Rattle.entry.specs.Entry.{EntryValue, partOf, valueOf, SameEntry}
 use Rattle.entry.proofs.Parts.{part-in}
 use Rattle.record.specs.declared.rule.Letters.the-variants as L
-use Rattle.record.specs.Grammar.{recordBytes, Ranged, IsRecord}
+use Rattle.record.specs.Grammar.{recordBytes, IsRecord}
 use Rattle.record.specs.Rule.{isLetter}
 use Rattle.record.specs.Reading.{over, dwordsOf, readOf}
 use Rattle.record.proofs.Bodies.{fits-text-is, fits-text-all}

@@ -1,7 +1,8 @@
 -- `parse` meets its contract: a line is parted at its last colon, or its frame refuses it. Assumes nothing.
 use Rattle.scan.proofs.Frames.{frame-colon-within}
 use Rattle.scan.proofs.Stages.{line-refused, line-read}
-use mathlib.Core.Path.{sym, _∙_}
+use mathlib.Core.Path.{sym, ap, _∙_}
+use Rattle.scan.specs.Frame.{frameTold}
 use borrow.Author.Needs.{needs}
 use Rattle.scan.proofs.parse.Statement.{statement}
 use Rattle.scan.proofs.parse.Tie as tie
@@ -13,7 +14,7 @@ enum-known-colon : tie.Need-enum-known-colon
 enum-known-colon c = search needs
 
 parse-parted-requires : tie.Need-parse-parted-requires
-parse-parted-requires c κs = frame-colon-within _ (sym (c .before .before .before .before .read-frame .ensures) ∙ c .before .before .colon .given .1)
+parse-parted-requires c κs = frame-colon-within _ (sym (c .before .before .before .before .read-frame .ensures) ∙ ap frameTold (c .before .before .colon .given .1))
 
 enum-known-number : tie.Need-enum-known-number
 enum-known-number c = search needs
@@ -22,10 +23,10 @@ same-length : tie.Need-same-length
 same-length c = search needs
 
 returns : tie.Need-returns
-returns c = line-read _ _ (sym (c .before .before .before .before .before .before .before .read-frame .ensures) ∙ c .before .before .before .before .before .colon .given .1) (c .before .before .parse-parted .ensures)
+returns c = line-read _ _ (sym (c .before .before .before .before .before .before .before .read-frame .ensures) ∙ ap frameTold (c .before .before .before .before .before .colon .given .1)) (c .before .before .parse-parted .ensures)
 
 returns-2 : tie.Need-returns-2
-returns-2 c = line-refused _ _ (sym (c .before .before .before .read-frame .ensures) ∙ c .before .number .given .1)
+returns-2 c = line-refused _ _ (sym (c .before .before .before .read-frame .ensures) ∙ ap frameTold (c .before .number .given .1))
 
 pub parse-spec : {M : Type 1} → statement M
 parse-spec =

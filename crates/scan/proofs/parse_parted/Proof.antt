@@ -1,6 +1,6 @@
 -- `parse_parted` meets its contract: the header is the front stripped, the payload the rest. Assumes nothing.
 use Rattle.scan.proofs.Stages.{parted-refused, parted-read, parted-allows, payload-same}
-use Rattle.scan.specs.Head.{headOf}
+use Rattle.scan.specs.Head.{headTold, headOf}
 use Rattle.text.proofs.Stripping.{rest-is}
 use Rattle.text.specs.Run.{stripped}
 use Rattle.text.specs.Class.{inClass}
@@ -45,7 +45,7 @@ strip-requires-2 c κs = search needs
 parse-payload-requires : tie.Need-parse-payload-requires
 unfolding inClass
 parse-payload-requires c κs =
-    parted-allows (c .before .before .before .before .before .before .before .before .before .before .before .before .args .line .now) (c .before .before .before .before .before .before .before .before .before .before .before .before .args .colon) (c .before .before .before .before .before .before .before .before .strip .ensures .is) (c .before .before .before .run-end .ensures .is) (c .before .before .before .before .before .before .before .before .before .before .before .before .good .0 .0) (sym (c .before .before .before .before .before .before .before .read-head .ensures) ∙ c .before .before .before .before .before .head .given .1)
+    parted-allows (c .before .before .before .before .before .before .before .before .before .before .before .before .args .line .now) (c .before .before .before .before .before .before .before .before .before .before .before .before .args .colon) (c .before .before .before .before .before .before .before .before .strip .ensures .is) (c .before .before .before .run-end .ensures .is) (c .before .before .before .before .before .before .before .before .before .before .before .before .good .0 .0) (sym (c .before .before .before .before .before .before .before .read-head .ensures) ∙ ap headTold (c .before .before .before .before .before .head .given .1))
 
 enum-known-number : tie.Need-enum-known-number
 enum-known-number c = search needs
@@ -56,10 +56,10 @@ same-length c = search needs
 returns : tie.Need-returns
 unfolding inClass
 returns c =
-    parted-read _ _ _ (ap headOf (sym (c .before .before .before .before .before .before .before .before .before .before .before .strip .ensures .is)) ∙ sym (c .before .before .before .before .before .before .before .before .before .before .read-head .ensures) ∙ c .before .before .before .before .before .before .before .before .head .given .1) (payload-same (c .before .before .before .before .before .before .before .before .before .before .before .strip .ensures .is) (c .before .before .before .before .before .before .run-end .ensures .is) (c .before .before .before .before .strip2 .ensures .is ∙ ap stripped (rest-is (c .before .before .before .before .before .before .before .before .before .before .before .before .before .before .before .args .colon + 1) (c .before .before .before .before .before .before .before .before .before .before .before .before .before .before .before .args .line .now))) (c .before .before .parse-payload .ensures))
+    parted-read _ _ _ (ap headOf (sym (c .before .before .before .before .before .before .before .before .before .before .before .strip .ensures .is)) ∙ sym (c .before .before .before .before .before .before .before .before .before .before .read-head .ensures) ∙ ap headTold (c .before .before .before .before .before .before .before .before .head .given .1)) (payload-same (c .before .before .before .before .before .before .before .before .before .before .before .strip .ensures .is) (c .before .before .before .before .before .before .run-end .ensures .is) (c .before .before .before .before .strip2 .ensures ∙ ap stripped (rest-is (c .before .before .before .before .before .before .before .before .before .before .before .before .before .before .before .args .colon + 1) (c .before .before .before .before .before .before .before .before .before .before .before .before .before .before .before .args .line .now))) (c .before .before .parse-payload .ensures))
 
 returns-2 : tie.Need-returns-2
-returns-2 c = parted-refused _ _ _ (ap headOf (sym (c .before .before .before .before .strip .ensures .is)) ∙ sym (c .before .before .before .read-head .ensures) ∙ c .before .number .given .1)
+returns-2 c = parted-refused _ _ _ (ap headOf (sym (c .before .before .before .before .strip .ensures .is)) ∙ sym (c .before .before .before .read-head .ensures) ∙ ap headTold (c .before .number .given .1))
 
 pub parse-parted-spec : {M : Type 1} → statement M
 parse-parted-spec =

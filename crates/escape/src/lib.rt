@@ -6,7 +6,7 @@ ghost use Prim.Native.Nat.{_+_, _*_, _≤_};
 ghost use lib.ListN.{length};
 ghost use Rattle.print.specs.Put.{Placed};
 ghost use Rattle.listing_rows.specs.Rows.{Put};
-ghost use Rattle.shown.specs.Escape.{isPlain, shownByte, escaped};
+ghost use Rattle.escape.specs.Escape.{isPlain, shownByte, escaped};
 
 pub fn put_escaped(out: &mut [u8], at: usize, s: &[u8]) -> usize
     requires { ⌜ at + 4 * length (now s) ≤ length (now out) ⌝ }

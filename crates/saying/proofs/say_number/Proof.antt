@@ -3,12 +3,12 @@ use mathlib.Core.Path.{sym}
 use lib.Seq.{length-take-le}
 use Rattle.listing_rows.proofs.Putting.{decimal-put}
 use Rattle.listing_rows.specs.Rows.{wordAndNumber}
-use Rattle.shown.proofs.Escaping.{put-within}
-use Rattle.shown.proofs.Telling.{said-told, told-then, told-same, put-front}
+use Rattle.escape.proofs.Escaping.{put-within}
+use Rattle.saying.proofs.Telling.{said-told, told-then, told-same, put-front}
 use native.Mathlib.Omega.{arith}
 use borrow.Author.Needs.{needs}
-use Rattle.shown.proofs.words.say_number.Statement.{statement}
-use Rattle.shown.proofs.words.say_number.Tie as tie
+use Rattle.saying.proofs.say_number.Statement.{statement}
+use Rattle.saying.proofs.say_number.Tie as tie
 
 slice-aggregate-put-decimal : tie.Need-slice-aggregate-put-decimal
 slice-aggregate-put-decimal c = search needs

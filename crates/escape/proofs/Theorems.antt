@@ -11,7 +11,7 @@ use borrow.Author.Tests.{ltb-true, ltb-false, leb-true}
 use Rattle.text.proofs.Places.{clash}
 use Rattle.tlv.specs.Grammar.{All}
 use Rattle.print.specs.Hex.{hexDigit, byteText}
-use Rattle.shown.specs.Escape.{isPlain, shownByte, escaped, Printable}
+use Rattle.escape.specs.Escape.{isPlain, shownByte, escaped, Printable}
 
 -- a byte
 abbrev pub Byte : ℕ → Type 0

@@ -9,9 +9,9 @@ use Rattle.channel.specs.declared.sink.Sink.{Sink}
 use Rattle.channel.specs.Sink.{Waits, Said}
 use Rattle.listing_rows.specs.Rows.{Put}
 use Rattle.listing_rows.proofs.Putting.{put-then}
-use Rattle.shown.specs.Escape.{escaped}
-use Rattle.shown.specs.Telling.{Told, nameText}
-use Rattle.shown.proofs.Escaping.{escaped-append}
+use Rattle.escape.specs.Escape.{escaped}
+use Rattle.saying.specs.Telling.{Told, nameText}
+use Rattle.escape.proofs.Escaping.{escaped-append}
 
 -- what `say` says
 pub said-told : {out text exit : List ℕ} {sink r : Sink} → Said out sink text exit r → Told out sink text exit r

@@ -2,12 +2,12 @@
 use mathlib.Core.Path.{sym}
 use lib.Seq.{length-take-le}
 use Rattle.listing_rows.proofs.Putting.{put-whole}
-use Rattle.shown.proofs.Escaping.{put-within}
-use Rattle.shown.proofs.Telling.{said-told, told-same, put-front}
+use Rattle.escape.proofs.Escaping.{put-within}
+use Rattle.saying.proofs.Telling.{said-told, told-same, put-front}
 use native.Mathlib.Omega.{arith}
 use borrow.Author.Needs.{needs}
-use Rattle.shown.proofs.words.say_dword.Statement.{statement}
-use Rattle.shown.proofs.words.say_dword.Tie as tie
+use Rattle.saying.proofs.say_dword.Statement.{statement}
+use Rattle.saying.proofs.say_dword.Tie as tie
 
 slice-aggregate-put-dword : tie.Need-slice-aggregate-put-dword
 slice-aggregate-put-dword c = search needs

@@ -13,7 +13,7 @@ use Rattle.print.specs.Hex.{byteText}
 use Rattle.print.specs.Put.{Placed}
 use Rattle.listing_rows.specs.Rows.{Put}
 use Rattle.listing_rows.proofs.Putting.{put-whole, put-then, put-size}
-use Rattle.shown.specs.Escape.{isPlain, shownByte, escaped}
+use Rattle.escape.specs.Escape.{isPlain, shownByte, escaped}
 
 pub low-not-plain : (b : ℕ) → b < 32 → false ≡ isPlain b
 unfolding isPlain

@@ -1,11 +1,11 @@
 -- `escape::put_escaped` meets its contract: the first i bytes are shown in place (`Shown`). Assumes nothing.
 use Prim.Native.Nat.{_-_}
 use lib.ListN.{length}
-use Rattle.shown.proofs.Escaping.{Shown, shown-starts, shown-steps, shown-ends}
+use Rattle.escape.proofs.Escaping.{Shown, shown-starts, shown-steps, shown-ends}
 use borrow.Author.Needs.{needs}
 use native.Mathlib.Omega.{arith}
-use Rattle.shown.proofs.escape.put_escaped.Statement.{statement}
-use Rattle.shown.proofs.escape.put_escaped.Tie as tie
+use Rattle.escape.proofs.put_escaped.Statement.{statement}
+use Rattle.escape.proofs.put_escaped.Tie as tie
 
 abbrev Inv-loop : tie.InvT-loop
 Inv-loop out₀ at s i₀ behind₀ out i behind = Shown out₀ at s out behind i

@@ -1,8 +1,8 @@
 -- `escape::is_plain` meets its contract: each test decides the definition. Assumes nothing.
-use Rattle.shown.proofs.Escaping.{low-not-plain, high-not-plain, plain-by-backslash}
+use Rattle.escape.proofs.Escaping.{low-not-plain, high-not-plain, plain-by-backslash}
 use native.Mathlib.Omega.{arith}
-use Rattle.shown.proofs.escape.is_plain.Statement.{statement}
-use Rattle.shown.proofs.escape.is_plain.Tie as tie
+use Rattle.escape.proofs.is_plain.Statement.{statement}
+use Rattle.escape.proofs.is_plain.Tie as tie
 
 returns : tie.Need-returns
 returns c = low-not-plain _ (omega arith)

@@ -2,8 +2,8 @@
 use Prim.Native.Nat.{_-_, _≤_}
 use borrow.Author.Needs.{needs}
 use native.Mathlib.Omega.{arith}
-use Rattle.shown.proofs.words.zeros_end.Statement.{statement}
-use Rattle.shown.proofs.words.zeros_end.Tie as tie
+use Rattle.saying.proofs.zeros_end.Statement.{statement}
+use Rattle.saying.proofs.zeros_end.Tie as tie
 
 abbrev Inv-loop : tie.InvT-loop
 Inv-loop digits most i₀ i = i ≤ most

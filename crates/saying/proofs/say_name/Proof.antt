@@ -4,12 +4,12 @@ use mathlib.Core.Path.{refl, sym, _∙_}
 use lib.ListN.{length}
 use lib.Seq.{length-take-le}
 use Rattle.listing_rows.proofs.Putting.{put-size}
-use Rattle.shown.proofs.Escaping.{put-within}
-use Rattle.shown.proofs.Telling.{Pieces, told-same, nothing-told, no-name, pieces-start, pieces-step, pieces-end}
+use Rattle.escape.proofs.Escaping.{put-within}
+use Rattle.saying.proofs.Telling.{Pieces, told-same, nothing-told, no-name, pieces-start, pieces-step, pieces-end}
 use borrow.Author.Needs.{needs}
 use native.Mathlib.Omega.{arith}
-use Rattle.shown.proofs.words.say_name.Statement.{statement}
-use Rattle.shown.proofs.words.say_name.Tie as tie
+use Rattle.saying.proofs.say_name.Statement.{statement}
+use Rattle.saying.proofs.say_name.Tie as tie
 
 abbrev Inv-loop : tie.InvT-loop
 Inv-loop out₀ word name room₀ to₀ from₀ out room to from = Pieces out₀ to₀ name out room to from

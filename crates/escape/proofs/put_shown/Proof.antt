@@ -3,9 +3,9 @@ use mathlib.Core.Path.{sym, _∙_}
 use borrow.Author.Needs.{needs}
 use Rattle.print.proofs.Copying.{placed-same}
 use Rattle.print.proofs.Hexing.{two-same}
-use Rattle.shown.proofs.Escaping.{plain-shown, other-shown}
-use Rattle.shown.proofs.escape.put_shown.Statement.{statement}
-use Rattle.shown.proofs.escape.put_shown.Tie as tie
+use Rattle.escape.proofs.Escaping.{plain-shown, other-shown}
+use Rattle.escape.proofs.put_shown.Statement.{statement}
+use Rattle.escape.proofs.put_shown.Tie as tie
 
 is-plain-requires : tie.Need-is-plain-requires
 is-plain-requires c κs = search needs

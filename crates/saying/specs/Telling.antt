@@ -6,7 +6,7 @@ use lib.ListN.{length}
 use Rattle.channel.specs.declared.sink.Sink.{Sink}
 use Rattle.channel.specs.Sink.{Waits}
 use Rattle.text.specs.Decimal.{decimalText}
-use Rattle.shown.specs.Escape.{escaped}
+use Rattle.escape.specs.Escape.{escaped}
 
 -- a text was said: after a write that failed nothing is put; where there is room for all of it, it waits behind what waited, and nothing is written
 pub record Told (out : List ℕ) (sink : Sink) (text exit : List ℕ) (r : Sink) : Type 0 where

@@ -49,14 +49,22 @@ fn say_reason(out: &mut [u8], sink: Sink, number: u8) -> Sink {
 
 fn say_of_line(out: &mut [u8], sink: Sink, number: u8) -> Sink {
     match number {
-        1 => say(out, sink, b"the line is empty, a newline alone, or a comment"),
+        1 => say(
+            out,
+            sink,
+            b"the line is empty, a newline alone, or a comment",
+        ),
         2 => say(out, sink, b"the line has more than 4,096 bytes"),
         3 => say(out, sink, b"the line has a byte of 128 or more"),
         4 => say(out, sink, b"no colon parts header from payload"),
         5 => say(out, sink, b"the header has no task"),
         6 => say(out, sink, b"the header has no pid, or one past 32 bits"),
         7 => say(out, sink, b"the header has no CPU in brackets"),
-        8 => say(out, sink, b"the header has no timestamp, or one with a part past 63 bits"),
+        8 => say(
+            out,
+            sink,
+            b"the header has no timestamp, or one with a part past 63 bits",
+        ),
         9 => say(out, sink, b"the header does not end with a function"),
         11 => say(out, sink, b"the payload has no `type`"),
         12 => say(out, sink, b"`size` is missing or no decimal of 16 bits"),
@@ -75,7 +83,11 @@ fn say_of_packet(out: &mut [u8], sink: Sink, number: u8) -> Sink {
         22 => say(out, sink, b"the book has no control table for the kind"),
         23 => say(out, sink, b"the book has no header table for kind 8 or 9"),
         24 => say(out, sink, b"the packet has more than 256 dwords"),
-        25 => say(out, sink, b"a packet of kind 2 or 3 has fewer dwords than its table has entries"),
+        25 => say(
+            out,
+            sink,
+            b"a packet of kind 2 or 3 has fewer dwords than its table has entries",
+        ),
         _ => say(out, sink, b"refused"),
     }
 }

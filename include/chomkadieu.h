@@ -23,40 +23,40 @@ extern "C" {
 /* A number of 0 is success. All others say why there is no answer, and then all that was lent is as it was found. */
 enum {
     CK_OK = 0,
-    CK_IDLE = 1,           /* the line is empty, a newline alone, or a comment (`#` first) */
-    CK_LONG = 2,           /* the line has more than 4,096 bytes */
-    CK_HIGH = 3,           /* the line has a byte of 128 or more */
-    CK_NO_COLON = 4,       /* nothing parts header from payload */
-    CK_NO_TASK = 5,        /* the header has no task */
-    CK_NO_PID = 6,         /* the header has no pid, or one past 32 bits */
-    CK_NO_CPU = 7,         /* the header has no `[ddd]` */
-    CK_NO_TIMESTAMP = 8,   /* the header has no timestamp, or one with a part past 63 bits */
-    CK_NO_FUNCTION = 9,    /* the header does not end with a function */
-    CK_NO_EQUALS = 10,     /* a pair has no `=`: no line is refused so, the number is kept */
-    CK_NO_TYPE = 11,       /* the payload has no `type` */
-    CK_NO_SIZE = 12,       /* `size` is missing or no decimal of 16 bits */
-    CK_NO_DOMAIN = 13,     /* `domain` is missing or no decimal of 32 bits */
-    CK_NO_ROUTE = 14,      /* `route` is missing or no hex number of 64 bits */
-    CK_NO_DATA = 15,       /* `data` is missing or not in brackets */
-    CK_MANY_DWORDS = 16,   /* the line has more than 256 dwords */
-    CK_FEW_SLOTS = 17,     /* the line has more dwords than slots are lent */
-    CK_BAD_BOOK = 20,      /* the book breaks its grammar */
-    CK_NO_KIND = 21,       /* the packet's kind is 0 */
-    CK_NO_TABLE = 22,      /* the book has no control table for the kind */
-    CK_NO_HEADER = 23,     /* kind 8 or 9, and the book has no header table */
-    CK_MANY_PACKET_DWORDS = 24, /* the packet has more than 256 dwords */
-    CK_FEW_DWORDS = 25,    /* kind 2 or 3, and fewer dwords than the kind's table has entries */
-    CK_FEW_PLACES = 26,    /* fewer places are lent than the packet has dwords */
-    CK_NO_PACKET_ROUTE = 27, /* the packet's route was asked for, and it has fewer than two dwords */
-    CK_UNNAMED_TYPE = 28,  /* the value of `Packet Type` has no name */
-    CK_NO_RECORD = 30,     /* under 3 bytes, not A1 first, or a length that is not that of the rest */
-    CK_OVERRUN = 31,       /* a field of the record runs past its end */
-    CK_BAD_TAG = 32,       /* a tag is unknown, repeated or not ascending */
-    CK_MISSING_TAG = 33,   /* a required tag is missing */
-    CK_BAD_BODY = 34,      /* a field's body breaks its rule */
-    CK_RECORD_SLOTS = 35,  /* the record has more dwords than slots are lent */
-    CK_SHORT_BUFFER = 36,  /* the lent buffer is too short for the record */
-    CK_BAD_ENTRY = 37      /* the entry is out of a record's ranges, or its parts lie outside what is lent */
+    CK_IDLE = 1,              /* the line is empty, a newline alone, or a comment */
+    CK_LONG_LINE = 2,         /* the line has more than 4,096 bytes */
+    CK_NOT_ASCII = 3,         /* the line has a byte of 128 or more */
+    CK_NO_COLON = 4,          /* no colon parts header from payload */
+    CK_NO_TASK = 5,           /* the header has no task */
+    CK_NO_PID = 6,            /* the header has no pid, or one past 32 bits */
+    CK_NO_CPU = 7,            /* the header has no CPU in brackets */
+    CK_NO_TIMESTAMP = 8,      /* the header has no timestamp, or one with a part past 63 bits */
+    CK_NO_FUNCTION = 9,       /* the header does not end with a function */
+    CK_NO_EQUALS = 10,        /* a pair has no `=` */
+    CK_NO_TYPE = 11,          /* the payload has no `type` */
+    CK_NO_SIZE = 12,          /* `size` is missing or no decimal of 16 bits */
+    CK_NO_DOMAIN = 13,        /* `domain` is missing or no decimal of 32 bits */
+    CK_NO_ROUTE = 14,         /* `route` is missing or no hex number of 64 bits */
+    CK_NO_DATA = 15,          /* `data` is missing or not in brackets */
+    CK_MANY_DWORDS = 16,      /* the line has more than 256 dwords */
+    CK_FEW_SLOTS = 17,        /* fewer slots are lent than the line has dwords */
+    CK_BAD_BOOK = 20,         /* the book breaks its grammar */
+    CK_NO_KIND = 21,          /* the packet is of no known kind */
+    CK_NO_TABLE = 22,         /* the book has no control table for the kind */
+    CK_NO_HEADER_TABLE = 23,  /* the book has no header table for kind 8 or 9 */
+    CK_LONG_PACKET = 24,      /* the packet has more than 256 dwords */
+    CK_SHORT_PACKET = 25,     /* a packet of kind 2 or 3 has fewer dwords than its table has entries */
+    CK_FEW_PLACES = 26,       /* fewer places are lent than the packet has dwords */
+    CK_NO_PACKET_ROUTE = 27,  /* a packet of fewer than two dwords has no route */
+    CK_UNNAMED_TYPE = 28,     /* the value of `Packet Type` has no name */
+    CK_NO_RECORD = 30,        /* no record: under 3 bytes, not A1 first, or a length that is not the rest */
+    CK_OVERRUN = 31,          /* a field of the record runs past the end */
+    CK_BAD_TAG = 32,          /* a tag of the record is unknown, repeated or not ascending */
+    CK_MISSING_TAG = 33,      /* a required tag of the record is missing */
+    CK_BAD_BODY = 34,         /* the body of a record's field breaks its rule */
+    CK_FEW_RECORD_SLOTS = 35, /* fewer slots are lent than the record has dwords */
+    CK_SHORT_BUFFER = 36,     /* the lent buffer is too short for the record */
+    CK_BAD_ENTRY = 37         /* the entry is out of the record's ranges, or its parts lie outside what is lent */
 };
 
 /* What an optional field says if it is absent, and a question if it has no answer. */

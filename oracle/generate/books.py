@@ -192,6 +192,29 @@ def latching(seed):
     return tables
 
 
+def two_types(seed):
+    """Two ranges named `Packet Type` in one entry, of other bits and value names: the first counts."""
+    def pair():
+        return [bits(low, low + 1, b"Packet Type", [(v, seed.pick(TYPE_NAMES)) for v in range(4) if seed.one_in(2)])
+                for low in seed.shuffled((0, 2, 5))[:2]]
+    tables = [control(kind, [entry(0, None, None, pair())] if kind < 8 else []) for kind in (1, 5, 8, 9)]
+    tables.append(protocol(HEADER, uuid_entries(seed, 4, 1)))
+    for uuid in UUIDS[:3]:
+        found = [entry(6, b"T", None, pair())]
+        found += [entry(o, None, k) for o in (7, 8) for k in (None, *TYPE_NAMES) if seed.one_in(2)]
+        tables.append(protocol(uuid, found))
+    return tables
+
+
+def uuid_range(seed):
+    """Ranges named `UUID` in entries of other names, in place of `UUID` fields or beside four of them: they are no such fields."""
+    def ranged(offset):
+        return entry(offset, seed.pick((None, b"x", b"uuid")), None, [bits(0, 31, b"UUID")])
+    tables = [control(8, [ranged(offset) for offset in range(seed.below(5))]), control(9, [ranged(seed.within(5, 7))])]
+    tables.append(protocol(HEADER, uuid_entries(seed, 4, 1) if seed.one_in(2) else [ranged(offset) for offset in range(1, 5)]))
+    return tables + [protocol(uuid, protocol_entries(seed)) for uuid in UUIDS[:3]]
+
+
 def zero_uuid(seed):
     """Typed entries in the header table, for the all-zero UUID to select."""
     header = uuid_entries(seed, 4, 2) + [entry(6, b"Type", None, [type_range(seed, True)])]
@@ -264,7 +287,7 @@ CLASSES = {
     "empty": empty, "plain": plain, "three uuids": three_uuids, "four uuids": four_uuids,
     "five uuids": five_uuids, "latching": latching, "zero uuid": zero_uuid,
     "late uuid": late_uuid, "no header": no_header, "ranges": ranges, "sparse": sparse,
-    "large": large, "any book": any_book,
+    "large": large, "any book": any_book, "two types": two_types, "uuid range": uuid_range,
 }
 # Those that step 3 leans on come more often, large ones seldom.
 SHARE = {"four uuids": 3, "latching": 3, "zero uuid": 2, "any book": 2, "large": 0.1, "empty": 0.5}

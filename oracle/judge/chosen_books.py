@@ -53,6 +53,26 @@ def latching():
         protocol(HEADER, uuid_at(0, 1, 2, 3)), protocol(ONE, first), protocol(OTHER, other)]
 
 
+TWO_TYPES = [bits(0, 1, b"Packet Type", [(1, b"A")]), bits(2, 3, b"Packet Type", [(0, b"C"), (1, b"B"), (2, b"A")])]
+
+
+def two_types():
+    """Two ranges named `Packet Type` in one entry: the first alone latches and is asked."""
+    typed = [entry(5, name.lower(), name) for name in (b"A", b"B", b"C")]
+    return [
+        control(1, [entry(0, b"t", None, TWO_TYPES)]), control(8), control(9, [entry(4, b"own", None, TWO_TYPES[::-1])]),
+        protocol(HEADER, uuid_at(0, 1, 2, 3)), protocol(ONE, [entry(4, b"t", None, TWO_TYPES), *typed, entry(5, b"n")])]
+
+
+def uuid_ranges():
+    """Ranges named `UUID` in entries of other names: four of them make no UUID, and one beside four fields does not spoil theirs."""
+    whole = [bits(0, 31, b"UUID")]
+    return [
+        control(8, [entry(4, b"u", None, whole)]), control(9, [entry(offset, b"u", None, whole) for offset in range(4)]),
+        control(5, [entry(offset, None, None, whole) for offset in range(4)]),
+        protocol(HEADER, uuid_at(0, 1, 2, 3)), protocol(ONE, [entry(5, b"five")])]
+
+
 def wide():
     """Ranges wider than the questions' casts."""
     ranges = [bits(0, 31, name) for name in (
@@ -87,6 +107,18 @@ def every_uuid():
         yield kind, [*uuid, 5, 6, 7, 8][:count]
 
 
+def both_types():
+    """Each value of the two ranges."""
+    for both in range(16):
+        yield 1, [both, 0]
+        yield from ((kind, [*ONE, both, 7]) for kind in (8, 9))
+
+
+def ranged_uuids():
+    """A UUID that a table has, in four dwords and more."""
+    yield from ((kind, [*ONE, 5, 6][:count]) for kind in (5, 8, 9) for count in (3, 4, 5, 6))
+
+
 def route_bits():
     """The route and its top bit; ranges cut at 8 and 16 bits."""
     for kind, first in product(range(1, 13), (0x80000000, 0x40000000, 0xFFFFFFFF, 0x12345)):
@@ -96,7 +128,7 @@ def route_bits():
 # Each book with the packets that are asked of it beside the generated ones.
 PACKETS = {
     three_entries: around_three, many_entries: around_many, typed_header: every_type,
-    late_uuids: every_uuid, latching: every_type, wide: route_bits}
+    late_uuids: every_uuid, latching: every_type, wide: route_bits, two_types: both_types, uuid_ranges: ranged_uuids}
 BOOKS = list(PACKETS)
 
 

@@ -3,15 +3,15 @@
 import struct
 from collections import Counter
 
-from generate import books, lines as line_generator, packets as packet_generator, short
+from generate import books, lines as line_generator, packets as packet_generator, records as record_generator, short
 from generate.broken import RULES
-from generate.seed import frame
+from generate.seed import Seed, frame
 from generate.tree import encoded
-from judge import chosen, chosen_books
+from judge import chosen, chosen_books, chosen_records
 from judge.differ import group
 from judge.lines import beyond
 from judge.tally import ask
-from reading import book as book_reading, line as line_reading, packet as packet_reading
+from reading import book as book_reading, line as line_reading, packet as packet_reading, record as record_reading
 
 SEED = 2024
 SLOTS = 256
@@ -207,3 +207,41 @@ def freeze_checks(origin):
         origin[f"both readers, {answer}"] += 1
     data = b"".join(map(frame, found))
     return {"book-checks.bin": data, "book-checks.txt": text(answers)}, answers
+
+
+# Records
+
+GENERATED_RECORDS = 780
+LONGEST_RECORD = 150
+
+
+def made_records():
+    """Good records and one of each damage in turn, short ones; some are lent few slots or little room, in some a number is set."""
+    source, ways = Seed(SEED), (None, *record_generator.DAMAGES)
+    for index in range(GENERATED_RECORDS):
+        listed = record_generator.fields(record_generator.entry(source))
+        way = ways[index % len(ways)]
+        data = way(source, listed) if way else record_generator.framed(listed)
+        slots = source.below(4) if source.one_in(6) else SLOTS
+        room = max(len(data) - source.below(2), 0) if source.one_in(3) else chosen_records.ROOM
+        change = source.below(len(record_reading.SET)) if source.one_in(3) else 0
+        value = source.below(2**source.pick((4, 8, 16, 32, 64))) if change else 0
+        if len(data) <= LONGEST_RECORD:
+            yield data, slots, room, change, value % RECORD_TOPS.get(record_reading.SET[change], 2**64)
+
+
+# Numbers of an entry that are narrower than what a frame sets them to.
+RECORD_TOPS = {name: 2**(8 * width) for name, width, _ in record_reading.NUMBERS.values()}
+
+
+def record_frame(data, slots, room, change, value):
+    """Lengths of the record, the slots and the room, the number that is set and its value; then the record."""
+    return struct.pack("<HHHBQ", len(data), slots, room, change, value) + data
+
+
+def freeze_records(origin):
+    """The Rust knows no record, so the reading answers all."""
+    cases = list(dict.fromkeys([*chosen_records.cases(), *made_records()]))
+    answers = [record_reading.answer(*case) for case in cases]
+    origin["the reading"] = len(answers)
+    return {"records.bin": b"".join(record_frame(*case) for case in cases), "records.txt": text(answers)}, answers

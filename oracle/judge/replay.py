@@ -1,6 +1,6 @@
-"""Replays the frozen sample: python3 replay.py FOLDER_OF_READING FROZEN lines|packets
+"""Replays the frozen sample: python3 replay.py FOLDER_OF_READING FROZEN lines|packets|records
 
-Prints how many answers differ, of lines, or of packets and books. A crash counts as another answer.
+Prints how many answers differ, of lines, of packets and books, or of records. A crash counts as another answer.
 """
 
 import os
@@ -44,12 +44,21 @@ def packet_case(books, body):
     return books[index], body[8], list(numbers(body, 9, (len(body) - 9) // 4)), places
 
 
+def record_cases(data):
+    """Record, slots and room lent, number that is set and its value."""
+    at = 0
+    while at < len(data):
+        length, *rest = struct.unpack_from("<HHHBQ", data, at)
+        yield data[at + 15:at + 15 + length], *rest
+        at += 15 + length
+
+
 def differing(cases, frozen, answer):
     count = 0
     for case, expected in zip(cases, frozen, strict=True):
         try:
             count += answer(*case) != expected
-        except (IndexError, KeyError, TypeError, ValueError, AttributeError):
+        except (IndexError, KeyError, TypeError, ValueError, AttributeError, OverflowError):
             count += 1
     return count
 
@@ -69,10 +78,18 @@ def replay_packets(folder):
         + differing(checks, answers(folder, "book-checks.txt"), book.answer)
 
 
+def replay_records(folder):
+    from reading import record
+    return differing(record_cases(load(folder, "records.bin")), answers(folder, "records.txt"), record.answer)
+
+
+REPLAYS = {"lines": replay_lines, "packets": replay_packets, "records": replay_records}
+
+
 def main():
     _, reading, frozen, what = sys.argv
     sys.path.insert(0, reading)
-    print(replay_lines(frozen) if what == "lines" else replay_packets(frozen))
+    print(REPLAYS[what](frozen))
 
 
 if __name__ == "__main__":

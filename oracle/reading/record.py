@@ -1,5 +1,6 @@
 """The record: bytes to an entry, or the number of the refusal, and an entry to its bytes."""
 
+from reading.line import printed
 from reading.texts import WORDS, Refused
 
 MARK = 0xA1
@@ -18,6 +19,7 @@ NUMBERS = {
 TASK, FUNCTION, DATA = 0x01, 0x06, 0x13
 TAGS = sorted([TASK, FUNCTION, DATA, *NUMBERS])
 OPTIONAL = range(0x0C, 0x13)
+NAMES = {TASK: "task", FUNCTION: "function", DATA: "data", **{tag: row[0] for tag, row in NUMBERS.items()}}
 
 
 def demand(holds, number):
@@ -101,3 +103,57 @@ def write_record(entry, room=5227):
     rest = b"".join(field(tag, body) for tag, body in bodies if body is not None)
     demand(len(rest) + 3 <= room, 36)
     return field(MARK, rest)
+
+
+# Where an entry's parts lie: task and function in the text, its dwords from the first slot.
+PLACES = ("task_at", "task_len", "function_at", "function_len", "dwords")
+# What a caller may set in an entry before it is written, by number; 0 for nothing.
+SET = (None, *PLACES, "cpu", "sec", "usec", "kind")
+
+
+def places(record):
+    """The places of a record that was accepted."""
+    found, at = {}, 3
+    while at < len(record):
+        size = int.from_bytes(record[at + 1:at + 3], "little")
+        found[record[at]] = at + 3, size
+        at += 3 + size
+    return dict(zip(PLACES, (*found[TASK], *found[FUNCTION], found[DATA][1] // 4)))
+
+
+def part(text, at, length):
+    """A part of what is lent, or 37 where it does not lie in it."""
+    demand(at + length <= len(text), 37)
+    return text[at:at + length]
+
+
+def write_lent(text, entry, slots, room):
+    """The record of an entry whose parts lie in a text and in slots."""
+    parts = {
+        "task": part(text, entry["task_at"], entry["task_len"]),
+        "function": part(text, entry["function_at"], entry["function_len"]),
+        "data": part(slots, 0, entry["dwords"])}
+    return write_record(entry | parts, room)
+
+
+def written(record, entry, slots, room, change, value):
+    """What writing the entry of a record again gives, one of its numbers set to another value."""
+    lent = entry["data"] + [0] * (slots - len(entry["data"]))
+    asked = entry | places(record)
+    if SET[change]:
+        asked[SET[change]] = value
+    try:
+        made = write_lent(record, asked, lent, room)
+    except Refused as refusal:
+        return f"refused{refusal.number}"
+    return "same" if made == record else made.hex()
+
+
+def answer(record, slots, room, change=0, value=0):
+    """The row of a record that is read into so many slots and written again into so many bytes."""
+    try:
+        entry = read_record(record, slots)
+    except Refused as refusal:
+        return f"refused {refusal.number}"
+    row = printed({NAMES[tag]: entry[NAMES[tag]] for tag in TAGS})
+    return f"{row} written={written(record, entry, slots, room, change, value)}"

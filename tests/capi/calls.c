@@ -64,7 +64,7 @@ static void lines(void) {
 /* Each number of a line that a caller can meet. */
 static void refused_lines(void) {
     static const struct { const char *text; size_t slots; uint8_t number; } cases[] = {
-        {"", SLOTS, CK_IDLE}, {"\n", SLOTS, CK_IDLE}, {"# tracer: nop\n", SLOTS, CK_IDLE}, {"a\x80:", SLOTS, CK_HIGH},
+        {"", SLOTS, CK_IDLE}, {"\n", SLOTS, CK_IDLE}, {"# tracer: nop\n", SLOTS, CK_IDLE}, {"a\x80:", SLOTS, CK_NOT_ASCII},
         {"nonsense", SLOTS, CK_NO_COLON}, {"-1 [002] 1.2: f: ", SLOTS, CK_NO_TASK}, {"a-x [002] 1.2: f: ", SLOTS, CK_NO_PID},
         {"a-1 [02] 1.2: f: ", SLOTS, CK_NO_CPU}, {"a-1 [002] f: ", SLOTS, CK_NO_TIMESTAMP}, {"a-1 [002] 1.2: f g: ", SLOTS, CK_NO_FUNCTION},
         {"a-1 [002] 1.2: f: size=3", SLOTS, CK_NO_TYPE}, {"a-1 [002] 1.2: f: type=t", SLOTS, CK_NO_SIZE},
@@ -94,7 +94,7 @@ static void limits(void) {
     uint32_t *slots = fresh_slots();
     see(ck_parse(bytes(line), 4096, slots, SLOTS).number == CK_OK && untouched(1), "a line of 4,096 bytes");
     slots = fresh_slots();
-    see(ck_parse(bytes(line), 4097, slots, SLOTS).number == CK_LONG && untouched(0), "a line of 4,097 bytes");
+    see(ck_parse(bytes(line), 4097, slots, SLOTS).number == CK_LONG_LINE && untouched(0), "a line of 4,097 bytes");
     ck_entry_answer a = ck_parse(bytes(line), many(line, 256), slots, SLOTS);
     see(a.number == CK_OK && a.entry.dwords == 256 && untouched(256), "256 dwords");
     slots = fresh_slots();
@@ -131,9 +131,9 @@ static void records(void) {
         "and the same payload");
     see(ck_read(out, w.bytes, slots, SLOTS).number == CK_OK, "the intake takes the record");
     see(ck_read(bytes(FWD), sizeof FWD - 1, slots, SLOTS).number == CK_OK, "and the line");
-    see(ck_parse(out, w.bytes, slots, SLOTS).number == CK_HIGH, "no record is a line");
+    see(ck_parse(out, w.bytes, slots, SLOTS).number == CK_NOT_ASCII, "no record is a line");
     slots = fresh_slots();
-    see(ck_record_read(out, w.bytes, slots, 0).number == CK_RECORD_SLOTS && untouched(0), "a record with too few slots");
+    see(ck_record_read(out, w.bytes, slots, 0).number == CK_FEW_RECORD_SLOTS && untouched(0), "a record with too few slots");
     see(ck_record_read(out, w.bytes - 1, slots, SLOTS).number == CK_NO_RECORD && untouched(0), "a record cut short");
     see(ck_read(bytes("\xa1\x00\x00"), 3, slots, SLOTS).number == CK_MISSING_TAG && untouched(0), "a record with no field");
     see(ck_read(bytes("\xa1\x01\x00\x01"), 4, slots, SLOTS).number == CK_OVERRUN && untouched(0), "a field past the end");
@@ -164,9 +164,9 @@ static void whats(void) {
     see(text_is(out, size, CK_IS_RECORD, CK_OK), "its record is a record");
     see(!memcmp(out, found, size) && unwritten(size), "and what was lent is as found");
     see(text_is(out, size - 1, CK_IS_NEITHER, CK_NO_RECORD), "a record cut short is neither");
-    see(text_is(out + 1, size - 1, CK_IS_NEITHER, CK_HIGH), "nor is one without its A1");
+    see(text_is(out + 1, size - 1, CK_IS_NEITHER, CK_NOT_ASCII), "nor is one without its A1");
     static const struct { const char *text; size_t size; uint8_t number; } cases[] = {
-        {"", 0, CK_IDLE}, {"\n", 1, CK_IDLE}, {"# tracer: nop\n", 14, CK_IDLE}, {"a\x80:", 3, CK_HIGH}, {"nonsense", 8, CK_NO_COLON},
+        {"", 0, CK_IDLE}, {"\n", 1, CK_IDLE}, {"# tracer: nop\n", 14, CK_IDLE}, {"a\x80:", 3, CK_NOT_ASCII}, {"nonsense", 8, CK_NO_COLON},
         {"\xa1", 1, CK_NO_RECORD}, {"\xa1\x00\x00", 3, CK_MISSING_TAG}, {"\xa1\x01\x00\x01", 4, CK_OVERRUN},
         {"\xa1\x03\x00\x14\x00\x00", 6, CK_BAD_TAG}, {"\xa1\x03\x00\x02\x00\x00", 6, CK_BAD_BODY}};
     for (size_t i = 0; i < sizeof cases / sizeof *cases; i++)
@@ -174,7 +174,7 @@ static void whats(void) {
     char line[4096];
     see(text_is(line, many(line, 256), CK_IS_LINE, CK_OK), "256 dwords are a line");
     see(text_is(line, many(line, 257), CK_IS_NEITHER, CK_MANY_DWORDS), "257 are not, and not for want of slots");
-    see(text_is(long_text("a", 4097), 4097, CK_IS_NEITHER, CK_LONG) && text_is(long_text("#", 65540), 65540, CK_IS_NEITHER, CK_IDLE), "long lines");
+    see(text_is(long_text("a", 4097), 4097, CK_IS_NEITHER, CK_LONG_LINE) && text_is(long_text("#", 65540), 65540, CK_IS_NEITHER, CK_IDLE), "long lines");
     see(text_is(long_text("\xa1\xff\xff", 65538), 65538, CK_IS_NEITHER, CK_BAD_TAG), "65,538 bytes may be framed");
     see(text_is(long_text("\xa1\xff\xff", 65539), 65539, CK_IS_NEITHER, CK_NO_RECORD), "65,539 may not");
 }
@@ -286,7 +286,7 @@ static void packets(void) {
     see(is_refused(ck_packet_route(PACKET(1, bare)), CK_NO_PACKET_ROUTE) && is_refused(ck_described_cm(bare, 1), CK_NO_PACKET_ROUTE), "one dword is no route");
     see(is_refused(ck_packet_route(PACKET(0, read)), CK_NO_KIND) && is_refused(ck_packet_cm(PACKET(12, read)), CK_NO_TABLE), "no kind, no table");
     see(is_refused(ck_packet_adapter_num(1, bytes("x"), 1, read, 3), CK_BAD_BOOK), "no book");
-    see(is_refused(ck_packet_data_size(PACKET(2, bare)), CK_FEW_DWORDS) && ck_packet_data(PACKET(2, bare)) == 0, "too few dwords");
+    see(is_refused(ck_packet_data_size(PACKET(2, bare)), CK_SHORT_PACKET) && ck_packet_data(PACKET(2, bare)) == 0, "too few dwords");
 }
 
 /* Fields, their ranges and names. */

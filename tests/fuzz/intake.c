@@ -61,7 +61,7 @@ int LLVMFuzzerTestOneInput(const uint8_t *data, size_t size) {
     part text = {lend(parts[TEXT].at, parts[TEXT].len), parts[TEXT].len}, book = {lend(parts[BOOK].at, parts[BOOK].len), parts[BOOK].len};
     size_t slots = count_of(choice(parts, 0, 2), CK_MOST_DWORDS, MOST_SLOTS), places = count_of(choice(parts, 2, 2), CK_MOST_DWORDS, MOST_PLACES);
     read_into(&e, ck_read, text.at, text.len, slots);
-    must(e.number <= CK_FEW_SLOTS || (e.number >= CK_NO_RECORD && e.number <= CK_RECORD_SLOTS), "the intake gives 0, 1 to 17 or 30 to 35");
+    must(e.number <= CK_FEW_SLOTS || (e.number >= CK_NO_RECORD && e.number <= CK_FEW_RECORD_SLOTS), "the intake gives 0, 1 to 17 or 30 to 35");
     must(e.number == CK_OK || (text.len && text.at[0] == 0xa1) == (e.number >= CK_NO_RECORD), "30 and up are of texts that start with A1");
     what_by_reading(text);
     take_packet(&first, text, book, slots, places);

@@ -6,9 +6,9 @@ const unsigned used_parts = 1 << CHOICES | 1 << TEXT;
 /* The first numbers, from their words alone; 0 where a later one or an entry is to come. */
 static uint8_t early(part t) {
     if (t.len == 0 || t.at[0] == '#' || (t.len == 1 && t.at[0] == '\n')) return CK_IDLE;
-    if (t.len > MOST_TEXT) return CK_LONG;
+    if (t.len > MOST_TEXT) return CK_LONG_LINE;
     for (size_t i = 0; i < t.len; i++)
-        if (t.at[i] >= 128) return CK_HIGH;
+        if (t.at[i] >= 128) return CK_NOT_ASCII;
     return memchr(t.at, ':', t.len) ? CK_OK : CK_NO_COLON;
 }
 

@@ -40,9 +40,9 @@ static uint8_t expected(const asked *q, size_t entries, int has_table) {
     if (ck_book_check(q->book, q->book_len)) return CK_BAD_BOOK;
     if (!q->kind) return CK_NO_KIND;
     if (!has_table) return CK_NO_TABLE;
-    if ((q->kind == 8 || q->kind == 9) && !find_table(q->book, q->book_len, 2, zeros, 16, &header)) return CK_NO_HEADER;
-    if (q->count > CK_MOST_DWORDS) return CK_MANY_PACKET_DWORDS;
-    return (q->kind == 2 || q->kind == 3) && q->count < entries ? CK_FEW_DWORDS : CK_OK;
+    if ((q->kind == 8 || q->kind == 9) && !find_table(q->book, q->book_len, 2, zeros, 16, &header)) return CK_NO_HEADER_TABLE;
+    if (q->count > CK_MOST_DWORDS) return CK_LONG_PACKET;
+    return (q->kind == 2 || q->kind == 3) && q->count < entries ? CK_SHORT_PACKET : CK_OK;
 }
 
 /* Step 2: the values of the fields named `UUID`; how many there are. */

@@ -11,7 +11,7 @@ static void with_slots(const told *enough, const uint8_t *text, size_t len, size
     static told few;
     read_into(&few, ck_record_read, text, len, count);
     int fits = enough->number != CK_OK || enough->entry.dwords <= count;
-    must(few.number == (fits ? enough->number : CK_RECORD_SLOTS), "slots matter only where they are too few");
+    must(few.number == (fits ? enough->number : CK_FEW_RECORD_SLOTS), "slots matter only where they are too few");
     if (few.number == CK_OK) must(same_flat(&few.entry, &enough->entry) && same_entry(&few, enough), "and not to the entry");
 }
 

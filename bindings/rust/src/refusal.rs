@@ -46,40 +46,40 @@ macro_rules! refusals {
 }
 
 refusals! {
-    Idle = 1, "the line says nothing: it is empty or a comment";
+    Idle = 1, "the line is empty, a newline alone, or a comment";
     LongLine = 2, "the line has more than 4,096 bytes";
     NotAscii = 3, "the line has a byte of 128 or more";
-    NoColon = 4, "no colon parts a header from a payload";
-    NoTask = 5, "the header does not start with a task";
-    NoPid = 6, "the task has no process number of 32 bits behind it";
+    NoColon = 4, "no colon parts header from payload";
+    NoTask = 5, "the header has no task";
+    NoPid = 6, "the header has no pid, or one past 32 bits";
     NoCpu = 7, "the header has no CPU in brackets";
-    NoTimestamp = 8, "the header has no timestamp whose parts fit 63 bits";
+    NoTimestamp = 8, "the header has no timestamp, or one with a part past 63 bits";
     NoFunction = 9, "the header does not end with a function";
-    NoEquals = 10, "a pair has no equals sign";
-    NoType = 11, "the payload has no type";
-    NoSize = 12, "the payload has no decimal size of 16 bits";
-    NoDomain = 13, "the payload has no decimal domain of 32 bits";
-    NoRoute = 14, "the payload has no hexadecimal route of 64 bits";
-    NoData = 15, "the payload has no data in brackets";
+    NoEquals = 10, "a pair has no `=`";
+    NoType = 11, "the payload has no `type`";
+    NoSize = 12, "`size` is missing or no decimal of 16 bits";
+    NoDomain = 13, "`domain` is missing or no decimal of 32 bits";
+    NoRoute = 14, "`route` is missing or no hex number of 64 bits";
+    NoData = 15, "`data` is missing or not in brackets";
     ManyDwords = 16, "the line has more than 256 dwords";
     FewSlots = 17, "fewer slots are lent than the line has dwords";
     BadBook = 20, "the book breaks its grammar";
-    NoKind = 21, "the packet's kind is unknown";
-    NoTable = 22, "the book has no table for the packet's kind";
-    NoHeaderTable = 23, "the book has no table for the inter-domain header";
+    NoKind = 21, "the packet is of no known kind";
+    NoTable = 22, "the book has no control table for the kind";
+    NoHeaderTable = 23, "the book has no header table for kind 8 or 9";
     LongPacket = 24, "the packet has more than 256 dwords";
-    ShortPacket = 25, "the packet has fewer dwords than its table has entries";
+    ShortPacket = 25, "a packet of kind 2 or 3 has fewer dwords than its table has entries";
     FewPlaces = 26, "fewer places are lent than the packet has dwords";
     NoPacketRoute = 27, "a packet of fewer than two dwords has no route";
-    UnnamedType = 28, "the packet's type has no name in the book";
-    NoRecord = 30, "the bytes are not framed as a record";
-    Overrun = 31, "a field of the record runs past its end";
-    BadTag = 32, "a tag of the record is unknown or out of order";
-    MissingTag = 33, "the record lacks a field that it must have";
-    BadBody = 34, "a field of the record breaks its rule";
+    UnnamedType = 28, "the value of `Packet Type` has no name";
+    NoRecord = 30, "no record: under 3 bytes, not A1 first, or a length that is not the rest";
+    Overrun = 31, "a field of the record runs past the end";
+    BadTag = 32, "a tag of the record is unknown, repeated or not ascending";
+    MissingTag = 33, "a required tag of the record is missing";
+    BadBody = 34, "the body of a record's field breaks its rule";
     FewRecordSlots = 35, "fewer slots are lent than the record has dwords";
-    ShortBuffer = 36, "the record does not fit the lent buffer";
-    BadEntry = 37, "the entry is out of the ranges of a record, or its parts lie outside what is lent";
+    ShortBuffer = 36, "the lent buffer is too short for the record";
+    BadEntry = 37, "the entry is out of the record's ranges, or its parts lie outside what is lent";
 }
 
 impl Error for Refusal {}

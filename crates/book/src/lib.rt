@@ -11,6 +11,7 @@ mod seek;
 mod seen;
 
 use crate::grammar::tables;
+use refusal::BAD_BOOK;
 ghost use mathlib.Core.Path.{_≡_};
 ghost use Rattle.book.specs.Reading.{checkTold, checkOf};
 
@@ -33,10 +34,10 @@ pub fn check(book: &[u8]) -> Checked
     ensures { λ r. ⌜ checkTold r ≡ checkOf (now (book .entry)) ⌝ }
 {
     if 65_535 < book.len() {
-        return Checked::Refused(20);
+        return Checked::Refused(BAD_BOOK);
     }
     if !tables(book) {
-        return Checked::Refused(20);
+        return Checked::Refused(BAD_BOOK);
     }
     Checked::Accepted
 }

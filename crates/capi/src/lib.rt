@@ -31,6 +31,7 @@ use entry::events::name_of;
 use entry::unplug;
 use intake::What;
 use intake::what_is;
+use refusal::BAD_ENTRY;
 use scan::Answer;
 use scan::parse;
 use writer::Written;
@@ -131,7 +132,7 @@ pub extern "C" fn ck_record_write(
 {
     match raise(entry) {
         Raised::Entry(e) => written_of(write(text, e, dwords, out)),
-        Raised::OutOfRange => written_of(Written::Refused(37)),
+        Raised::OutOfRange => written_of(Written::Refused(BAD_ENTRY)),
     }
 }
 

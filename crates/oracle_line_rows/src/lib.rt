@@ -30,7 +30,10 @@ pub fn put_answer(out: &mut [u8], at: usize, line: &[u8], slots: &mut [u32]) -> 
     ensures { λ r. ⌜ r ≤ length (now (out .entry)) ⌝ }
 {
     match parse(line, slots) {
-        Answer::Entry(e) => put_row(out, at, line, slots, e),
+        Answer::Entry(e) => {
+            let end = put_row(out, at, line, slots, e);
+            put_text(out, end, b"\n")
+        }
         Answer::Refused(number) => {
             let end = put_count(out, at, b"refused ", number as u64);
             put_text(out, end, b"\n")
@@ -38,26 +41,25 @@ pub fn put_answer(out: &mut [u8], at: usize, line: &[u8], slots: &mut [u32]) -> 
     }
 }
 
-fn put_row(out: &mut [u8], at: usize, line: &[u8], slots: &[u32], e: Entry) -> usize
+// An entry's fields, with no newline. Task and function lie in the text, the dwords in the slots.
+pub fn put_row(out: &mut [u8], at: usize, text: &[u8], slots: &[u32], e: Entry) -> usize
     requires { ⌜ at ≤ length (now out) ⌝ }
     ensures { λ r. ⌜ r ≤ length (now (out .entry)) ⌝ }
 {
-    let a = put_head(out, at, line, e);
+    let a = put_head(out, at, text, e);
     let b = put_body(out, a, e);
     let c = put_optionals(out, b, e);
     let d = put_questions(out, c, e);
     put_data(out, d, slots, e)
 }
 
-// The dwords, and the row's end.
 fn put_data(out: &mut [u8], at: usize, slots: &[u32], e: Entry) -> usize
     requires { ⌜ at ≤ length (now out) ⌝ }
     ensures { λ r. ⌜ r ≤ length (now (out .entry)) ⌝ }
 {
     let a = put_count(out, at, b" dwords=", e.dwords as u64);
     let b = put_text(out, a, b" data=");
-    let c = put_dwords(out, b, data(e, slots));
-    put_text(out, c, b"\n")
+    put_dwords(out, b, data(e, slots))
 }
 
 // What the header says.

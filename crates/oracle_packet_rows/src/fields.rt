@@ -17,16 +17,19 @@ use questions::FieldAnswer;
 use questions::described::field_at;
 use questions::field_by_offset;
 use text::place::Found;
+ghost use mathlib.Core.Path.{_≡_};
 ghost use Prim.Native.Nat.{_≤_};
 ghost use lib.ListN.{length};
+ghost use Rattle.oracle_packet_rows.specs.Count.{controlCount};
 
-// How many entries the control table of a kind has.
-pub fn count_control(kind: u8, book: &[u8]) -> usize {
-    let table = find::control_table(book, kind);
-    match table {
-        Found::At(at) => find::count_entries(book, at),
-        Found::Nothing => 0,
-    }
+// How many entries the control table of a kind has, none without a table.
+pub fn count_control(kind: u8, book: &[u8]) -> usize
+    ensures { λ r. ⌜ r ≡ controlCount (now (book .entry)) kind ⌝ }
+{
+    let Found::At(table) = find::control_table(book, kind) else {
+        return 0;
+    };
+    find::count_entries(book, table)
 }
 
 // The places with a comma between them; a dash for none.

@@ -17,6 +17,7 @@ use crate::steps::describe;
 use book::Checked;
 use book::Uuid;
 use entry::optional::MaybeWord;
+use refusal::BAD_BOOK;
 ghost use mathlib.Core.Path.{_≡_};
 ghost use Rattle.book.specs.Reading.{accepted, checkOf};
 ghost use Rattle.packet.specs.Packet.{Parsed, Over};
@@ -84,7 +85,7 @@ pub fn parse_over(kind: u8, book: &[u8], dwords: &[u32], places: &mut [u32]) -> 
     ensures { λ r. ⌜ Over kind (now (book .entry)) (now (dwords .entry)) (now (places .entry)) (now (places .exit)) r ⌝ }
 {
     if 65_535 < book.len() {
-        return Answer::Refused(20);
+        return Answer::Refused(BAD_BOOK);
     }
     let n = dwords.len();
     let opened = open(kind, book, n, places.len());

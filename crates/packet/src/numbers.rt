@@ -7,6 +7,12 @@ use crate::seek::first_asked;
 use book::Uuid;
 use book::find;
 use entry::optional::MaybeWord;
+use refusal::FEW_PLACES;
+use refusal::LONG_PACKET;
+use refusal::NO_HEADER_TABLE;
+use refusal::NO_KIND;
+use refusal::NO_TABLE;
+use refusal::SHORT_PACKET;
 use text::place::Found;
 ghost use mathlib.Core.Path.{_≡_};
 ghost use mathlib.Core.Bool.{_&&_};
@@ -40,23 +46,23 @@ pub fn open(kind: u8, book: &[u8], count: usize, room: usize) -> Opened
     ensures { λ r. ⌜ openedTold r ≡ openOf kind (now (book .entry)) count room ⌝ }
 {
     if kind == 0 {
-        return Opened::Refused(21);
+        return Opened::Refused(NO_KIND);
     }
     let Found::At(control) = find::control_table(book, kind) else {
-        return Opened::Refused(22);
+        return Opened::Refused(NO_TABLE);
     };
     let header = header_for(kind, book);
     if is_missing(header) {
-        return Opened::Refused(23);
+        return Opened::Refused(NO_HEADER_TABLE);
     }
     if 256 < count {
-        return Opened::Refused(24);
+        return Opened::Refused(LONG_PACKET);
     }
     if is_short(kind, book, control, count) {
-        return Opened::Refused(25);
+        return Opened::Refused(SHORT_PACKET);
     }
     if room < count {
-        return Opened::Refused(26);
+        return Opened::Refused(FEW_PLACES);
     }
     Opened::Tables(Tables { control, header })
 }

@@ -23,6 +23,8 @@ use packet::numbers::is_xdomain_kind;
 use packet::seek::dword_at;
 use packet::seek::first_asked;
 use packet::seek::gather;
+use refusal::NO_PACKET_ROUTE;
+use refusal::UNNAMED_TYPE;
 use text::place::Found;
 ghost use mathlib.Core.Path.{_≡_};
 ghost use Prim.Native.Nat.{_+_, _*_, _^_};
@@ -54,7 +56,7 @@ pub fn route_in(dwords: &[u32]) -> WideAnswer
     ensures { λ r. ⌜ wideTold r ≡ routeIn (now (dwords .entry)) ⌝ }
 {
     if dwords.len() < 2 {
-        return WideAnswer::Refused(27);
+        return WideAnswer::Refused(NO_PACKET_ROUTE);
     }
     WideAnswer::Is(join(dwords[0], dwords[1]))
 }
@@ -167,7 +169,7 @@ fn type_by(book: &[u8], range: usize, dword: u32) -> TypeAnswer
 {
     let at = named_in(book, range, dword);
     if at == 0 {
-        return TypeAnswer::Refused(28);
+        return TypeAnswer::Refused(UNNAMED_TYPE);
     }
     TypeAnswer::Is(PacketType {
         value: value_in(book, range, dword),

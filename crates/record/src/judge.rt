@@ -3,6 +3,11 @@ use crate::find::is_there;
 use crate::rule::fits;
 use crate::rule::is_known;
 use crate::rule::rule_of;
+use refusal::BAD_BODY;
+use refusal::BAD_TAG;
+use refusal::MISSING_TAG;
+use refusal::NO_RECORD;
+use refusal::OVERRUN;
 use tlv::Step;
 use tlv::field_at;
 ghost use mathlib.Core.Path.{_≡_};
@@ -19,14 +24,14 @@ pub fn refusal(text: &[u8]) -> u8
     ensures { λ r. ⌜ r ≡ refusalOf (now (text .entry)) ⌝ }
 {
     if !is_framed(text) {
-        return 30;
+        return NO_RECORD;
     }
     let number = judge(text);
     if number != 0 {
         return number;
     }
     if !has_required(text) {
-        return 33;
+        return MISSING_TAG;
     }
     0
 }
@@ -66,8 +71,8 @@ fn judge(text: &[u8]) -> u8
                 last = tag;
                 at = to;
             }
-            Step::Stray => return 31,
-            Step::Overrun => return 31,
+            Step::Stray => return OVERRUN,
+            Step::Overrun => return OVERRUN,
             Step::End => return 0,
         }
     }
@@ -79,16 +84,16 @@ fn judge_field(text: &[u8], tag: u8, from: usize, to: usize, last: u8) -> u8
     ensures { λ r. ⌜ r ≡ judgeField (taskSize (now (text .entry))) tag (between (now (text .entry)) from to) last ⌝ }
 {
     if tag <= last {
-        return 32;
+        return BAD_TAG;
     }
     let rule = rule_of(tag);
     if !is_known(rule) {
-        return 32;
+        return BAD_TAG;
     }
     if fits(text, from, to, rule, task_size(text)) {
         return 0;
     }
-    34
+    BAD_BODY
 }
 
 // The length of the task. Since tags ascend, it is the first field where there is one.

@@ -14,6 +14,7 @@ use crate::find::place_of;
 use crate::gather::entry_of;
 use crate::judge::refusal;
 use entry::Entry;
+use refusal::FEW_RECORD_SLOTS;
 use tlv::four_at;
 ghost use mathlib.Core.Path.{_≡_};
 ghost use Prim.Native.Nat.{_≤_, _+_, _*_};
@@ -38,7 +39,7 @@ pub fn read(text: &[u8], slots: &mut [u32]) -> Answer
     let data = place_of(text, 19);
     let n = data.len / 4;
     if slots.len() < n {
-        return Answer::Refused(35);
+        return Answer::Refused(FEW_RECORD_SLOTS);
     }
     copy_dwords(text, data.from, n, slots);
     Answer::Entry(entry_of(text))

@@ -7,6 +7,11 @@ use pairs::key::hex_of;
 use pairs::pair::Span;
 use pairs::pair::last_pair;
 use pairs::pair::pair_without_equals;
+use refusal::NO_DOMAIN;
+use refusal::NO_EQUALS;
+use refusal::NO_ROUTE;
+use refusal::NO_SIZE;
+use refusal::NO_TYPE;
 use text::number::HexAnswer;
 use text::number::MAX_8;
 use text::number::MAX_16;
@@ -45,20 +50,20 @@ pub fn read_body(p: &[u8], function: &[u8]) -> BodyAnswer
     ensures { λ r. ⌜ bodyTold r ≡ bodyOf (now (p .entry)) (now (function .entry)) ⌝ }
 {
     if pair_without_equals(p) {
-        return BodyAnswer::Refused(10);
+        return BodyAnswer::Refused(NO_EQUALS);
     }
     let Span::At { from, to } = last_pair(p, b"type") else {
-        return BodyAnswer::Refused(11);
+        return BodyAnswer::Refused(NO_TYPE);
     };
     let kind = kind_of(&p[from..to], function);
     let Number::Value(size) = decimal_of(p, b"size", MAX_16) else {
-        return BodyAnswer::Refused(12);
+        return BodyAnswer::Refused(NO_SIZE);
     };
     let Number::Value(domain) = decimal_of(p, b"domain", MAX_32) else {
-        return BodyAnswer::Refused(13);
+        return BodyAnswer::Refused(NO_DOMAIN);
     };
     let HexAnswer::Value(route) = hex_of(p, b"route", MAX_64) else {
-        return BodyAnswer::Refused(14);
+        return BodyAnswer::Refused(NO_ROUTE);
     };
     let dropped = is_dropped(p);
     let optionals = read_optionals(p);

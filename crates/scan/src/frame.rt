@@ -1,4 +1,8 @@
 // What a line must be before its parts are looked at: numbers 1 to 4.
+use refusal::IDLE;
+use refusal::LONG_LINE;
+use refusal::NO_COLON;
+use refusal::NOT_ASCII;
 use text::place::Found;
 use text::place::byte_at;
 use text::place::last;
@@ -15,17 +19,17 @@ pub fn read_frame(line: &[u8]) -> FrameAnswer
     ensures { λ r. ⌜ frameTold r ≡ frameOf (now (line .entry)) ⌝ }
 {
     if is_idle(line) {
-        return FrameAnswer::Refused(1);
+        return FrameAnswer::Refused(IDLE);
     }
     if 4096 < line.len() {
-        return FrameAnswer::Refused(2);
+        return FrameAnswer::Refused(LONG_LINE);
     }
     if let Found::At(_) = first_high(line) {
-        return FrameAnswer::Refused(3);
+        return FrameAnswer::Refused(NOT_ASCII);
     }
     match last(line, b':') {
         Found::At(k) => FrameAnswer::Colon(k),
-        Found::Nothing => FrameAnswer::Refused(4),
+        Found::Nothing => FrameAnswer::Refused(NO_COLON),
     }
 }
 

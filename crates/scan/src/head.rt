@@ -5,6 +5,11 @@ use header::dash::parse_task;
 use header::function::parse_function;
 use header::stamp::Stamp;
 use header::stamp::parse_timestamp;
+use refusal::NO_CPU;
+use refusal::NO_FUNCTION;
+use refusal::NO_PID;
+use refusal::NO_TASK;
+use refusal::NO_TIMESTAMP;
 use text::number::Number;
 use text::place::Found;
 ghost use mathlib.Core.Path.{_≡_};
@@ -29,23 +34,23 @@ pub fn read_head(h: &[u8]) -> HeadAnswer
     ensures { λ r. ⌜ headTold r ≡ headOf (now (h .entry)) ⌝ }
 {
     let Found::At(task) = parse_task(h) else {
-        return HeadAnswer::Refused(5);
+        return HeadAnswer::Refused(NO_TASK);
     };
     let Number::Value(pid) = parse_pid(h) else {
-        return HeadAnswer::Refused(6);
+        return HeadAnswer::Refused(NO_PID);
     };
     let Number::Value(cpu) = parse_cpu(h) else {
-        return HeadAnswer::Refused(7);
+        return HeadAnswer::Refused(NO_CPU);
     };
     let Stamp::At {
         seconds,
         microseconds,
     } = parse_timestamp(h)
     else {
-        return HeadAnswer::Refused(8);
+        return HeadAnswer::Refused(NO_TIMESTAMP);
     };
     let Found::At(function) = parse_function(h) else {
-        return HeadAnswer::Refused(9);
+        return HeadAnswer::Refused(NO_FUNCTION);
     };
     HeadAnswer::Got(Head {
         task: task,

@@ -1,8 +1,4 @@
 // What is shown of a packet: its dwords, their bit ranges, and where the data starts.
-use crate::words::say_dword;
-use crate::words::say_if;
-use crate::words::say_name;
-use crate::words::say_number;
 use crate::words::say_refusal;
 use crate::words::say_source;
 use channel::sink::Sink;
@@ -18,6 +14,10 @@ use field::nth_range;
 use field::range_name;
 use field::value_name;
 use packet::seek::dword_at;
+use saying::say_dword;
+use saying::say_if;
+use saying::say_name;
+use saying::say_number;
 
 pub fn show_packet(book: &[u8], kind: u8, dwords: &[u32], out: &mut [u8], sink: Sink) -> Sink {
     let mut places = [0u32; 256];

@@ -2,21 +2,19 @@
 // data starts; of each other line why it is none. Every word goes through a sink.
 //
 //     show_line      a line's block
-//     escape         a book's name as it is shown
 mod dwords;
-pub mod escape;
 mod words;
 
 use crate::dwords::show_packet;
-use crate::words::say_hex;
 use crate::words::say_kind;
-use crate::words::say_number;
 use crate::words::say_refusal;
 use channel::sink::Sink;
 use channel::sink::say;
 use entry::Entry;
 use entry::data;
 use entry::function;
+use saying::say_hex;
+use saying::say_number;
 use scan::Answer;
 use scan::parse;
 

@@ -14,6 +14,8 @@ use crate::check::is_writable;
 use crate::item::record_size;
 use crate::small::put_record;
 use entry::Entry;
+use refusal::BAD_ENTRY;
+use refusal::SHORT_BUFFER;
 ghost use Rattle.writer.specs.Writing.{Writing};
 
 // How many bytes were written, or document 01's number.
@@ -28,11 +30,11 @@ pub fn write(text: &[u8], e: Entry, dwords: &[u32], out: &mut [u8]) -> Written
     ensures { λ r. ⌜ Writing (now (text .entry)) e (now (dwords .entry)) (now (out .entry)) r (now (out .exit)) ⌝ }
 {
     if !is_writable(text, e, dwords) {
-        return Written::Refused(37);
+        return Written::Refused(BAD_ENTRY);
     }
     let size = record_size(e);
     if out.len() < size {
-        return Written::Refused(36);
+        return Written::Refused(SHORT_BUFFER);
     }
     Written::Bytes(put_record(out, size - 3, text, e, dwords))
 }

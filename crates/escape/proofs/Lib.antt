@@ -1,0 +1,3 @@
+-- The laws of shown names.
+pub mod Escaping
+pub mod Theorems

@@ -1,0 +1,2 @@
+-- What the contracts of `escape` cite.
+pub mod Escape

@@ -1,0 +1,2 @@
+-- The laws of the number n of a row.
+pub mod Counting

@@ -1,0 +1,2 @@
+-- What the contract of `count_control` cites.
+pub mod Count

@@ -1,0 +1,2 @@
+-- What the contract of `set_or` cites.
+pub mod Setting

@@ -1,0 +1,2 @@
+-- What the contracts of `saying` cite.
+pub mod Telling

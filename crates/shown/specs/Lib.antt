@@ -1,3 +1,0 @@
--- What the contracts of `shown` cite.
-pub mod Escape
-pub mod Telling

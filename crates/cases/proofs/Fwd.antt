@@ -5,6 +5,7 @@ use mathlib.Core.Bool.{false}
 use mathlib.Core.List.{List, [], _∷_, _++_}
 use Rattle.text.specs.Class as Class
 use Rattle.text.specs.Quote.{bytes}
+use Rattle.text.specs.Told.{is}
 use Rattle.tlv.specs.Grammar as Layout
 use Rattle.tlv.specs.Number as Number
 use Rattle.tlv.specs.Reading as Step
@@ -12,10 +13,8 @@ use Rattle.entry.specs.declared.Entry.{Entry}
 use Rattle.entry.specs.declared.optional.MaybeByte.the-variants as B
 use Rattle.entry.specs.declared.optional.MaybeWord.the-variants as W
 use Rattle.entry.specs.Entry as Value
-use Rattle.scan.specs.declared.Answer.the-variants as L
 use Rattle.scan.specs.Parse.{parseOf, lineDwords}
 use Rattle.scan.proofs.Cases as Lines
-use Rattle.record.specs.declared.Answer.the-variants as R
 use Rattle.record.specs.Finding as Finding
 use Rattle.record.specs.Gathering as Gathering
 use Rattle.record.specs.Grammar as Grammar
@@ -23,7 +22,6 @@ use Rattle.record.specs.Judging as Judging
 use Rattle.record.specs.Reading as Reading
 use Rattle.record.specs.Reading.{readOf, dwordsOf}
 use Rattle.record.specs.Rule as Rule
-use Rattle.writer.specs.declared.Written.the-variants as T
 use Rattle.writer.specs.Ranges as Ranges
 use Rattle.writer.specs.Writing as Writing
 use Rattle.writer.specs.Writing.{writeOf, bytesOf}
@@ -79,13 +77,13 @@ abbrev pub fwdInRecord : Entry
 fwdInRecord = record { «task_at» = 6; «task_len» = 3; pid = 7; cpu = 2; seconds = 12; microseconds = 345; «function_at» = 46; «function_len» = 5; kind = 1; size = 3; dropped = false; domain = 0; route = 0; offset = W.Absent; code = B.Absent; len = W.Absent; port = B.Absent; config = B.Absent; seq = B.Absent; unplug = B.Absent; dwords = 3 }
 
 pub record FwdRecord : Type 0 where
-  pub line : parseOf fwdLine 256 ≡ L.Entry fwdInLine
+  pub line : parseOf fwdLine 256 ≡ is fwdInLine
   pub line-dwords : lineDwords fwdLine ≡ fwdDwords
-  pub written : writeOf fwdLine fwdInLine fwdDwords 97 ≡ T.Bytes 97
+  pub written : writeOf fwdLine fwdInLine fwdDwords 97 ≡ is 97
   pub bytes-written : bytesOf fwdLine fwdInLine fwdDwords ≡ fwdRecord
-  pub read : readOf fwdRecord 3 ≡ R.Entry fwdInRecord
+  pub read : readOf fwdRecord 3 ≡ is fwdInRecord
   pub read-dwords : dwordsOf fwdRecord ≡ fwdDwords
-  pub again : writeOf fwdRecord fwdInRecord fwdDwords 97 ≡ T.Bytes 97
+  pub again : writeOf fwdRecord fwdInRecord fwdDwords 97 ≡ is 97
   pub bytes-again : bytesOf fwdRecord fwdInRecord fwdDwords ≡ fwdRecord
 
 pub fwd-record : FwdRecord

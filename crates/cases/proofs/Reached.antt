@@ -5,22 +5,17 @@ use mathlib.Core.Path.{_≡_, refl}
 use mathlib.Core.List.{List, [], _∷_, _++_}
 use lib.ListN.{replicate}
 use Rattle.text.specs.Quote.{bytes}
+use Rattle.text.specs.Told.{refused}
 use Rattle.tlv.specs.Grammar.{fieldBytes}
-use Rattle.scan.specs.declared.Answer.the-variants as L
 use Rattle.scan.specs.Parse as Line
 use Rattle.scan.proofs.Cases.{computes}
-use Rattle.book.specs.declared.Checked.the-variants as C
 use Rattle.book.specs.Reading.{checkOf}
-use Rattle.packet.specs.declared.Answer.the-variants as P
 use Rattle.packet.specs.Packet as Packet
 use Rattle.packet.proofs.Examples.{threeEntries, packetType, packets-open}
-use Rattle.questions.specs.Answers.{refused}
 use Rattle.questions.specs.Described as Described
 use Rattle.questions.specs.Questions as Questions
 use Rattle.questions.specs.Questions.{routeOf, typeOf}
-use Rattle.record.specs.declared.Answer.the-variants as R
 use Rattle.record.specs.Reading.{readOf}
-use Rattle.writer.specs.declared.Written.the-variants as T
 use Rattle.writer.specs.Writing.{writeOf}
 use Rattle.cases.proofs.Fwd.{records-open, fwdLine, fwdDwords, fwdRecord, fwdInLine, fwdOn}
 
@@ -45,40 +40,40 @@ abbrev typeBook : List ℕ
 typeBook = fieldBytes 1 (1 ∷ fieldBytes 3 (0 ∷ 0 ∷ packetType))
 
 pub record Reached : Type 0 where
-  pub number-1 : Line.parseOf (bytes "#") 256 ≡ L.Refused 1
-  pub number-2 : Line.parseOf (replicate 4097 97) 256 ≡ L.Refused 2
-  pub number-3 : Line.parseOf (128 ∷ []) 256 ≡ L.Refused 3
-  pub number-4 : Line.parseOf (bytes "nonsense") 256 ≡ L.Refused 4
-  pub number-5 : Line.parseOf (bytes "-1 [002] 1.2: f: ") 256 ≡ L.Refused 5
-  pub number-6 : Line.parseOf (bytes "a-x [002] 1.2: f: ") 256 ≡ L.Refused 6
-  pub number-7 : Line.parseOf (bytes "a-1 [02] 1.2: f: ") 256 ≡ L.Refused 7
-  pub number-8 : Line.parseOf (bytes "a-1 [002] f: ") 256 ≡ L.Refused 8
-  pub number-9 : Line.parseOf (bytes "a-1 [002] 1.2: f g: ") 256 ≡ L.Refused 9
-  pub number-11 : Line.parseOf head 256 ≡ L.Refused 11
-  pub number-12 : Line.parseOf (head ++ bytes "type=t") 256 ≡ L.Refused 12
-  pub number-13 : Line.parseOf (head ++ bytes "type=t size=3") 256 ≡ L.Refused 13
-  pub number-14 : Line.parseOf (head ++ bytes "type=t size=3 domain=0") 256 ≡ L.Refused 14
-  pub number-15 : Line.parseOf (head ++ front) 256 ≡ L.Refused 15
-  pub number-16 : Line.parseOf (head ++ (front ++ (bytes "data=[" ++ many 256))) 256 ≡ L.Refused 16
-  pub number-17 : Line.parseOf (head ++ (front ++ bytes "data=[1]")) 0 ≡ L.Refused 17
-  pub number-20 : Packet.parseOf 1 (1 ∷ []) [] 256 ≡ P.Refused 20
-  pub number-20-book : checkOf (1 ∷ []) ≡ C.Refused 20
-  pub number-21 : Packet.parseOf 0 plainBook [] 256 ≡ P.Refused 21
-  pub number-22 : Packet.parseOf 2 plainBook [] 256 ≡ P.Refused 22
-  pub number-23 : Packet.parseOf 8 (fieldBytes 1 (8 ∷ [])) [] 256 ≡ P.Refused 23
-  pub number-24 : Packet.parseOf 1 plainBook (replicate 257 0) 256 ≡ P.Refused 24
-  pub number-25 : Packet.parseOf 2 threeEntries (10 ∷ 11 ∷ []) 256 ≡ P.Refused 25
-  pub number-26 : Packet.parseOf 1 plainBook (0 ∷ []) 0 ≡ P.Refused 26
+  pub number-1 : Line.parseOf (bytes "#") 256 ≡ refused 1
+  pub number-2 : Line.parseOf (replicate 4097 97) 256 ≡ refused 2
+  pub number-3 : Line.parseOf (128 ∷ []) 256 ≡ refused 3
+  pub number-4 : Line.parseOf (bytes "nonsense") 256 ≡ refused 4
+  pub number-5 : Line.parseOf (bytes "-1 [002] 1.2: f: ") 256 ≡ refused 5
+  pub number-6 : Line.parseOf (bytes "a-x [002] 1.2: f: ") 256 ≡ refused 6
+  pub number-7 : Line.parseOf (bytes "a-1 [02] 1.2: f: ") 256 ≡ refused 7
+  pub number-8 : Line.parseOf (bytes "a-1 [002] f: ") 256 ≡ refused 8
+  pub number-9 : Line.parseOf (bytes "a-1 [002] 1.2: f g: ") 256 ≡ refused 9
+  pub number-11 : Line.parseOf head 256 ≡ refused 11
+  pub number-12 : Line.parseOf (head ++ bytes "type=t") 256 ≡ refused 12
+  pub number-13 : Line.parseOf (head ++ bytes "type=t size=3") 256 ≡ refused 13
+  pub number-14 : Line.parseOf (head ++ bytes "type=t size=3 domain=0") 256 ≡ refused 14
+  pub number-15 : Line.parseOf (head ++ front) 256 ≡ refused 15
+  pub number-16 : Line.parseOf (head ++ (front ++ (bytes "data=[" ++ many 256))) 256 ≡ refused 16
+  pub number-17 : Line.parseOf (head ++ (front ++ bytes "data=[1]")) 0 ≡ refused 17
+  pub number-20 : Packet.parseOf 1 (1 ∷ []) [] 256 ≡ refused 20
+  pub number-20-book : checkOf (1 ∷ []) ≡ refused 20
+  pub number-21 : Packet.parseOf 0 plainBook [] 256 ≡ refused 21
+  pub number-22 : Packet.parseOf 2 plainBook [] 256 ≡ refused 22
+  pub number-23 : Packet.parseOf 8 (fieldBytes 1 (8 ∷ [])) [] 256 ≡ refused 23
+  pub number-24 : Packet.parseOf 1 plainBook (replicate 257 0) 256 ≡ refused 24
+  pub number-25 : Packet.parseOf 2 threeEntries (10 ∷ 11 ∷ []) 256 ≡ refused 25
+  pub number-26 : Packet.parseOf 1 plainBook (0 ∷ []) 0 ≡ refused 26
   pub number-27 : routeOf 1 plainBook (0 ∷ []) ≡ refused 27
   pub number-28 : typeOf 1 typeBook (2 ∷ []) ≡ refused 28
-  pub number-30 : readOf (0xa1 ∷ []) 256 ≡ R.Refused 30
-  pub number-31 : readOf (0xa1 ∷ 1 ∷ 0 ∷ 1 ∷ []) 256 ≡ R.Refused 31
-  pub number-32 : readOf (0xa1 ∷ 3 ∷ 0 ∷ 0x14 ∷ 0 ∷ 0 ∷ []) 256 ≡ R.Refused 32
-  pub number-33 : readOf (0xa1 ∷ 0 ∷ 0 ∷ []) 256 ≡ R.Refused 33
-  pub number-34 : readOf (0xa1 ∷ 3 ∷ 0 ∷ 2 ∷ 0 ∷ 0 ∷ []) 256 ≡ R.Refused 34
-  pub number-35 : readOf fwdRecord 2 ≡ R.Refused 35
-  pub number-36 : writeOf fwdLine fwdInLine fwdDwords 96 ≡ T.Refused 36
-  pub number-37 : writeOf fwdLine (fwdOn 1000) fwdDwords 5227 ≡ T.Refused 37
+  pub number-30 : readOf (0xa1 ∷ []) 256 ≡ refused 30
+  pub number-31 : readOf (0xa1 ∷ 1 ∷ 0 ∷ 1 ∷ []) 256 ≡ refused 31
+  pub number-32 : readOf (0xa1 ∷ 3 ∷ 0 ∷ 0x14 ∷ 0 ∷ 0 ∷ []) 256 ≡ refused 32
+  pub number-33 : readOf (0xa1 ∷ 0 ∷ 0 ∷ []) 256 ≡ refused 33
+  pub number-34 : readOf (0xa1 ∷ 3 ∷ 0 ∷ 2 ∷ 0 ∷ 0 ∷ []) 256 ≡ refused 34
+  pub number-35 : readOf fwdRecord 2 ≡ refused 35
+  pub number-36 : writeOf fwdLine fwdInLine fwdDwords 96 ≡ refused 36
+  pub number-37 : writeOf fwdLine (fwdOn 1000) fwdDwords 5227 ≡ refused 37
 
 pub reached : Reached
 unfolding many computes packets-open records-open Questions.refusal Questions.answer routeOf typeOf Described.typeIn

@@ -3,8 +3,9 @@ use Prim.Native.Nat.{ℕ}
 use mathlib.Core.List.{List}
 use Rattle.tlv.specs.Number.{Bytes}
 use Rattle.packet.specs.declared.field.Ask.the-variants as Ask
-use Rattle.meaning.specs.Meaning.{PacketCall, Questions, FieldCalls, PacketMeaning}
+use Rattle.meaning.specs.Meaning.{ParseCall, Questions, FieldCalls, PacketMeaning}
 use Rattle.meaning.proofs.One.{one-packet}
+use Rattle.meaning.proofs.KindWords.{kinds}
 use Rattle.meaning.proofs.Exactly.{packet-exactly}
 use Rattle.meaning.proofs.Routes as routes
 use Rattle.meaning.proofs.Asking as asking
@@ -13,7 +14,7 @@ use Rattle.meaning.proofs.Fielding as fielding
 use Rattle.meaning.proofs.Typing as typing
 use Rattle.meaning.proofs.Ranges as ranges
 
-call : PacketCall
+call : ParseCall
 call =
     record {
       exactly = λ k s s-bytes ds out exit r. packet-exactly k s s-bytes ds out exit r;
@@ -35,6 +36,7 @@ asked k s s-bytes ds =
       data-size = record { is = asking.size-is k s s-bytes ds; only = asking.size-only k s s-bytes ds };
       data-start = record { is = asking.start-is k s s-bytes ds; only = asking.start-only k s s-bytes ds };
       data-view = record { told = view .0; is = view .1; handed-is = view .2; only = viewing.view-only k s s-bytes ds };
+      empty-at-start = viewing.empty-at-start ds;
       uuid = record { is = asking.uuid-is k s s-bytes ds; only = asking.uuid-only k s s-bytes ds };
       uuid-by-name = λ n. record { is = asking.uuid-by-name-is k s s-bytes ds n; only = asking.uuid-by-name-only k s s-bytes ds n };
       packet-type = record { is = typing.type-is k s s-bytes ds; only = typing.type-only k s s-bytes ds };
@@ -47,15 +49,19 @@ asked k s s-bytes ds =
 pub packet-meaning : PacketMeaning
 packet-meaning =
     record {
+      kinds = kinds;
       packet = call;
       questions = asked;
       fields =
           λ s b.
           record {
             of-field = ranges.field-says s b;
+            of-source = λ o f h. ranges.source-place s b o (f .source) h;
             one-nth = λ o dword k x y f g. ranges.one-range-at s b o dword k x y f g;
             one-named = λ o dword name x y f g. ranges.one-range-of-name s b o dword name x y f g;
             of-range = ranges.range-says s b;
+            one-number-name = ranges.one-number-name;
+            one-number-place = ranges.one-number-place s b;
             entry-name = ranges.entry-name-span s b;
             range-name = ranges.range-name-span s b;
             value-name = ranges.value-name-span s b;

@@ -32,12 +32,12 @@ use Rattle.book.specs.Finders.{beforeName, namePlace}
 use Rattle.field.specs.Names.{spanOf, Names}
 use Rattle.meaning.specs.First.{None, First}
 use Rattle.meaning.specs.Packet.{Description, rangesOf, valueOf, ValueNumbered}
-use Rattle.meaning.specs.Places.{Stands, entryUpTo, RangeStands, ValueStands}
+use Rattle.meaning.specs.Places.{Stands, PlaceOf, entryUpTo, RangeStands, ValueStands}
 use Rattle.meaning.specs.Questions.{IsSource}
 use Rattle.meaning.specs.Fields.{NameOf, RangeCount, IsRange, NthRange, RangeAt, FirstNamed, RangeOfName, NumberedAt, NumberPlace, NumberName, SpanOf, FieldSays, RangeSays, NameSays}
 use Rattle.meaning.proofs.One.{among-all, first-some, one-first}
 use Rattle.meaning.proofs.Bridge.{Stood, Located, At, some-bytes, drop-place, name-at, value-at, value-name-at}
-use Rattle.meaning.proofs.Exactly.{one-range-stands}
+use Rattle.meaning.proofs.Exactly.{one-range-stands, one-value-stands}
 use Rattle.meaning.proofs.Standing.{located, range-stood, value-stood, range-rest}
 use Rattle.meaning.proofs.Placing.{RangeHere, range-placed, NumberHere, number-placed}
 
@@ -78,15 +78,20 @@ module _ (s : List ℕ) (b : IsBook s) (d : Description) (dword : ℕ) where
 
 module _ (s : List ℕ) (b : IsBook s) where
   -- the place of a field's source is that of its description
-  source-at : (o : Option Description) (x : Source) → IsSource (b .tables) o x → At (b .tables) s o (placeIn x)
-  source-at (some d) (S.Control p) h = located s b d (p .at) (h .2)
-  source-at (some d) (S.Header p) h = located s b d (p .at) (h .1)
-  source-at (some d) (S.Protocol p) h = located s b d (p .at) (h .3)
-  source-at (some d) S.Bare h = absurd h
-  source-at none (S.Control p) h = absurd h
-  source-at none (S.Header p) h = absurd h
-  source-at none (S.Protocol p) h = absurd h
-  source-at none S.Bare h = refl
+  pub source-place : (o : Option Description) (x : Source) → IsSource (b .tables) o x → PlaceOf (b .tables) o (placeIn x)
+  source-place (some d) (S.Control p) h = h .2
+  source-place (some d) (S.Header p) h = h .1
+  source-place (some d) (S.Protocol p) h = h .3
+  source-place (some d) S.Bare h = absurd h
+  source-place none (S.Control p) h = absurd h
+  source-place none (S.Header p) h = absurd h
+  source-place none (S.Protocol p) h = absurd h
+  source-place none S.Bare h = refl
+
+  -- what stands at a place is read there
+  place-at : (o : Option Description) (q : ℕ) → PlaceOf (b .tables) o q → At (b .tables) s o q
+  place-at (some d) q h = located s b d q h
+  place-at none q h = h
 
   name-says : (o : Option Description) (q : ℕ) → At (b .tables) s o q → NameOf o (nameIn s q)
   name-says (some d) q a = name-at (b .tables) s (some d) q a
@@ -170,10 +175,10 @@ module _ (s : List ℕ) (b : IsBook s) where
             }
 
   -- what the calls say of a field is what its description has
-  pub field-says : (o : Option Description) (f : Field) → IsSource (b .tables) o (f .source) → FieldSays s (b .tables) o f
+  pub field-says : (o : Option Description) (f : Field) → PlaceOf (b .tables) o (entryOf f) → FieldSays s (b .tables) o f
   unfolding fieldName rangeCount nthRange rangeNamed
   field-says o f h =
-      let a : At (b .tables) s o (entryOf f) = source-at o (f .source) h in
+      let a : At (b .tables) s o (entryOf f) = place-at o (entryOf f) h in
       record {
         name-is = name-says o (entryOf f) a;
         count-is = count-says o (entryOf f) a;
@@ -322,3 +327,21 @@ module _ (s : List ℕ) (b : IsBook s) (o : Option Description) (dword : ℕ) wh
   one-range-of-name name (refused n) y f g = absurd f
   one-range-of-name name (is x) (refused n) f g = absurd g
   one-range-of-name name absent (refused n) f g = absurd g
+
+-- a number has one name among the values of a range
+pub one-number-name : (range : Range) (number : ℕ) (x y : List ℕ) → NumberName range number x → NumberName range number y → x ≡ y
+one-number-name range number x y (inl f) (inl g) =
+    f .2 ∙ ap (λ (v : Value). v .name) (one-first (λ (w : Value). w .number ≡ number) (f .1) (g .1) .0) ∙ sym (g .2)
+one-number-name range number x y (inl f) (inr g) = absurd (first-some (λ (w : Value). w .number ≡ number) (f .1) (g .0))
+one-number-name range number x y (inr f) (inl g) = absurd (first-some (λ (w : Value). w .number ≡ number) (g .1) (f .0))
+one-number-name range number x y (inr f) (inr g) = f .1 ∙ sym (g .1)
+
+-- and one place
+pub one-number-place : (s : List ℕ) (b : IsBook s) (d : Description) (before : List Range) (range : Range) (number p q : ℕ)
+    → NumberPlace (b .tables) d before range number p → NumberPlace (b .tables) d before range number q → p ≡ q
+one-number-place s b d before range number p q (inl f) (inl g) =
+    let same = one-first (λ (w : Value). w .number ≡ number) (f .first) (g .first) .1 in
+    one-value-stands s b d before range (g .first .before) p q (subst (λ l. ValueStands (b .tables) d before range l p) same (f .stands)) (g .stands)
+one-number-place s b d before range number p q (inl f) (inr g) = absurd (first-some (λ (w : Value). w .number ≡ number) (f .first) (g .0))
+one-number-place s b d before range number p q (inr f) (inl g) = absurd (first-some (λ (w : Value). w .number ≡ number) (g .first) (f .0))
+one-number-place s b d before range number p q (inr f) (inr g) = f .1 ∙ sym (g .1)

@@ -3,6 +3,7 @@
 use Prim.Native.Nat.{ℕ, zero, suc, _%_, _≤_}
 use mathlib.Core.Path.{_≡_, refl, sym, ap, _∙_}
 use mathlib.Core.List.{List, [], _∷_, _++_}
+use mathlib.Core.Logic.{_↔_}
 use mathlib.Core.Option.{Option, some, none}
 use native.Mathlib.Omega.{arith}
 use lib.ListN.{length, take, drop, length-take, take-append-drop, length-append}
@@ -79,3 +80,14 @@ module _ (k : ℕ) (s : List ℕ) (s-bytes : Bytes s) (ds : List ℕ) where
   view-only r q =
       ap handedOut (one-question k s ds (λ ts os u n. ViewTold ds n) (λ b os u n. one-view-told ds n) r view-answer q view-asked)
       ∙ sym view-handed
+
+-- it is empty exactly when there are as many dwords as it starts behind
+pub empty-at-start : (ds : List ℕ) (n : ℕ) (view : List ℕ) → FromOnward ds n view → (view ≡ []) ↔ (length ds ≡ n)
+empty-at-start ds n view f = (
+  λ e. omega (arith, ap length (f .dwords), length-append (f .front) view, f .so-many, ap length e),
+  λ e. none-left view (omega (arith, ap length (f .dwords), length-append (f .front) view, f .so-many, e)),
+)
+  where
+    none-left : (l : List ℕ) → length l ≡ 0 → l ≡ []
+    none-left [] h = refl
+    none-left (x ∷ l) h = absurd (omega arith)

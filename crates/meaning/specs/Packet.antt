@@ -54,7 +54,7 @@ RangeNamed name o r = FirstOf (λ q. q .name ≡ name) (rangesOf o) r
 abbrev pub valueOf : Range → ℕ → ℕ
 valueOf r dword = rangeOf dword (r .low) (r .high)
 
--- the book's row for a number among the values of a range, which has its name
+-- the value that a range lists for a number; it has the name
 abbrev pub ValueNumbered : Range → ℕ → Option Value → Type 0
 ValueNumbered r number v = FirstOf (λ w. w .number ≡ number) (r .values) v
 

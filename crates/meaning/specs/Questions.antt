@@ -44,7 +44,7 @@ Cm ds (is set) = (v : ℕ) × RouteIs ds v × (set ≡ eqb (bit 63 v) 1)
 Cm ds absent = ⊥
 Cm ds (refused n) = (n ≡ 27) × (length ds < 2)
 
--- a read packet is kind 1 or 2, a write packet 3 or 4, an inter-domain one 8 or 9
+-- a read packet is kind 1 or 2, a write packet 3 or 4, an inter-domain one 8 or 9 (`Kinds` in Meaning.antt says it of these words)
 abbrev pub Read : ℕ → Told Bool → Type 0
 Read k told = told ≡ is (isRead k)
 
@@ -131,13 +131,13 @@ IsSource tables none (S.Header p) = ⊥
 IsSource tables none (S.Protocol p) = ⊥
 IsSource tables none S.Bare = Unit {0}
 
-module _ (ds : List ℕ) (tables : List Table) (os : List (Option Description)) where
-  -- the field of a dword
-  pub record IsField (i : ℕ) (o : Option Description) (f : Field) : Type 0 where
-    pub offset-is : f .offset ≡ i
-    pub value-is : f .value ≡ getD ds i 0
-    pub source-is : IsSource tables o (f .source)
+-- the field of a dword
+pub record IsField (ds : List ℕ) (tables : List Table) (i : ℕ) (o : Option Description) (f : Field) : Type 0 where
+  pub offset-is : f .offset ≡ i
+  pub value-is : f .value ≡ getD ds i 0
+  pub source-is : IsSource tables o (f .source)
 
+module _ (ds : List ℕ) (tables : List Table) (os : List (Option Description)) where
   -- by offset, where there is a dword
   pub record FieldNth (i : ℕ) (f : Field) : Type 0 where
     pub before : List (Option Description)
@@ -145,18 +145,18 @@ module _ (ds : List ℕ) (tables : List Table) (os : List (Option Description)) 
     pub behind : List (Option Description)
     pub among : os ≡ before ++ (description ∷ behind)
     pub so-many : length before ≡ i
-    pub field : IsField i description f
+    pub field : IsField ds tables i description f
 
-  abbrev pub FieldAt : ℕ → Told Field → Type 0
-  FieldAt i (is f) = FieldNth i f
-  FieldAt i absent = length os ≤ i
-  FieldAt i (refused n) = ⊥
+  abbrev pub FieldOfOffset : ℕ → Told Field → Type 0
+  FieldOfOffset i (is f) = FieldNth i f
+  FieldOfOffset i absent = length os ≤ i
+  FieldOfOffset i (refused n) = ⊥
 
   -- the first field that is so
   pub record FieldFirst (So : Option Description → Type 0) (f : Field) : Type 0 where
     pub at : ℕ
     pub found : FoundAt So os at
-    pub field : IsField at (found .value) f
+    pub field : IsField ds tables at (found .value) f
 
   abbrev pub FieldSo : (Option Description → Type 0) → Told Field → Type 0
   FieldSo So (is f) = FieldFirst So f
@@ -172,6 +172,25 @@ module _ (ds : List ℕ) (tables : List Table) (os : List (Option Description)) 
 
 -- ---- the packet type
 
+module _ (ds : List ℕ) (os : List (Option Description)) where
+  -- the first field with a `Packet Type` range, whose value has that name
+  pub record TypeNameAsked (name : List ℕ) : Type 0 where
+    pub at : ℕ
+    pub field : FoundAt (Holds (bytes "Packet Type")) os at
+    pub named : TypeNamed (field .value) (getD ds at 0) name
+
+  -- 28: its value has no name
+  pub record Unnamed : Type 0 where
+    pub at : ℕ
+    pub field : FoundAt (Holds (bytes "Packet Type")) os at
+    pub no-name : (name : List ℕ) → TypeNamed (field .value) (getD ds at 0) name → ⊥
+
+  -- the type's name
+  abbrev pub TypeNameTold : Told (List ℕ) → Type 0
+  TypeNameTold (is name) = TypeNameAsked name
+  TypeNameTold absent = None (Holds (bytes "Packet Type")) os
+  TypeNameTold (refused n) = (n ≡ 28) × Unnamed
+
 module _ (ds : List ℕ) (tables : List Table) (os : List (Option Description)) where
   -- the first field with such a range, the range's value, and where the book names it
   pub record TypeAsked (t : PacketType) : Type 0 where
@@ -186,27 +205,10 @@ module _ (ds : List ℕ) (tables : List Table) (os : List (Option Description)) 
     pub number-is : t .value ≡ valueOf range (getD ds at 0)
     pub name-stands : ValueStands tables description (range-is .before) range (value-is .before) (t .name .at)
 
-  -- 28: its value has no name
-  pub record Unnamed : Type 0 where
-    pub at : ℕ
-    pub field : FoundAt (Holds (bytes "Packet Type")) os at
-    pub no-name : (name : List ℕ) → TypeNamed (field .value) (getD ds at 0) name → ⊥
-
   abbrev pub TypeTold : Told PacketType → Type 0
   TypeTold (is t) = TypeAsked t
   TypeTold absent = None (Holds (bytes "Packet Type")) os
-  TypeTold (refused n) = (n ≡ 28) × Unnamed
-
-  -- its name
-  pub record TypeNameAsked (name : List ℕ) : Type 0 where
-    pub at : ℕ
-    pub field : FoundAt (Holds (bytes "Packet Type")) os at
-    pub named : TypeNamed (field .value) (getD ds at 0) name
-
-  abbrev pub TypeNameTold : Told (List ℕ) → Type 0
-  TypeNameTold (is name) = TypeNameAsked name
-  TypeNameTold absent = None (Holds (bytes "Packet Type")) os
-  TypeNameTold (refused n) = (n ≡ 28) × Unnamed
+  TypeTold (refused n) = (n ≡ 28) × Unnamed ds os
 
 -- ---- 20 to 25 come first; then what is said of the packet
 

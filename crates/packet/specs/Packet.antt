@@ -24,7 +24,7 @@ use Rattle.packet.specs.declared.field.Ask.the-variants.{Holds}
 use Rattle.packet.specs.Field.{asks}
 use Rattle.packet.specs.Steps.{controlPlaces, headerPlaces, gathered, uuidPlaces}
 
--- kinds 2 and 3 have a data view from n onward; kinds 8 and 9 cross domains
+-- kinds 2 and 3 have a data view from n onward; kinds 8 and 9 are inter-domain packets
 unfoldable pub isReadResponseOrWriteRequest : ℕ → Bool
 isReadResponseOrWriteRequest kind = eqb kind 2 || eqb kind 3
 

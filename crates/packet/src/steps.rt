@@ -26,14 +26,14 @@ pub fn describe(book: &[u8], tables: Tables, dwords: &[u32], places: &mut [u32])
     fill(book, tables.control, Pick::Any, b"", places);
     let header = tables.header;
     match header {
-        Header::At(table) => describe_crossing(book, table, dwords, places),
+        Header::At(table) => describe_xdomain(book, table, dwords, places),
         Header::Unasked => MaybeUuid::Absent,
         Header::Missing => MaybeUuid::Absent,
     }
 }
 
 // Kinds 8 and 9 go on with the header table and the table of their UUID.
-fn describe_crossing(book: &[u8], header: usize, dwords: &[u32], places: &mut [u32]) -> MaybeUuid
+fn describe_xdomain(book: &[u8], header: usize, dwords: &[u32], places: &mut [u32]) -> MaybeUuid
     requires { ⌜ (length (now book) ≤ 65535) × (length (now dwords) ≤ 256) × (length (now places) ≡ length (now dwords)) ⌝ }
     ensures { λ r. ⌜ Described (Header.At header) (now (book .entry)) (now (dwords .entry)) (now (places .entry)) (now (places .exit)) r ⌝ }
 {

@@ -100,10 +100,10 @@ module _ (kind : ℕ) (s ds : List ℕ) where
   unfolding viewFrom
   viewed-from v = rw v
 
-  crossing-from : isReadResponseOrWriteRequest kind ≡ false → isXdomain kind ≡ true
+  xdomain-from : isReadResponseOrWriteRequest kind ≡ false → isXdomain kind ≡ true
       → viewFrom kind s (placesOf kind s ds) ≡ behind (firstFrom (asks Holds s (bytes "Properties Block Generation")) 0 (placesOf kind s ds))
   unfolding viewFrom
-  crossing-from v x = rw (v, x)
+  xdomain-from v x = rw (v, x)
 
   other-from : isReadResponseOrWriteRequest kind ≡ false → isXdomain kind ≡ false → viewFrom kind s (placesOf kind s ds) ≡ Nothing
   unfolding viewFrom
@@ -136,7 +136,7 @@ module _ (kind : ℕ) (s ds : List ℕ) where
   -- kinds 8 and 9: from just after the first field with `Properties Block Generation`, else none
   pub view-is-behind-generation : isReadResponseOrWriteRequest kind ≡ false → isXdomain kind ≡ true → refusal kind s ds ≡ 0
       → startOf kind s ds ≡ started (behind (firstFrom (asks Holds s (bytes "Properties Block Generation")) 0 (placesOf kind s ds)))
-  view-is-behind-generation v x none = start-is-not-cut none ∙ ap started (crossing-from v x)
+  view-is-behind-generation v x none = start-is-not-cut none ∙ ap started (xdomain-from v x)
 
   -- other kinds: none
   pub others-have-no-view : isReadResponseOrWriteRequest kind ≡ false → isXdomain kind ≡ false → refusal kind s ds ≡ 0

@@ -60,7 +60,7 @@ module _ (kind : ℕ) (s ds : List ℕ) where
   unfoldable pub viewOf : List ℕ
   viewOf = viewAt startOf
 
-  -- reads, writes, and packets that cross domains, by the kind
+  -- reads, writes, and inter-domain packets, by the kind
   unfoldable pub readOf : Told Bool
   readOf = answer (is (described.isRead kind))
 

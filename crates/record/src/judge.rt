@@ -17,7 +17,7 @@ ghost use Rattle.tlv.specs.Reading.{between};
 ghost use Rattle.record.specs.Judging.{refusalOf, framed, judged, judgeField, taskSize, hasRequired};
 
 // Tags 01 to 0B and 13 are required.
-const REQUIRED: [u8; 12] = [1, 2, 3, 4, 5, 6, 7, 8, 9, 10, 11, 19];
+const REQUIRED: [u8; 12] = [1, 2, 3, 4, 5, 6, 7, 8, 9, 0x0A, 0x0B, 0x13];
 
 // The number of the first rule that the record breaks, 0 for none.
 pub fn refusal(text: &[u8]) -> u8

@@ -36,7 +36,7 @@ pub fn read(text: &[u8], slots: &mut [u32]) -> Answer
     if number != 0 {
         return Answer::Refused(number);
     }
-    let data = place_of(text, 19);
+    let data = place_of(text, 0x13);
     let n = data.len / 4;
     if slots.len() < n {
         return Answer::Refused(FEW_RECORD_SLOTS);

@@ -20,8 +20,8 @@ fill-requires c κs = search needs
 enum-known-header : tie.Need-enum-known-header
 enum-known-header c = search needs
 
-describe-crossing-requires : tie.Need-describe-crossing-requires
-describe-crossing-requires c κs = search needs
+describe-xdomain-requires : tie.Need-describe-xdomain-requires
+describe-xdomain-requires c κs = search needs
 
 enum-told : tie.Need-enum-told
 enum-told c = search needs
@@ -33,7 +33,7 @@ same-length : tie.Need-same-length
 same-length c = search needs
 
 returns : tie.Need-returns
-returns c = described-at (c .before .before .before .before .before .before .before .before .before .before .before .before .before .before .before .before .before .before .before .args .book .now) (c .before .before .before .before .before .before .before .before .before .before .before .before .before .before .before .before .before .before .before .args .dwords .now) (c .before .before .before .before .before .before .before .before .before .fill .ensures ∙ ap (filled (entryOf Any [] (c .before .before .before .before .before .before .before .before .before .before .before .before .before .before .before .before .before .before .before .args .book .now) (c .before .before .before .before .before .before .before .before .before .before .before .before .before .before .before .before .before .before .before .args .tables .control))) (c .before .before .before .before .before .before .before .before .before .before .before .before .before .before .clear .ensures) ∙ control-filled (c .before .before .before .before .before .before .before .before .before .before .before .before .before .before .before .before .before .before .before .args .book .now) (c .before .before .before .before .before .before .before .before .before .before .before .before .before .before .before .before .before .before .before .args .tables .control) (c .before .before .before .before .before .before .before .before .before .before .before .before .before .before .before .before .before .before .before .args .dwords .now) (c .before .before .before .before .before .before .before .before .before .before .before .before .before .before .before .before .before .before .before .args .places .now) (c .before .before .before .before .before .before .before .before .before .before .before .before .before .before .before .before .before .before .before .pre .2)) (c .before .before .before .before .before .header .given .1) (c .before .before .describe-crossing .ensures)
+returns c = described-at (c .before .before .before .before .before .before .before .before .before .before .before .before .before .before .before .before .before .before .before .args .book .now) (c .before .before .before .before .before .before .before .before .before .before .before .before .before .before .before .before .before .before .before .args .dwords .now) (c .before .before .before .before .before .before .before .before .before .fill .ensures ∙ ap (filled (entryOf Any [] (c .before .before .before .before .before .before .before .before .before .before .before .before .before .before .before .before .before .before .before .args .book .now) (c .before .before .before .before .before .before .before .before .before .before .before .before .before .before .before .before .before .before .before .args .tables .control))) (c .before .before .before .before .before .before .before .before .before .before .before .before .before .before .clear .ensures) ∙ control-filled (c .before .before .before .before .before .before .before .before .before .before .before .before .before .before .before .before .before .before .before .args .book .now) (c .before .before .before .before .before .before .before .before .before .before .before .before .before .before .before .before .before .before .before .args .tables .control) (c .before .before .before .before .before .before .before .before .before .before .before .before .before .before .before .before .before .before .before .args .dwords .now) (c .before .before .before .before .before .before .before .before .before .before .before .before .before .before .before .before .before .before .before .args .places .now) (c .before .before .before .before .before .before .before .before .before .before .before .before .before .before .before .before .before .before .before .pre .2)) (c .before .before .before .before .before .header .given .1) (c .before .before .describe-xdomain .ensures)
 
 same-length-2 : tie.Need-same-length-2
 same-length-2 c = search needs
@@ -55,7 +55,7 @@ describe-spec =
     slice-aggregate-fill
     fill-requires
     enum-known-header
-    describe-crossing-requires
+    describe-xdomain-requires
     enum-told
     enum-told-2
     same-length

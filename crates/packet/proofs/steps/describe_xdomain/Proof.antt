@@ -1,9 +1,9 @@
--- `packet::steps::describe_crossing` meets its contract: header table, UUID, protocol table. Assumes nothing.
+-- `packet::steps::describe_xdomain` meets its contract: header table, UUID, protocol table. Assumes nothing.
 use Rattle.packet.proofs.Packets.{described-on}
 use Rattle.packet.specs.Steps.{headerPlaces}
 use borrow.Author.Needs.{needs}
-use Rattle.packet.proofs.steps.describe_crossing.Statement.{statement}
-use Rattle.packet.proofs.steps.describe_crossing.Tie as tie
+use Rattle.packet.proofs.steps.describe_xdomain.Statement.{statement}
+use Rattle.packet.proofs.steps.describe_xdomain.Tie as tie
 
 slice-aggregate-fill : tie.Need-slice-aggregate-fill
 slice-aggregate-fill c = search needs
@@ -27,8 +27,8 @@ returns : tie.Need-returns
 unfolding headerPlaces
 returns c = described-on (c .before .before .before .before .before .before .before .before .before .before .before .before .before .before .before .args .book .now) (c .before .before .before .before .before .before .before .before .before .before .before .before .before .before .before .args .dwords .now) (c .before .before .before .before .before .before .before .before .before .fill .ensures) (c .before .before .before .before .gather .ensures) (c .before .before .describe-protocol .ensures)
 
-pub describe-crossing-spec : {M : Type 1} → statement M
-describe-crossing-spec =
+pub describe-xdomain-spec : {M : Type 1} → statement M
+describe-xdomain-spec =
     tie.close
     (tie.spec
     slice-aggregate-fill

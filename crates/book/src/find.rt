@@ -184,7 +184,8 @@ fn seek(book: &[u8], place: usize, want: Want, key: &[u8]) -> usize
     }
 }
 
-// Where the fields inside a body start: behind kind, UUID, name and type, or name, by the tag.
+// Where the fields inside a body start: behind kind, UUID, name and type, or name, by the tag. Asked for: a start within the text, which a body
+// that `field_at` gave has.
 pub fn inner(s: &[u8], tag: u8, from: usize) -> usize
     requires { ⌜ from ≤ length (now s) ⌝ }
     ensures { λ r. ⌜ r ≡ innerFrom tag (now (s .entry)) from ⌝ }

@@ -115,7 +115,7 @@ fn turn(
 }
 
 // What the units of a part put out, for as much of it as there is room for: until the part is used up, or an output has less room than a
-// unit may take.
+// unit may take. Asked for: places within the buffers, and a unit buffer that holds any record; `moving` keeps them so.
 pub fn take_some(
     filter: Filter,
     part: &[u8],
@@ -142,7 +142,7 @@ pub fn take_some(
     at
 }
 
-// What the end of the input puts out: that of the open unit, if one is held, and the totals.
+// What the end of the input puts out: that of the open unit, if one is held, and the totals. Asked for: room for them, which `moving` makes.
 pub fn finish(filter: Filter, unit: &[u8], out: &mut [u8], told: &mut [u8], run: Run) -> Run
     requires { ⌜ (run .held ≤ length (now unit)) × (Room (length (now out)) (length (now told)) run) ⌝ }
     ensures { λ r. ⌜ Finished filter (take (run .held) (now (unit .entry))) (now (out .entry)) (now (told .entry)) run (now (out .exit)) (now (told .exit)) r ⌝ }

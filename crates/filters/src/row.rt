@@ -44,7 +44,7 @@ pub fn see_record(text: &[u8]) -> Seen
     }
 }
 
-// The row of the next unit, as it is seen.
+// The row of the next unit, as it is seen. Asked for: room for a row, which the callers in this crate have.
 pub fn put_row(seen: Seen, out: &mut [u8], run: Run) -> Run
     requires { ⌜ run .at + 64 ≤ length (now out) ⌝ }
     ensures { λ r. ⌜ RowPut seen (now (out .entry)) run (now (out .exit)) r ⌝ }

@@ -11,7 +11,7 @@ pub fn at_most_256(slots: usize) -> usize
     if 256 < slots { 256 } else { slots }
 }
 
-// Dwords into the first slots, the rest as found.
+// Dwords into the first slots, the rest as found. Asked for: as many slots, which the one caller counted (17 and 35).
 pub fn copy(dwords: &[u32], slots: &mut [u32])
     requires { ⌜ length (now dwords) ≤ length (now slots) ⌝ }
     ensures { λ _. ⌜ now (slots .exit) ≡ filled (now (dwords .entry)) (now (slots .entry)) ⌝ }

@@ -66,3 +66,7 @@ pub const FEW_RECORD_SLOTS: u8 = 35;
 pub const SHORT_BUFFER: u8 = 36;
 
 pub const BAD_ENTRY: u8 = 37;
+
+pub const TABLE_SIZE: u8 = 50;
+
+pub const BROKEN_TABLE: u8 = 51;

@@ -1,3 +1,5 @@
+use Rattle.slots.specs.Decide.{decideOf, requestOf, responseOf}
+use borrow.Author.Tests.{lt-ltb, le-ltb}
 use native.Mathlib.Omega.{arith}
 use borrow.Author.Needs.{needs}
 use Rattle.slots.proofs.decide.decide.Statement.{statement}
@@ -16,7 +18,8 @@ still-requires : tie.Need-still-requires
 still-requires c κs = search needs
 
 returns : tie.Need-returns
-returns c = search needs
+unfolding decideOf
+returns c = rw (← c .before .before .fault-of .ensures, lt-ltb _ _ (c .before .if1 .taken), ← c .still .ensures)
 
 enum-told : tie.Need-enum-told
 enum-told c = search needs
@@ -55,22 +58,28 @@ still-requires-5 : tie.Need-still-requires-5
 still-requires-5 c κs = search needs
 
 returns-2 : tie.Need-returns-2
-returns-2 c = search needs
+unfolding decideOf
+returns-2 c = rw (← c .before .before .before .before .fault-of .ensures, le-ltb _ _ (c .before .before .before .if1 .left), c .before .enum-told .given .1, ← c .still2 .ensures)
 
 returns-3 : tie.Need-returns-3
-returns-3 c = search needs
+unfolding decideOf
+returns-3 c = rw (← c .before .before .before .before .fault-of .ensures, le-ltb _ _ (c .before .before .before .if1 .left), c .before .enum-told2 .given .1, ← c .still3 .ensures)
 
 returns-4 : tie.Need-returns-4
-returns-4 c = search needs
+unfolding decideOf
+returns-4 c = rw (← c .before .before .before .before .fault-of .ensures, le-ltb _ _ (c .before .before .before .if1 .left), c .before .enum-told3 .given .1, ← c .still4 .ensures)
 
 returns-5 : tie.Need-returns-5
-returns-5 c = search needs
+unfolding decideOf requestOf
+returns-5 c = rw (← c .before .before .before .before .before .fault-of .ensures, le-ltb _ _ (c .before .before .before .before .if1 .left), c .before .before .ask .given .1, c .request .ensures)
 
 returns-6 : tie.Need-returns-6
-returns-6 c = search needs
+unfolding decideOf responseOf
+returns-6 c = rw (← c .before .before .before .before .fault-of .ensures, le-ltb _ _ (c .before .before .before .if1 .left), c .before .enum-told4 .given .1, c .response .ensures)
 
 returns-7 : tie.Need-returns-7
-returns-7 c = search needs
+unfolding decideOf
+returns-7 c = rw (← c .before .before .before .before .fault-of .ensures, le-ltb _ _ (c .before .before .before .if1 .left), c .before .enum-told5 .given .1, ← c .still5 .ensures)
 
 pub decide-spec : {M : Type 1} → statement M
 decide-spec =

@@ -1,3 +1,4 @@
+use Rattle.slots.specs.Decide.{soundOf}
 use native.Mathlib.Omega.{arith}
 use borrow.Author.Needs.{needs}
 use Rattle.slots.proofs.decide.is_sound.Statement.{statement}
@@ -10,10 +11,12 @@ ones-requires : tie.Need-ones-requires
 ones-requires c κs = search needs
 
 returns : tie.Need-returns
-returns c = search needs
+unfolding soundOf
+returns c = rw (c .before .before .if1 .taken, ← c .before .ones .ensures)
 
 returns-2 : tie.Need-returns-2
-returns-2 c = search needs
+unfolding soundOf
+returns-2 c = rw (c .if1 .left)
 
 pub is-sound-spec : {M : Type 1} → statement M
 is-sound-spec = tie.close (tie.spec ones-requires returns returns-2)

@@ -10,7 +10,7 @@ lower-requires : tie.Need-lower-requires
 lower-requires c κs = search needs
 
 returns : tie.Need-returns
-returns c = search needs
+returns c = rw (← c .lower .ensures)
 
 pub lowered-spec : {M : Type 1} → statement M
 lowered-spec = tie.close (tie.spec lower-requires returns)

@@ -1,3 +1,5 @@
+use Rattle.slots.specs.Decide.{requestOf}
+use borrow.Author.Tests.{lt-ltb, le-ltb}
 use native.Mathlib.Omega.{arith}
 use borrow.Author.Needs.{needs}
 use Rattle.slots.proofs.decide.request.Statement.{statement}
@@ -10,19 +12,22 @@ add-t7 : tie.Need-add-t7
 add-t7 c = search needs
 
 returns : tie.Need-returns
-returns c = search needs
+unfolding requestOf
+returns c = rw (lt-ltb _ _ (c .before .before .before .if1 .taken), lt-ltb _ _ (c .before .if2 .taken))
 
 still-requires : tie.Need-still-requires
 still-requires c κs = search needs
 
 returns-2 : tie.Need-returns-2
-returns-2 c = search needs
+unfolding requestOf
+returns-2 c = rw (lt-ltb _ _ (c .before .before .before .if1 .taken), le-ltb _ _ (c .before .if2 .left), ← c .still .ensures)
 
 still-requires-2 : tie.Need-still-requires-2
 still-requires-2 c κs = search needs
 
 returns-3 : tie.Need-returns-3
-returns-3 c = search needs
+unfolding requestOf
+returns-3 c = rw (le-ltb _ _ (c .before .if1 .left), ← c .still2 .ensures)
 
 pub request-spec : {M : Type 1} → statement M
 request-spec =

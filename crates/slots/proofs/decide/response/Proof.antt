@@ -1,3 +1,5 @@
+use Rattle.slots.specs.Decide.{responseOf}
+use borrow.Author.Tests.{lt-ltb, le-ltb}
 use native.Mathlib.Omega.{arith}
 use borrow.Author.Needs.{needs}
 use Rattle.slots.proofs.decide.response.Statement.{statement}
@@ -11,13 +13,15 @@ free-slot-requires : tie.Need-free-slot-requires
 free-slot-requires c κs = search needs
 
 returns : tie.Need-returns
-returns c = search needs
+unfolding responseOf
+returns c = rw (lt-ltb _ _ (c .before .if1 .taken), ← c .free-slot .ensures)
 
 still-requires : tie.Need-still-requires
 still-requires c κs = search needs
 
 returns-2 : tie.Need-returns-2
-returns-2 c = search needs
+unfolding responseOf
+returns-2 c = rw (le-ltb _ _ (c .before .if1 .left), ← c .still .ensures)
 
 pub response-spec : {M : Type 1} → statement M
 response-spec = tie.close (tie.spec free-slot-requires returns still-requires returns-2)

@@ -1,0 +1,2 @@
+-- Laws about tables and steps.
+pub mod Shared

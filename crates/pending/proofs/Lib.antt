@@ -1,2 +1,3 @@
 -- Laws about tables and steps.
 pub mod Shared
+pub mod Steps

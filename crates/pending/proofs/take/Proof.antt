@@ -46,6 +46,7 @@ use Rattle.slots.specs.declared.Slot.{Slot}
 use Rattle.slots.specs.Decide.{freeSlot}
 use Rattle.slots.proofs.Slot as S
 use Rattle.slots.proofs.Slot.Laws as S′
+use Rattle.pending.proofs.Steps.{set-past}
 use Rattle.pending.proofs.take.Key.{name as #pending·take}
 use Rattle.pending.proofs.take as take
 use Rattle.pending.proofs.take.Statement as stated
@@ -63,12 +64,6 @@ slots = LL.vals S.the-type S′.the-laws
 
 times-fits : (n i : ℕ) → i < n → n * 24 < 2 ^ 63 → i * 24 < 2 ^ 64
 times-fits n i l g = omega (arith, l, g)
-
--- nothing is stored past the end
-set-past : (ys : List Slot) (i : ℕ) (s : Slot) → length ys ≤ i → set ys i s ≡ ys
-set-past [] i s h = refl
-set-past (y ∷ ys) zero s h = absurd (omega (arith, h))
-set-past (y ∷ ys) (suc i) s h = ap (λ (t : List Slot). y ∷ t) (set-past ys i s (omega (arith, h)))
 
 module _ {M : Type 1} (𝓤 : URA M) (H : Heap 𝓤) (A : Atoms 𝓤) (W : Given 𝓤 H A) (mem : Memory → SProp 𝓤) (run : Routine → Fun 𝓤)
     (κ : Lft) (q : Share) (b o : ℕ) (γ : GName) (ys : List Slot) (p : ℕ) (s : Slot) (room : Room S.the-row (length ys)) (fits : Is usize p (vint w64 p ∷ [])) (is₀ : Is S.the-row s (slot s ∷ [])) where

@@ -1,0 +1,2 @@
+-- A step of the table acts as a step of the list, so what document 02 a) promises holds of every history.
+pub mod Counts

@@ -1,0 +1,119 @@
+-- What document 02 a) promises, over the contracts of the calls: `Step` is that of `step`, `CountTold` that of `waiting`, `PlaceTold` that of `oldest`.
+-- How to read it: `a ≡ b` is "a equals b"; `P → Q` "if P then Q"; `P → ⊥` "P never holds"; `P × Q` "P and Q"; `(x : A) × P` "there is an x so that P";
+-- `(x : A) → P` "for every x, P"; `↔` "exactly when". Of a step, t is the table before it and u the table after it.
+use Prim.Native.Nat.{ℕ, _+_, _<_, _≤_}
+use mathlib.Core.Path.{_≡_}
+use mathlib.Core.List.{List}
+use mathlib.Core.Logic.{_↔_}
+use lib.ListN.{length, getD, replicate}
+use Rattle.text.specs.Told.{Told, is, refused}
+use Rattle.entry.specs.declared.Entry.{Entry}
+use Rattle.slots.specs.declared.Four.{Four}
+use Rattle.slots.specs.declared.Slot.{Slot}
+use Rattle.slots.specs.declared.ask.Ask.the-variants as A
+use Rattle.slots.specs.declared.decide.Report.{Report}
+use Rattle.slots.specs.declared.decide.Report.the-variants as R
+use Rattle.slots.specs.Ask.{askOf}
+use Rattle.slots.specs.Decide.{freeSlot}
+use Rattle.pending.specs.Table.{rankAt, fourAt, Waits, waiting, Sized, Sound, Table, CountTold, PlaceTold}
+use Rattle.pending.specs.Step.{FirstFree, NoneFree, OldestWith, NoneWith, newcomer, Step}
+use Rattle.pending.specs.Words.{Word, taken, turned-away, stray, reportTold}
+use Rattle.matched.specs.Requests.{wordOf, nextOf}
+use Rattle.matched.specs.Holds.{Holds, Empty}
+use Rattle.matched.specs.History.{History, takenIn, answeredIn}
+
+-- A request with the four was taken at slot i.
+pub record TakenAt (t : List Slot) (four : Four) (i : ℕ) (u : List Slot) : Type 0 where
+  -- It was the first free slot.
+  pub first : FirstFree t i
+  -- The request stands there with the four, and is the youngest.
+  pub there : getD u i freeSlot ≡ newcomer t four
+  -- Every other slot is as before.
+  pub others : (j : ℕ) → (j ≡ i → ⊥) → getD u j freeSlot ≡ getD t j freeSlot
+
+-- A response with the four freed slot i.
+pub record AnsweredAt (t : List Slot) (four : Four) (i : ℕ) (u : List Slot) : Type 0 where
+  -- It was the oldest with the same four.
+  pub oldest : OldestWith t four i
+  -- It is free now.
+  pub free : rankAt u i ≡ 0
+  -- Each later one moved up by one.
+  pub later : (j : ℕ) → rankAt t i < rankAt t j → rankAt u j + 1 ≡ rankAt t j
+  -- Each earlier one, and each free slot, has its rank still.
+  pub earlier : (j : ℕ) → rankAt t j < rankAt t i → rankAt u j ≡ rankAt t j
+  -- Freeing changes ranks alone: each slot has its four still, the freed one too.
+  pub fours : (j : ℕ) → fourAt u j ≡ fourAt t j
+
+pub record Matched : Type 0 where
+  -- Each step acts as the plain list does, cut to the slot count: the report is the list's word, and the table holds the list's next.
+  pub acts-as-list : (e : Entry) (t u : List Slot) (r : Report) (l : List Four) → Sized t → Holds t l → Step e t r u
+      → (reportTold r ≡ is (wordOf (length t) (askOf e) l)) × Holds u (nextOf (length t) (askOf e) l)
+  -- Every table holds a list.
+  pub holds-some : (t : List Slot) → Table t → (l : List Four) × Holds t l
+  -- It holds one list alone.
+  pub one-list : (t : List Slot) (l m : List Four) → Holds t l → Holds t m → l ≡ m
+  -- What holds a list is sound: its waiting slots carry the ranks 1 to their number once each, their routes plain.
+  pub holding-is-sound : (t : List Slot) (l : List Four) → Holds t l → Sound t
+  -- A list that is held is no longer than there are slots.
+  pub list-fits : (t : List Slot) (l : List Four) → Holds t l → length l ≤ length t
+
+  -- A step keeps the number of slots.
+  pub same-size : (e : Entry) (t u : List Slot) (r : Report) → Step e t r u → length u ≡ length t
+  -- A request that is taken goes to the first free slot, as the youngest, and no other slot changes.
+  pub each-slot-taken : (e : Entry) (t u : List Slot) (i : ℕ) → Step e t (R.Taken i) u
+      → (four : Four) × (askOf e ≡ A.Request four) × TakenAt t four i u
+  -- A response frees the oldest slot with the same four, and changes ranks alone.
+  pub each-slot-answered : (e : Entry) (t u : List Slot) (i : ℕ) → Step e t (R.Answered i) u
+      → (four : Four) × (askOf e ≡ A.Response four) × AnsweredAt t four i u
+  -- Whatever else is reported or refused, no slot changes.
+  pub else-unchanged : (e : Entry) (t u : List Slot) (r : Report) → Step e t r u → ((i : ℕ) → r ≡ R.Taken i → ⊥)
+      → ((i : ℕ) → r ≡ R.Answered i → ⊥) → u ≡ t
+
+  -- A request is turned away exactly when no slot is free.
+  pub turned-away-exactly : (e : Entry) (t u : List Slot) (r : Report) (four : Four) → Table t → askOf e ≡ A.Request four → Step e t r u
+      → (reportTold r ≡ is turned-away) ↔ NoneFree t
+  -- A response is stray exactly when no waiting slot has the four.
+  pub stray-exactly : (e : Entry) (t u : List Slot) (r : Report) (four : Four) → Table t → askOf e ≡ A.Response four → Step e t r u
+      → (reportTold r ≡ is stray) ↔ NoneWith t four
+  -- Freed slots are used again: behind an answer a request is taken.
+  pub used-again : (e f : Entry) (t u v : List Slot) (r : Report) (i : ℕ) (four : Four) → Step e t (R.Answered i) u → askOf f ≡ A.Request four
+      → Step f u r v → reportTold r ≡ is taken
+  -- It goes to the slot that was freed, unless one before that was free.
+  pub used-at-once : (e f : Entry) (t u v : List Slot) (r : Report) (i : ℕ) (four : Four) → Step e t (R.Answered i) u → askOf f ≡ A.Request four
+      → Step f u r v → ((j : ℕ) → j < i → 0 < rankAt t j) → r ≡ R.Taken i
+
+  -- 50 refuses exactly what has no or over 64 slots, whatever the entry.
+  pub fifty-exactly : (e : Entry) (t u : List Slot) (r : Report) → Step e t r u → (reportTold r ≡ refused 50) ↔ (Sized t → ⊥)
+  -- 51 refuses exactly what has 1 to 64 slots and is not sound, whatever the entry.
+  pub fifty-one-exactly : (e : Entry) (t u : List Slot) (r : Report) → Step e t r u
+      → (reportTold r ≡ refused 51) ↔ (Sized t × (Sound t → ⊥))
+  -- There is no other refusal.
+  pub no-other-number : (e : Entry) (t u : List Slot) (r : Report) (n : ℕ) → Step e t r u → reportTold r ≡ refused n
+      → (n ≡ 50 → ⊥) → n ≡ 51
+  -- A refusal changes no slot.
+  pub refusal-changes-nothing : (e : Entry) (t u : List Slot) (r : Report) (n : ℕ) → Step e t r u → reportTold r ≡ refused n → u ≡ t
+  -- A table stays a table, so 51 cannot come later in a history.
+  pub stays-a-table : (e : Entry) (t u : List Slot) (r : Report) → Table t → Step e t r u → Table u
+  -- A table is never refused.
+  pub never-refused : (e : Entry) (t u : List Slot) (r : Report) (n : ℕ) → Table t → Step e t r u → reportTold r ≡ refused n → ⊥
+
+  -- One answer: no second report and no second table keeps the contract of `step`.
+  pub one-answer : (e : Entry) (t u v : List Slot) (r s : Report) → Step e t r u → Step e t s v → (r ≡ s) × (u ≡ v)
+  -- Nor does a second answer keep that of `waiting`, or that of `oldest`.
+  pub one-count : (t : List Slot) (a b : Told ℕ) → CountTold t a → CountTold t b → a ≡ b
+  pub one-place : (t : List Slot) (k : ℕ) (a b : Told ℕ) → PlaceTold t k a → PlaceTold t k b → a ≡ b
+  -- A history has one outcome.
+  pub one-history : (es : List Entry) (t u v : List Slot) (rs ss : List Report) → History es t rs u → History es t ss v → (rs ≡ ss) × (u ≡ v)
+
+  -- Counted from the history: those that waited and those taken in are those answered and those that wait.
+  pub counted : (es : List Entry) (t u : List Slot) (rs : List Report) → Table t → History es t rs u
+      → waiting t + takenIn rs ≡ answeredIn rs + waiting u
+  -- From an empty table, requests taken in equal answered plus waiting.
+  pub from-empty : (es : List Entry) (t u : List Slot) (rs : List Report) → Sized t → Empty t → History es t rs u
+      → takenIn rs ≡ answeredIn rs + waiting u
+  -- A table with no rank is a table and holds no request.
+  pub empty-is-a-table : (t : List Slot) → Sized t → Empty t → Table t
+  -- What `clear` leaves is empty.
+  pub cleared-is-empty : (n : ℕ) → Empty (replicate n freeSlot)
+  -- So 1 to 64 cleared slots are a table.
+  pub cleared-is-a-table : (n : ℕ) → 0 < n → n ≤ 64 → Table (replicate n freeSlot)

@@ -1,2 +1,5 @@
 -- A step of the table acts as a step of the list, so what document 02 a) promises holds of every history.
 pub mod Counts
+pub mod Fours
+pub mod Kept
+pub mod Asked

@@ -3,3 +3,7 @@ pub mod Counts
 pub mod Fours
 pub mod Kept
 pub mod Asked
+pub mod Lists
+pub mod Acts
+pub mod One
+pub mod Slots

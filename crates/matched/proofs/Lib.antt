@@ -7,3 +7,6 @@ pub mod Lists
 pub mod Acts
 pub mod One
 pub mod Slots
+pub mod Refusals
+pub mod Histories
+pub mod Matched

@@ -10,3 +10,4 @@ pub mod Slots
 pub mod Refusals
 pub mod Histories
 pub mod Matched
+pub mod Worked

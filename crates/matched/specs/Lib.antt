@@ -4,3 +4,4 @@ pub mod Requests
 pub mod Holds
 pub mod History
 pub mod Matched
+pub mod Worked

@@ -2,7 +2,7 @@
 -- Assumes nothing.
 use Prim.Native.Nat.{ℕ, zero, suc, _+_, _-_, _<_, _≤_, _^_}
 use native.Mathlib.Omega.{arith}
-use mathlib.Core.Path.{_≡_, refl, ap}
+use mathlib.Core.Path.{_≡_, refl, sym, ap}
 use mathlib.Core.Bool.{Bool, true, false}
 use mathlib.Core.List.{List, [], _∷_}
 use lib.ListN.{length, replicate}
@@ -109,36 +109,54 @@ step-8 = taken table-6 refl (first-of-two (r 0) (r 1) refl)
 table-8 : Table (pair (w 2) (r 1))
 table-8 = stays-a-table _ _ _ _ table-6 step-8
 
-step-9 : Step (entry 5 false 0 7 (B.Is 5)) (pair (w 2) (r 1)) R.Other (pair (w 2) (r 1))
-unfolding computes
-step-9 = other table-8 refl
+-- the write's four are not the read's
+other-route : w 0 .four ≡ r 0 .four → ⊥
+other-route q = let z : _≡_ {A = ℕ} 9 7 = ap (λ (x : Four). x .route) q in omega arith
 
-step-10 : Step (entry 1 false 0 7 B.Absent) (pair (w 2) (r 1)) R.NoSeq (pair (w 2) (r 1))
+step-9 : Step (entry 4 false 1 9 (B.Is 6)) (pair (w 2) (r 1)) (R.Answered 0) (pair (w 0) (r 1))
 unfolding computes
-step-10 = no-seq table-8 refl
-
-step-11 : Step (entry 2 true 0 7 (B.Is 5)) (pair (w 2) (r 1)) R.Dropped (pair (w 2) (r 1))
-unfolding computes
-step-11 = dropped table-8 refl
-
-step-12 : Step (entry 2 false 0 7 (B.Is 5)) (pair (w 2) (r 1)) (R.Answered 1) (pair (w 1) (r 0))
-unfolding computes
-step-12 = answered {i = 1} table-8 refl (record { waits = (omega arith, omega arith); same = refl; oldest = λ j v q. let h = v .1 in omega arith })
-
-table-12 : Table (pair (w 1) (r 0))
-table-12 = stays-a-table _ _ _ _ table-8 step-12
-
-step-13 : Step (entry 2 false 0 7 (B.Is 5)) (pair (w 1) (r 0)) R.Stray (pair (w 1) (r 0))
-unfolding computes
-step-13 = stray table-12 refl (none-with (w 1) (r 0) _ (λ h q. other-route q) (λ h q. omega arith))
+step-9 = answered {i = 0} table-8 refl (record { waits = (omega arith, omega arith); same = refl; oldest = λ j v q. each j (v .0) q })
   where
-    other-route : w 0 .four ≡ r 0 .four → ⊥
-    other-route q = let z : _≡_ {A = ℕ} 9 7 = ap (λ (x : Four). x .route) q in omega arith
+    each : (j : ℕ) → j < 2 → fourAt (pair (w 2) (r 1)) j ≡ w 0 .four → 2 ≤ rankAt (pair (w 2) (r 1)) j
+    each = two (λ j. fourAt (pair (w 2) (r 1)) j ≡ w 0 .four → 2 ≤ rankAt (pair (w 2) (r 1)) j) (λ q. omega arith) (λ q. absurd (other-route (sym q)))
+
+table-9 : Table (pair (w 0) (r 1))
+table-9 = stays-a-table _ _ _ _ table-8 step-9
+
+step-10 : Step (entry 3 false 1 9 (B.Is 6)) (pair (w 0) (r 1)) (R.Taken 0) (pair (w 2) (r 1))
+unfolding computes
+step-10 = taken table-9 refl (first-of-two (w 0) (r 1) refl)
+
+table-10 : Table (pair (w 2) (r 1))
+table-10 = stays-a-table _ _ _ _ table-9 step-10
+
+step-11 : Step (entry 5 false 0 7 (B.Is 5)) (pair (w 2) (r 1)) R.Other (pair (w 2) (r 1))
+unfolding computes
+step-11 = other table-10 refl
+
+step-12 : Step (entry 1 false 0 7 B.Absent) (pair (w 2) (r 1)) R.NoSeq (pair (w 2) (r 1))
+unfolding computes
+step-12 = no-seq table-10 refl
+
+step-13 : Step (entry 2 true 0 7 (B.Is 5)) (pair (w 2) (r 1)) R.Dropped (pair (w 2) (r 1))
+unfolding computes
+step-13 = dropped table-10 refl
+
+step-14 : Step (entry 2 false 0 7 (B.Is 5)) (pair (w 2) (r 1)) (R.Answered 1) (pair (w 1) (r 0))
+unfolding computes
+step-14 = answered {i = 1} table-10 refl (record { waits = (omega arith, omega arith); same = refl; oldest = λ j v q. let h = v .1 in omega arith })
+
+table-14 : Table (pair (w 1) (r 0))
+table-14 = stays-a-table _ _ _ _ table-10 step-14
+
+step-15 : Step (entry 2 false 0 7 (B.Is 5)) (pair (w 1) (r 0)) R.Stray (pair (w 1) (r 0))
+unfolding computes
+step-15 = stray table-14 refl (none-with (w 1) (r 0) _ (λ h q. other-route q) (λ h q. omega arith))
 
 history : History entries (replicate 2 freeSlot) reports left
 history =
     more step-1 (more step-2 (more step-3 (more step-4 (more step-5 (more step-6 (more step-7 (more step-8 (more step-9 (more step-10 (more step-11
-    (more step-12 (more step-13 none))))))))))))
+    (more step-12 (more step-13 (more step-14 (more step-15 none))))))))))))))
 
 -- ---- tables that are refused
 pub worked : Worked

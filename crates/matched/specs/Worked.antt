@@ -64,13 +64,17 @@ entries =
     ∷ entry 1 true 0 9 (B.Is 6)
     -- 8: another request
     ∷ entry 3 false 1 9 (B.Is 6)
-    -- 9: a notification
+    -- 9: its response, before that of the older one
+    ∷ entry 4 false 1 9 (B.Is 6)
+    -- 10: that request again
+    ∷ entry 3 false 1 9 (B.Is 6)
+    -- 11: a notification
     ∷ entry 5 false 0 7 (B.Is 5)
-    -- 10: a request without `seq`
+    -- 12: a request without `seq`
     ∷ entry 1 false 0 7 B.Absent
-    -- 11: a dropped response
+    -- 13: a dropped response
     ∷ entry 2 true 0 7 (B.Is 5)
-    -- 12, 13: the response, twice
+    -- 14, 15: the response to the older one, twice
     ∷ entry 2 false 0 7 (B.Is 5)
     ∷ entry 2 false 0 7 (B.Is 5)
     ∷ []
@@ -91,18 +95,22 @@ reports =
     ∷ R.Dropped
     -- 8: the freed slot again
     ∷ R.Taken 0
-    -- 9, 10
+    -- 9: the younger one; the older one stays where it is
+    ∷ R.Answered 0
+    -- 10
+    ∷ R.Taken 0
+    -- 11, 12
     ∷ R.Other
     ∷ R.NoSeq
-    -- 11: it frees nothing
+    -- 13: it frees nothing
     ∷ R.Dropped
-    -- 12: the second of the two, which moved up
+    -- 14: the second of the first two
     ∷ R.Answered 1
-    -- 13: its four still stand in slot 1, but none waits there
+    -- 15: its four still stand in slot 1, but none waits there
     ∷ R.Stray
     ∷ []
 
--- the write of step 8 waits still, the oldest by now
+-- the write of step 10 waits still, the oldest by now
 abbrev pub left : List Slot
 left = slot 1 9 6 1 1 ∷ slot 0 7 5 0 0 ∷ []
 
@@ -111,9 +119,9 @@ pub record Worked : Type 0 where
   pub history : History entries (replicate 2 freeSlot) reports left
   -- No other reports and no other table are possible.
   pub worked-only : (rs : List Report) (u : List Slot) → History entries (replicate 2 freeSlot) rs u → (rs ≡ reports) × (u ≡ left)
-  -- Three were taken in; two are answered and one waits.
-  pub taken-in : takenIn reports ≡ 3
-  pub answered-in : answeredIn reports ≡ 2
+  -- Four were taken in; three are answered and one waits.
+  pub taken-in : takenIn reports ≡ 4
+  pub answered-in : answeredIn reports ≡ 3
   pub waits : waiting left ≡ 1
   -- No slot, and 65 of them: 50, whatever the entry.
   pub no-slot : (e : Entry) → Step e [] (R.Refused 50) []

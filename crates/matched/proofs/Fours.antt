@@ -13,7 +13,7 @@ use Rattle.slots.specs.Look.{sameFour}
 use Rattle.matched.specs.Requests.{has, without}
 use Rattle.matched.specs.Holds.{requestAt}
 
-four-by-parts : (a b : Four) → a .route ≡ b .route → a .domain ≡ b .domain → a .seq ≡ b .seq → a .write ≡ b .write → a ≡ b
+pub four-by-parts : (a b : Four) → a .route ≡ b .route → a .domain ≡ b .domain → a .seq ≡ b .seq → a .write ≡ b .write → a ≡ b
 four-by-parts a b p q r s = by (a .route) (b .route) p (a .domain) (b .domain) q (a .seq) (b .seq) r (a .write) (b .write) s
   where
     by : (p₁ p₂ : ℕ) → p₁ ≡ p₂ → (q₁ q₂ : ℕ) → q₁ ≡ q₂ → (r₁ r₂ : ℕ) → r₁ ≡ r₂ → (s₁ s₂ : ℕ) → s₁ ≡ s₂

@@ -1,12 +1,14 @@
--- Taken in equals answered plus waiting: a taken request is one more that waits, an answered one is one less, and nothing else changes their number; then
--- by induction over the history. Assumes nothing.
+-- Histories, by induction over their steps: each step acts as the list's, and taken in equals answered plus waiting because a taken request is one more
+-- that waits, an answered one is one less, and nothing else changes their number. Assumes nothing.
 use Prim.Native.Nat.{ℕ, _+_, _<_, _≤_}
 use native.Mathlib.Omega.{arith}
-use mathlib.Core.Path.{_≡_, ap}
+use mathlib.Core.Path.{_≡_, refl, ap}
 use mathlib.Core.Bool.{cond}
-use mathlib.Core.List.{List, [], _∷_}
+use mathlib.Core.List.{List, [], _∷_, map}
 use lib.ListN.{length, replicate, length-replicate, getD-replicate}
+use Rattle.text.specs.Told.{is}
 use Rattle.entry.specs.declared.Entry.{Entry}
+use Rattle.slots.specs.declared.Four.{Four}
 use Rattle.slots.specs.declared.Slot.{Slot}
 use Rattle.slots.specs.declared.ask.Ask.{Ask}
 use Rattle.slots.specs.declared.decide.Report.{Report}
@@ -14,12 +16,14 @@ use Rattle.slots.specs.Ask.{askOf}
 use Rattle.slots.specs.Decide.{freeSlot}
 use Rattle.pending.specs.Table.{rankAt, waiting, Sized, Table}
 use Rattle.pending.specs.Step.{newcomer, Step}
-use Rattle.matched.specs.Holds.{Empty}
+use Rattle.pending.specs.Words.{reportTold}
+use Rattle.matched.specs.Requests.{nextOf, wordsOf, leftOf}
+use Rattle.matched.specs.Holds.{Holds, Empty}
 use Rattle.matched.specs.History.{History, none, more, isTaken, isAnswered, countOf, takenIn, answeredIn}
 use Rattle.matched.proofs.Counts.{waiting-none, waiting-take, waiting-free}
 use Rattle.matched.proofs.Asked.{Does, dropped, other, no-seq, taken, turned-away, answered, stray, Judged, refuses, does, judged}
 use Rattle.matched.proofs.Lists.{table-passes}
-use Rattle.matched.proofs.Acts.{stays-a-table, empty-is-a-table}
+use Rattle.matched.proofs.Acts.{same-size, acts-as-list, stays-a-table, empty-is-a-table}
 
 step-counts : (t u : List Slot) (a : Ask) (r : Report) → Table t → Does t a r u → waiting t + cond (isTaken r) 1 0 ≡ cond (isAnswered r) 1 0 + waiting u
 step-counts t u a r g dropped = omega arith
@@ -41,6 +45,17 @@ counted es t u rs g (more {e} {es = es₁} {r} {rs = rs₁} {t₁} step h) =
     by : Judged t (askOf e) r t₁ → waiting t + cond (isTaken r) 1 0 ≡ cond (isAnswered r) 1 0 + waiting t₁
     by (refuses n p v) = table-passes g n
     by (does k d) = step-counts t t₁ (askOf e) r g d
+
+-- step by step, the tables and the lists go together
+pub replays-as-list : (es : List Entry) (t u : List Slot) (rs : List Report) (l : List Four) → Sized t → Holds t l → History es t rs u
+    → (map reportTold rs ≡ map is (wordsOf (length t) es l)) × Holds u (leftOf (length t) es l)
+unfolding wordsOf leftOf
+replays-as-list es t u rs l s hold none = (refl, hold)
+replays-as-list es t u rs l s hold (more {e} {es = es₁} {r} {rs = rs₁} {t₁} step h) =
+    let a = acts-as-list e t t₁ r l s hold step in let n : length t₁ ≡ length t = same-size e t t₁ r step in
+    let p = s .0 in let q = s .1 in
+    let m = replays-as-list es₁ t₁ u rs₁ (nextOf (length t) (askOf e) l) (omega arith, omega arith) (a .1) h in
+    let k = rw n at m in (rw (a .0, k .0), k .1)
 
 pub from-empty : (es : List Entry) (t u : List Slot) (rs : List Report) → Sized t → Empty t → History es t rs u → takenIn rs ≡ answeredIn rs + waiting u
 from-empty es t u rs s z h = let m = counted es t u rs (empty-is-a-table t s z) h in let n = waiting-none t z in omega arith

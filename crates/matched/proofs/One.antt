@@ -61,7 +61,7 @@ one-does t u v a r s g (answered p) (stray q) = with-or-none p q
 one-does t u v a r s g (stray p) (answered q) = with-or-none q p
 one-does t u v a r s g (stray p) (stray q) = (refl, refl)
 
-one-number : {t : List Slot} {m n : ℕ} → Refuses t m → Refuses t n → m ≡ n
+pub one-number : {t : List Slot} {m n : ℕ} → Refuses t m → Refuses t n → m ≡ n
 one-number (by-size a) (by-size b) = refl
 one-number (by-size a) (by-ranks b c) = absurd (a b)
 one-number (by-ranks a b) (by-size c) = absurd (c a)

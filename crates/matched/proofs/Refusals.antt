@@ -11,11 +11,13 @@ use Rattle.slots.specs.declared.ask.Ask.{Ask}
 use Rattle.slots.specs.declared.decide.Report.{Report}
 use Rattle.slots.specs.declared.decide.Report.the-variants as R
 use Rattle.slots.specs.Ask.{askOf}
-use Rattle.pending.specs.Table.{Sized, Sound, Table, Refuses, by-size, by-ranks}
+use Rattle.pending.specs.Table as T
+use Rattle.pending.specs.Table.{Sized, Sound, Table, Refuses, by-size, by-ranks, CountTold, counts, PlaceTold, lies, nowhere}
 use Rattle.pending.specs.Step.{Step}
 use Rattle.pending.specs.Words.{Word, reportTold}
 use Rattle.matched.proofs.Asked.{Does, dropped, other, no-seq, taken, turned-away, answered, stray, Judged, refuses, does, judged}
 use Rattle.matched.proofs.Lists.{table-passes}
+use Rattle.matched.proofs.One.{one-number}
 
 -- what is done is no refusal
 done-tells : {X : Type 0} {t u : List Slot} {a : Ask} {r : Report} {n : ℕ} → Does t a r u → reportTold r ≡ refused n → X
@@ -85,3 +87,34 @@ refusal-changes-nothing e t u r n step q = by (judged step)
 
 pub never-refused : (e : Entry) (t u : List Slot) (r : Report) (n : ℕ) → Table t → Step e t r u → reportTold r ≡ refused n → ⊥
 never-refused e t u r n g step q = table-passes g (tells-refuses step q)
+
+-- ---- `waiting` and `oldest` judge as `step` does
+done-number : {t u : List Slot} {a : Ask} {r : Report} → Does t a r u → numberIn (reportTold r) ≡ 0
+unfolding reportTold
+done-number dropped = refl
+done-number other = refl
+done-number no-seq = refl
+done-number (taken f) = refl
+done-number (turned-away f) = refl
+done-number (answered f) = refl
+done-number (stray f) = refl
+
+number-judged : {e : Entry} {t u : List Slot} {r : Report} → Step e t r u → Table t → numberIn (reportTold r) ≡ 0
+number-judged {e} {t} {u} {r} step g = by (judged step)
+  where
+    by : Judged t (askOf e) r u → numberIn (reportTold r) ≡ 0
+    by (refuses n p v) = table-passes g n
+    by (does h d) = done-number d
+
+number-refused : {e : Entry} {t u : List Slot} {r : Report} {n : ℕ} → Step e t r u → Refuses t n → numberIn (reportTold r) ≡ n
+number-refused {e} {t} {u} {r} {n} step k = ap numberIn (refuses-tells step k (λ m j. one-number j k))
+
+pub count-refused-alike : (e : Entry) (t u : List Slot) (r : Report) (a : Told ℕ) → Step e t r u → CountTold t a → numberIn (reportTold r) ≡ numberIn a
+count-refused-alike e t u r a step (counts g) = number-judged step g
+count-refused-alike e t u r a step (T.refuses k) = number-refused step k
+
+pub place-refused-alike : (e : Entry) (t u : List Slot) (r : Report) (k : ℕ) (a : Told ℕ) → Step e t r u → PlaceTold t k a
+    → numberIn (reportTold r) ≡ numberIn a
+place-refused-alike e t u r k a step (lies g w q) = number-judged step g
+place-refused-alike e t u r k a step (nowhere g n) = number-judged step g
+place-refused-alike e t u r k a step (T.refuses n) = number-refused step n

@@ -1,15 +1,16 @@
 -- What document 02 a) promises, over the contracts of the calls: `Step` is that of `step`, `CountTold` that of `waiting`, `PlaceTold` that of `oldest`.
 -- How to read it: `a ≡ b` is "a equals b"; `P → Q` "if P then Q"; `P → ⊥` "P never holds"; `P × Q` "P and Q"; `(x : A) × P` "there is an x so that P";
 -- `(x : A) → P` "for every x, P"; `↔` "exactly when". Of a step, t is the table before it and u the table after it.
-use Prim.Native.Nat.{ℕ, _+_, _<_, _≤_}
+use Prim.Native.Nat.{ℕ, _+_, _-_, _<_, _≤_}
 use mathlib.Core.Path.{_≡_}
-use mathlib.Core.List.{List}
+use mathlib.Core.List.{List, [], map}
 use mathlib.Core.Logic.{_↔_}
 use lib.ListN.{length, getD, replicate}
-use Rattle.text.specs.Told.{Told, is, refused}
+use Rattle.text.specs.Told.{Told, is, absent, refused, numberIn}
 use Rattle.entry.specs.declared.Entry.{Entry}
 use Rattle.slots.specs.declared.Four.{Four}
 use Rattle.slots.specs.declared.Slot.{Slot}
+use Rattle.slots.specs.declared.ask.Ask.{Ask}
 use Rattle.slots.specs.declared.ask.Ask.the-variants as A
 use Rattle.slots.specs.declared.decide.Report.{Report}
 use Rattle.slots.specs.declared.decide.Report.the-variants as R
@@ -18,8 +19,9 @@ use Rattle.slots.specs.Decide.{freeSlot}
 use Rattle.pending.specs.Table.{rankAt, fourAt, Waits, waiting, Sized, Sound, Table, CountTold, PlaceTold}
 use Rattle.pending.specs.Step.{FirstFree, NoneFree, OldestWith, NoneWith, newcomer, Step}
 use Rattle.pending.specs.Words.{Word, taken, turned-away, stray, reportTold}
-use Rattle.matched.specs.Requests.{wordOf, nextOf}
-use Rattle.matched.specs.Holds.{Holds, Empty}
+use Rattle.matched.specs.Asks.{Asks}
+use Rattle.matched.specs.Requests.{wordOf, nextOf, wordsOf, leftOf}
+use Rattle.matched.specs.Holds.{requestAt, Holds, Empty}
 use Rattle.matched.specs.History.{History, takenIn, answeredIn}
 
 -- A request with the four was taken at slot i.
@@ -45,9 +47,18 @@ pub record AnsweredAt (t : List Slot) (four : Four) (i : ℕ) (u : List Slot) : 
   pub fours : (j : ℕ) → fourAt u j ≡ fourAt t j
 
 pub record Matched : Type 0 where
+  -- What an entry asks is what document 02 says: nothing when dropped; else nothing when of another kind; else nothing without `seq`; else as a request
+  -- or as a response, under its four.
+  pub asks-exactly : (e : Entry) (a : Ask) → (askOf e ≡ a) ↔ Asks e a
+
   -- Each step acts as the plain list does, cut to the slot count: the report is the list's word, and the table holds the list's next.
   pub acts-as-list : (e : Entry) (t u : List Slot) (r : Report) (l : List Four) → Sized t → Holds t l → Step e t r u
       → (reportTold r ≡ is (wordOf (length t) (askOf e) l)) × Holds u (nextOf (length t) (askOf e) l)
+  -- So does each history: the reports are the list's words, and what waits in the end is what the list has left.
+  pub replays-as-list : (es : List Entry) (t u : List Slot) (rs : List Report) (l : List Four) → Sized t → Holds t l → History es t rs u
+      → (map reportTold rs ≡ map is (wordsOf (length t) es l)) × Holds u (leftOf (length t) es l)
+  -- An empty table holds the empty list.
+  pub empty-holds-none : (t : List Slot) → Empty t → Holds t []
   -- Every table holds a list.
   pub holds-some : (t : List Slot) → Table t → (l : List Four) × Holds t l
   -- It holds one list alone.
@@ -56,6 +67,15 @@ pub record Matched : Type 0 where
   pub holding-is-sound : (t : List Slot) (l : List Four) → Holds t l → Sound t
   -- A list that is held is no longer than there are slots.
   pub list-fits : (t : List Slot) (l : List Four) → Holds t l → length l ≤ length t
+
+  -- `waiting` tells how long the list is.
+  pub count-of-the-list : (t : List Slot) (l : List Four) (a : Told ℕ) → Sized t → Holds t l → CountTold t a → a ≡ is (length l)
+  -- `oldest` tells for k from 1 to that number where the k-th of the list waits, so a caller can read the whole list.
+  pub place-in-the-list : (t : List Slot) (l : List Four) (k : ℕ) (a : Told ℕ) → Sized t → Holds t l → 0 < k → k ≤ length l → PlaceTold t k a
+      → (i : ℕ) × (a ≡ is i) × Waits t i × (fourAt t i ≡ requestAt l (k - 1))
+  -- For every other k it tells that there is none.
+  pub nowhere-else : (t : List Slot) (l : List Four) (k : ℕ) (a : Told ℕ) → Sized t → Holds t l → (0 < k → k ≤ length l → ⊥) → PlaceTold t k a
+      → a ≡ absent
 
   -- A step keeps the number of slots.
   pub same-size : (e : Entry) (t u : List Slot) (r : Report) → Step e t r u → length u ≡ length t
@@ -90,6 +110,11 @@ pub record Matched : Type 0 where
   -- There is no other refusal.
   pub no-other-number : (e : Entry) (t u : List Slot) (r : Report) (n : ℕ) → Step e t r u → reportTold r ≡ refused n
       → (n ≡ 50 → ⊥) → n ≡ 51
+  -- `waiting` and `oldest` refuse with the number that `step` refuses with, and never else.
+  pub count-refused-alike : (e : Entry) (t u : List Slot) (r : Report) (a : Told ℕ) → Step e t r u → CountTold t a
+      → numberIn (reportTold r) ≡ numberIn a
+  pub place-refused-alike : (e : Entry) (t u : List Slot) (r : Report) (k : ℕ) (a : Told ℕ) → Step e t r u → PlaceTold t k a
+      → numberIn (reportTold r) ≡ numberIn a
   -- A refusal changes no slot.
   pub refusal-changes-nothing : (e : Entry) (t u : List Slot) (r : Report) (n : ℕ) → Step e t r u → reportTold r ≡ refused n → u ≡ t
   -- A table stays a table, so 51 cannot come later in a history.

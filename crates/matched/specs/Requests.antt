@@ -4,9 +4,11 @@ use mathlib.Core.Bool.{Bool, true, false, cond, _||_}
 use mathlib.Core.List.{List, [], _∷_, _++_}
 use lib.ListN.{length, take}
 use lib.Dec.{ltb}
+use Rattle.entry.specs.declared.Entry.{Entry}
 use Rattle.slots.specs.declared.Four.{Four}
 use Rattle.slots.specs.declared.ask.Ask.{Ask}
 use Rattle.slots.specs.declared.ask.Ask.the-variants as A
+use Rattle.slots.specs.Ask.{askOf}
 use Rattle.slots.specs.Look.{sameFour}
 use Rattle.pending.specs.Words.{Word, dropped, other, no-seq, taken, turned-away, answered, stray}
 
@@ -38,3 +40,12 @@ nextOf n A.NoSeq l = l
 nextOf n (A.Request four) l = take n (l ++ (four ∷ []))
 nextOf n (A.Response four) l = without four l
 nextOf n (A.Rank k) l = l
+
+-- entry after entry: what is reported of each, and what waits in the end
+unfoldable pub wordsOf : ℕ → List Entry → List Four → List Word
+wordsOf n [] l = []
+wordsOf n (e ∷ es) l = wordOf n (askOf e) l ∷ wordsOf n es (nextOf n (askOf e) l)
+
+unfoldable pub leftOf : ℕ → List Entry → List Four → List Four
+leftOf n [] l = l
+leftOf n (e ∷ es) l = leftOf n es (nextOf n (askOf e) l)

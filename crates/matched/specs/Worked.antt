@@ -68,7 +68,7 @@ entries =
     ∷ entry 4 false 1 9 (B.Is 6)
     -- 10: that request again
     ∷ entry 3 false 1 9 (B.Is 6)
-    -- 11: a notification
+    -- 11: an error, which neither asks nor answers
     ∷ entry 5 false 0 7 (B.Is 5)
     -- 12: a request without `seq`
     ∷ entry 1 false 0 7 B.Absent

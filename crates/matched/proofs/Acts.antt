@@ -44,10 +44,15 @@ module _ (t : List Slot) (l : List Four) (hold : Holds t l) where
   abbrev Plays : Ask → Report → List Slot → Type 0
   Plays a r u = (reportTold r ≡ is (wordOf (length t) a l)) × Holds u (nextOf (length t) a l)
 
-  takes : (four : Four) (i : ℕ) → Plain (A.Request four) → FirstFree t i → Holds (set t i (newcomer t four)) (take (length t) (l ++ (four ∷ [])))
-  takes four i p f =
-      let m = hold .many in let v = waiting-less t i (f .within) (f .free) in let n = length-append l (four ∷ []) in
-      rw (take-all (length t) (l ++ (four ∷ [])) (omega arith)) (holds-take t l hold i four (f .within) (f .free) (p .0) (p .1))
+  -- where there is room, the list grows behind; where there is none, it stays
+  next-taken : (four : Four) → length l < length t → nextOf (length t) (A.Request four) l ≡ l ++ (four ∷ [])
+  unfolding nextOf
+  next-taken four h =
+      let n = length-append l (four ∷ []) in cc (take-all (length t) (l ++ (four ∷ [])) (omega arith))
+
+  next-turned-away : (four : Four) → length l ≡ length t → nextOf (length t) (A.Request four) l ≡ l
+  unfolding nextOf
+  next-turned-away four e = cc (take-at l (four ∷ []) (length t) e)
 
   -- the first request with the four is the oldest slot's
   first-at : (four : Four) (i : ℕ) → OldestWith t four i → FirstAt four l (rankAt t i - 1)
@@ -75,11 +80,12 @@ module _ (t : List Slot) (l : List Four) (hold : Holds t l) where
   plays a r u p other = (refl, hold)
   plays a r u p no-seq = (refl, hold)
   plays a r u p (taken {four} {i} f) =
-      let m = hold .many in let v = waiting-less t i (f .within) (f .free) in
-      let c = lt-ltb (length l) (length t) (omega arith) in (rw c, takes four i p f)
+      let m = hold .many in let v = waiting-less t i (f .within) (f .free) in let h : length l < length t = omega arith in
+      let c = lt-ltb (length l) (length t) h in
+      (rw c, subst (Holds _) (sym (next-taken four h)) (holds-take t l hold i four (f .within) (f .free) (p .0) (p .1)))
   plays a r u p (turned-away {four} f) =
-      let m = hold .many in let v = waiting-all t f in
-      let c = le-ltb (length l) (length t) (omega arith) in (rw c, rw (take-at l (four ∷ []) (length t) (omega arith)) hold)
+      let m = hold .many in let v = waiting-all t f in let h : length l ≡ length t = omega arith in
+      let c = le-ltb (length l) (length t) (omega arith) in (rw c, subst (Holds _) (sym (next-turned-away four h)) hold)
   plays a r u p (answered {four} {i} o) = (rw (has-at four l (rankAt t i - 1) (first-at four i o)), frees four i o)
   plays a r u p (stray {four} f) = (rw (has-none four l (none-at four f)), rw (without-none four l (none-at four f)) hold)
 

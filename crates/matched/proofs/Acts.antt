@@ -1,11 +1,10 @@
 -- Each step acts as the list does: a free slot is room in the list, and the oldest slot with the four is the first request that has it. Assumes nothing.
-use Prim.Native.Nat.{ℕ, zero, suc, _+_, _-_, _<_, _≤_}
+use Prim.Native.Nat.{ℕ, suc, _-_, _<_}
 use native.Mathlib.Omega.{arith}
 use mathlib.Core.Path.{_≡_, refl, sym, _∙_, ap, subst}
 use mathlib.Core.List.{List, [], _∷_, _++_}
-use lib.ListN.{length, set, take, drop, length-append, length-set, length-map}
+use lib.ListN.{length, take, drop, length-append, length-set, length-map}
 use lib.Seq.{take-all, take-at}
-use lib.Dec.{ltb}
 use borrow.Author.Tests.{lt-ltb, le-ltb}
 use Rattle.text.specs.Told.{is}
 use Rattle.entry.specs.declared.Entry.{Entry}
@@ -16,11 +15,11 @@ use Rattle.slots.specs.declared.ask.Ask.the-variants as A
 use Rattle.slots.specs.declared.decide.Report.{Report}
 use Rattle.slots.specs.Ask.{askOf}
 use Rattle.slots.specs.Decide.{loweredOf}
-use Rattle.pending.specs.Table.{rankAt, fourAt, Sized, Table}
+use Rattle.pending.specs.Table.{rankAt, Sized, Table}
 use Rattle.pending.specs.Step as S
-use Rattle.pending.specs.Step.{FirstFree, NoneFree, OldestWith, NoneWith, newcomer, freed, Step}
+use Rattle.pending.specs.Step.{OldestWith, NoneWith, newcomer, freed, Step}
 use Rattle.pending.specs.Words.{reportTold}
-use Rattle.matched.specs.Requests.{has, without, wordOf, nextOf}
+use Rattle.matched.specs.Requests.{without, wordOf, nextOf}
 use Rattle.matched.specs.Holds.{requestAt, Holds, Empty}
 use Rattle.matched.proofs.Counts.{waiting-all, waiting-less}
 use Rattle.matched.proofs.Fours.{FirstAt, has-at, without-at, has-none, without-none}
@@ -71,7 +70,7 @@ module _ (t : List Slot) (l : List Four) (hold : Holds t l) where
   frees four i o =
       let z = o .waits .1 in let v = hold .within i (o .waits .0) in let s : suc (rankAt t i - 1) ≡ rankAt t i = omega arith in
       let w : without four l ≡ take (rankAt t i - 1) l ++ drop (rankAt t i) l
-            = without-at four l (rankAt t i - 1) (first-at four i o) ∙ ap (λ (k : ℕ). take (rankAt t i - 1) l ++ drop k l) s in
+      = without-at four l (rankAt t i - 1) (first-at four i o) ∙ ap (λ (k : ℕ). take (rankAt t i - 1) l ++ drop k l) s in
       rw w (holds-free t l hold (rankAt t i) z v)
 
   plays : (a : Ask) (r : Report) (u : List Slot) → Plain a → Does t a r u → Plays a r u

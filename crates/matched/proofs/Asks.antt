@@ -1,5 +1,5 @@
 -- What is computed of an entry is what it asks: each test of `askOf` decides one condition of `Asks`. Assumes nothing.
-use Prim.Native.Nat.{ℕ, zero, suc, _%_, _^_, _<_, _≤_}
+use Prim.Native.Nat.{ℕ, zero, suc, _%_, _<_, _≤_}
 use native.Mathlib.Omega.{arith}
 use mathlib.Core.Path.{_≡_, refl, sym, _∙_, ap}
 use mathlib.Core.Bool.{Bool, true, false, cond, _||_}
@@ -79,9 +79,11 @@ asks-it e = by-dropped (e .dropped) refl (eqb (e .kind) 0 || ltb 4 (e .kind)) re
         → Asks e (cond (eqb (e .kind % 2) 1) (A.Request (fourOf e seq)) (A.Response (fourOf e seq)))
     by-kind d seq q (asks h k) = rw h (request d k (under e seq q))
     by-kind d seq q (answers h k) = rw h (response d k (under e seq q))
+
     by-seq : e .dropped ≡ false → Matchable e → (s : MaybeByte) → e .seq ≡ s → Asks e (bySeq e s)
     by-seq d m (B.Is seq) q = by-kind d seq q (kind-of (e .kind) (m .0) (m .1))
     by-seq d m B.Absent q = no-seq d m q
+
     by-dropped : (d : Bool) → e .dropped ≡ d → (o : Bool) → (eqb (e .kind) 0 || ltb 4 (e .kind)) ≡ o → Asks e (cond d A.Dropped (cond o A.Other (bySeq e (e .seq))))
     by-dropped true d o h = dropped d
     by-dropped false d true h = other d (λ m. let z = inside-test (e .kind) (m .0) (m .1) in let y : _≡_ {A = ℕ} 0 1 = cc in omega arith)

@@ -4,12 +4,12 @@ use Prim.Native.Nat.{ℕ, zero, suc, _+_, _-_, _<_, _≤_}
 use native.Mathlib.Omega.{arith}
 use mathlib.Core.Path.{_≡_, refl, sym, _∙_, ap}
 use mathlib.Core.Bool.{Bool, true, false, cond}
-use mathlib.Core.List.{List, [], _∷_, map}
-use lib.ListN.{length, getD, set}
+use mathlib.Core.List.{List, [], _∷_}
+use lib.ListN.{length, set}
 use lib.Dec.{eqb, ltb}
-use borrow.Author.Tests.{lt-ltb, le-ltb, eq-eqb, ne-eqb, eqb-true, eqb-false, ltb-true, ltb-false}
+use borrow.Author.Tests.{eq-eqb, ne-eqb, eqb-true, eqb-false, ltb-true, ltb-false}
 use Rattle.slots.specs.declared.Slot.{Slot}
-use Rattle.slots.specs.Decide.{freeSlot, lowerOf, loweredOf}
+use Rattle.slots.specs.Decide.{lowerOf}
 use Rattle.pending.specs.Table.{rankAt, waiting, tally}
 use Rattle.pending.specs.Step.{freed}
 
@@ -131,6 +131,7 @@ lowered-is r x h = let z = ne-eqb r 0 (λ q. omega arith) in rw z (by-same (eqb 
         below : (b : Bool) → ltb x r ≡ b → x < r
         below true f = ltb-true x r f
         below false f = let g = ltb-false x r f in let k = ltb-false r x e in absurd (n (omega arith))
+
     by-same : (b : Bool) → eqb x r ≡ b → Lowered r x (cond b 0 (cond (ltb r x) (x - 1) x))
     by-same true e = this (eqb-true x r e) refl
     by-same false e = by-later (eqb-false x r e) (ltb r x) refl

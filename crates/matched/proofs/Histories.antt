@@ -4,7 +4,7 @@ use Prim.Native.Nat.{ℕ, _+_, _<_, _≤_}
 use native.Mathlib.Omega.{arith}
 use mathlib.Core.Path.{_≡_, refl, ap}
 use mathlib.Core.Bool.{cond}
-use mathlib.Core.List.{List, [], _∷_, map}
+use mathlib.Core.List.{List, map}
 use lib.ListN.{length, replicate, length-replicate, getD-replicate}
 use Rattle.text.specs.Told.{is}
 use Rattle.entry.specs.declared.Entry.{Entry}
@@ -15,7 +15,7 @@ use Rattle.slots.specs.declared.decide.Report.{Report}
 use Rattle.slots.specs.Ask.{askOf}
 use Rattle.slots.specs.Decide.{freeSlot}
 use Rattle.pending.specs.Table.{rankAt, waiting, Sized, Table}
-use Rattle.pending.specs.Step.{newcomer, Step}
+use Rattle.pending.specs.Step.{newcomer}
 use Rattle.pending.specs.Words.{reportTold}
 use Rattle.matched.specs.Requests.{nextOf, wordsOf, leftOf}
 use Rattle.matched.specs.Holds.{Holds, Empty}

@@ -1,10 +1,10 @@
 -- Taking and freeing keep the table and the list together: the ranks are counted in `Counts`, and slot by slot each four stays at the place in the list
 -- that its rank tells. Assumes nothing.
-use Prim.Native.Nat.{ℕ, zero, suc, _+_, _-_, _<_, _≤_, _^_}
+use Prim.Native.Nat.{ℕ, suc, _+_, _-_, _<_, _≤_, _^_}
 use native.Mathlib.Omega.{arith}
-use mathlib.Core.Path.{_≡_, refl, sym, _∙_, ap, subst}
+use mathlib.Core.Path.{_≡_, refl, sym, _∙_, ap}
 use mathlib.Core.Bool.{Bool, true, false, cond}
-use mathlib.Core.List.{List, [], _∷_, _++_, map}
+use mathlib.Core.List.{List, [], _∷_, _++_}
 use lib.ListN.{length, getD, set, take, drop, length-append, length-drop, length-set, length-map, List·getD-append, List·getD-map}
 use lib.Seq.{getD-at, getD-take, getD-drop, getD-append-add, length-take-le, getD-set-same, getD-set-other}
 use lib.Dec.{eqb, ltb}
@@ -12,7 +12,7 @@ use borrow.Author.Tests.{eqb-true, eqb-false, ltb-true, ltb-false}
 use Rattle.slots.specs.declared.Four.{Four}
 use Rattle.slots.specs.declared.Slot.{Slot}
 use Rattle.slots.specs.Decide.{freeSlot, lowerOf, loweredOf}
-use Rattle.pending.specs.Table.{rankAt, fourAt, waiting, tally}
+use Rattle.pending.specs.Table.{rankAt, waiting, tally}
 use Rattle.pending.specs.Step.{newcomer, freed}
 use Rattle.matched.specs.Holds.{requestAt, Holds}
 use Rattle.matched.proofs.Counts.{Lowered, this, later, earlier, lowered-is, tally-none, tally-take, waiting-take, tally-earlier, tally-later, waiting-free}
@@ -47,7 +47,7 @@ fits-holds t l many once fits =
 
 -- ---- a request is taken
 module _ (t : List Slot) (l : List Four) (hold : Holds t l) (i : ℕ) (four : Four) (inside : i < length t) (free : rankAt t i ≡ 0)
-  (plain : four .route < 2 ^ 63) (way : four .write ≤ 1) where
+    (plain : four .route < 2 ^ 63) (way : four .write ≤ 1) where
   abbrev longer : List Four
   longer = l ++ (four ∷ [])
 
@@ -105,7 +105,7 @@ module _ (t : List Slot) (l : List Four) (hold : Holds t l) (i : ℕ) (four : Fo
   holds-take =
       let m = waiting-take (newcomer t four) (omega arith) t i inside free in let n = rank-is in let o = long in
       fits-holds (set t i (newcomer t four)) longer (omega arith) (λ k w h. taken-once k w (omega arith))
-        (λ j h. taken-fits j (let q = length-set t i (newcomer t four) in omega arith))
+      (λ j h. taken-fits j (let q = length-set t i (newcomer t four) in omega arith))
 
 -- ---- a rank is freed
 zero-stays : (r : ℕ) → lowerOf r 0 ≡ 0
@@ -148,7 +148,7 @@ module _ (t : List Slot) (l : List Four) (hold : Holds t l) (r : ℕ) (some : 0 
       record {
         within = omega arith;
         placed = λ w. f .placed (omega arith) ∙ ap (requestAt l) d
-          ∙ sym (ap (requestAt shorter) c ∙ getD-append-add (take (r - 1) l) (drop r l) (y - r) (freeSlot .four) ∙ getD-drop r l (y - r) (freeSlot .four));
+            ∙ sym (ap (requestAt shorter) c ∙ getD-append-add (take (r - 1) l) (drop r l) (y - r) (freeSlot .four) ∙ getD-drop r l (y - r) (freeSlot .four));
         plain = λ w. f .plain (omega arith);
         way = λ w. f .way (omega arith);
       }
@@ -157,7 +157,7 @@ module _ (t : List Slot) (l : List Four) (hold : Holds t l) (r : ℕ) (some : 0 
       record {
         within = omega arith;
         placed = λ w. f .placed (omega arith) ∙ ap (requestAt l) d
-          ∙ sym (List·getD-append (take (r - 1) l) (drop r l) (freeSlot .four) (y - 1) (omega arith) ∙ getD-take (r - 1) l (y - 1) (freeSlot .four) (omega arith));
+            ∙ sym (List·getD-append (take (r - 1) l) (drop r l) (freeSlot .four) (y - 1) (omega arith) ∙ getD-take (r - 1) l (y - 1) (freeSlot .four) (omega arith));
         plain = λ w. f .plain (omega arith);
         way = λ w. f .way (omega arith);
       }
@@ -173,5 +173,5 @@ module _ (t : List Slot) (l : List Four) (hold : Holds t l) (r : ℕ) (some : 0 
   holds-free =
       let a = waiting-free r some t in let b = hold .once r some most in let c = hold .many in let d = short in
       fits-holds (freed r t) shorter (omega arith) freed-once
-        (λ j h. rw (freed-at r t j)
-          (lowered-fits (getD t j freeSlot) (lowerOf r (rankAt t j)) (holds-fits hold j (let q = length-map t (loweredOf r) in omega arith)) (lowered-is r (rankAt t j) some)))
+      (λ j h. rw (freed-at r t j)
+      (lowered-fits (getD t j freeSlot) (lowerOf r (rankAt t j)) (holds-fits hold j (let q = length-map t (loweredOf r) in omega arith)) (lowered-is r (rankAt t j) some)))

@@ -1,10 +1,10 @@
 -- A sound table holds one list: at each rank from 1 on stands the four of the one slot that has it. Assumes nothing.
 use Prim.Native.Nat.{ℕ, zero, suc, _+_, _-_, _<_, _≤_}
 use native.Mathlib.Omega.{arith}
-use mathlib.Core.Path.{_≡_, refl, sym, _∙_, ap, subst}
+use mathlib.Core.Path.{_≡_, refl, sym, _∙_, ap}
 use mathlib.Core.Bool.{Bool, true, false, cond}
 use mathlib.Core.List.{List, [], _∷_}
-use lib.ListN.{length, getD}
+use lib.ListN.{length}
 use lib.Seq.{ext-getD}
 use lib.Dec.{eqb}
 use borrow.Author.Tests.{eq-eqb}
@@ -63,7 +63,7 @@ sound-holds t g =
     placed i w v =
         let z = w .1 in let e : 1 + (rankAt t i - 1) ≡ rankAt t i = omega arith in
         sym (fours-at (waiting t) 1 t (rankAt t i - 1) (omega arith) ∙ ap (λ (k : ℕ). fourOfRank k t) e
-          ∙ four-is (rankAt t i) t i (w .0) refl (g .once (rankAt t i) z v))
+        ∙ four-is (rankAt t i) t i (w .0) refl (g .once (rankAt t i) z v))
 
 pub table-holds : (t : List Slot) → Table t → (l : List Four) × Holds t l
 table-holds t g = (foursFrom (waiting t) 1 t, sound-holds t (g .sound))

@@ -1,14 +1,14 @@
 -- One answer: of two first free slots neither is before the other, and of two oldest slots with the four each is as old as the other, so they are one,
 -- because a rank stands once. Assumes nothing.
-use Prim.Native.Nat.{ℕ, zero, suc, _+_, _<_, _≤_}
+use Prim.Native.Nat.{ℕ}
 use native.Mathlib.Omega.{arith}
 use mathlib.Core.Path.{_≡_, refl, sym, _∙_, ap}
 use mathlib.Core.Bool.{Bool, true, false}
-use mathlib.Core.List.{List, [], _∷_}
-use lib.ListN.{length, set}
+use mathlib.Core.List.{List}
+use lib.ListN.{set}
 use lib.Dec.{ltb}
 use borrow.Author.Tests.{ltb-true, ltb-false}
-use Rattle.text.specs.Told.{Told, is, absent, refused}
+use Rattle.text.specs.Told.{Told, is, refused}
 use Rattle.entry.specs.declared.Entry.{Entry}
 use Rattle.slots.specs.declared.Four.{Four}
 use Rattle.slots.specs.declared.Slot.{Slot}
@@ -16,7 +16,7 @@ use Rattle.slots.specs.declared.ask.Ask.{Ask}
 use Rattle.slots.specs.declared.decide.Report.{Report}
 use Rattle.slots.specs.declared.decide.Report.the-variants as R
 use Rattle.slots.specs.Ask.{askOf}
-use Rattle.pending.specs.Table.{rankAt, fourAt, Waits, waiting, tally, Sound, Table, Refuses, by-size, by-ranks, CountTold, counts, PlaceTold, lies, nowhere}
+use Rattle.pending.specs.Table.{rankAt, Waits, Sound, Refuses, by-size, by-ranks, CountTold, counts, PlaceTold, lies, nowhere}
 use Rattle.pending.specs.Table as T
 use Rattle.pending.specs.Step.{FirstFree, NoneFree, OldestWith, NoneWith, newcomer, freed, Step}
 use Rattle.matched.specs.History.{History, none, more}

@@ -1,14 +1,14 @@
 -- The list can be read from the table by `waiting` and `oldest`: the slot of rank k is that of the k-th request. Assumes nothing.
-use Prim.Native.Nat.{ℕ, zero, suc, _-_, _<_, _≤_}
+use Prim.Native.Nat.{ℕ, _-_, _<_, _≤_}
 use native.Mathlib.Omega.{arith}
-use mathlib.Core.Path.{_≡_, refl, sym, _∙_, ap}
+use mathlib.Core.Path.{_≡_, refl, _∙_, ap}
 use mathlib.Core.List.{List}
 use lib.ListN.{length}
 use Rattle.text.specs.Told.{Told, is, absent}
 use Rattle.slots.specs.declared.Four.{Four}
 use Rattle.slots.specs.declared.Slot.{Slot}
 use Rattle.pending.specs.Table as T
-use Rattle.pending.specs.Table.{rankAt, fourAt, Waits, Sized, Table, CountTold, counts, PlaceTold, lies, nowhere}
+use Rattle.pending.specs.Table.{fourAt, Waits, Sized, Table, CountTold, counts, PlaceTold, lies, nowhere}
 use Rattle.matched.specs.Holds.{requestAt, Holds}
 use Rattle.matched.proofs.Lists.{holds-sound, table-passes}
 

@@ -4,7 +4,7 @@ use native.Mathlib.Omega.{arith}
 use mathlib.Core.Path.{_≡_, refl, sym, _∙_, ap}
 use mathlib.Core.List.{List}
 use mathlib.Core.Logic.{_↔_}
-use Rattle.text.specs.Told.{Told, is, refused, numberIn}
+use Rattle.text.specs.Told.{Told, refused, numberIn}
 use Rattle.entry.specs.declared.Entry.{Entry}
 use Rattle.slots.specs.declared.Slot.{Slot}
 use Rattle.slots.specs.declared.ask.Ask.{Ask}
@@ -14,7 +14,7 @@ use Rattle.slots.specs.Ask.{askOf}
 use Rattle.pending.specs.Table as T
 use Rattle.pending.specs.Table.{Sized, Sound, Table, Refuses, by-size, by-ranks, CountTold, counts, PlaceTold, lies, nowhere}
 use Rattle.pending.specs.Step.{Step}
-use Rattle.pending.specs.Words.{Word, reportTold}
+use Rattle.pending.specs.Words.{reportTold}
 use Rattle.matched.proofs.Asked.{Does, dropped, other, no-seq, taken, turned-away, answered, stray, Judged, refuses, does, judged}
 use Rattle.matched.proofs.Lists.{table-passes}
 use Rattle.matched.proofs.One.{one-number}

@@ -1,42 +1,44 @@
 -- What a step does to each slot: by cases on the step, one slot at a time; a slot that was freed is free, so the next request is taken. Assumes nothing.
-use Prim.Native.Nat.{ℕ, zero, suc, _+_, _<_, _≤_}
+use Prim.Native.Nat.{ℕ, _+_, _<_}
 use native.Mathlib.Omega.{arith}
-use mathlib.Core.Path.{_≡_, refl, sym, _∙_, ap, subst}
+use mathlib.Core.Path.{_≡_, refl, ap}
 use mathlib.Core.List.{List}
 use mathlib.Core.Logic.{_↔_}
-use lib.ListN.{length, getD, set, length-map}
+use lib.ListN.{length, length-map}
 use lib.Seq.{getD-set-same, getD-set-other}
 use Rattle.text.specs.Told.{is}
 use Rattle.entry.specs.declared.Entry.{Entry}
 use Rattle.slots.specs.declared.Four.{Four}
 use Rattle.slots.specs.declared.Slot.{Slot}
-use Rattle.slots.specs.declared.ask.Ask.{Ask}
 use Rattle.slots.specs.declared.ask.Ask.the-variants as A
 use Rattle.slots.specs.declared.decide.Report.{Report}
 use Rattle.slots.specs.declared.decide.Report.the-variants as R
 use Rattle.slots.specs.Ask.{askOf}
-use Rattle.slots.specs.Decide.{freeSlot, lowerOf, loweredOf}
-use Rattle.pending.specs.Table.{rankAt, fourAt, Waits, Sound, Table}
+use Rattle.slots.specs.Decide.{freeSlot, loweredOf}
+use Rattle.pending.specs.Table.{rankAt, Sound, Table}
 use Rattle.pending.specs.Step as S
 use Rattle.pending.specs.Step.{FirstFree, NoneFree, OldestWith, NoneWith, newcomer, freed, Step}
 use Rattle.pending.specs.Words as W
-use Rattle.pending.specs.Words.{Word, reportTold}
+use Rattle.pending.specs.Words.{reportTold}
 use Rattle.matched.specs.Matched.{TakenAt, AnsweredAt}
 use Rattle.matched.proofs.Counts.{Lowered, this, later, earlier, lowered-is}
 use Rattle.matched.proofs.Kept.{freed-at}
-use Rattle.matched.proofs.Asked.{Does, dropped, other, no-seq, taken, turned-away, answered, stray, Judged, refuses, does, judged}
+use Rattle.matched.proofs.Asked.{taken, turned-away, answered, stray, Judged, refuses, does, judged}
 use Rattle.matched.proofs.Lists.{table-passes}
 use Rattle.matched.proofs.Acts.{stays-a-table}
 use Rattle.matched.proofs.One.{one-slot, one-first}
 
 -- ---- slot by slot
 pub each-slot-taken : (e : Entry) (t u : List Slot) (i : ℕ) → Step e t (R.Taken i) u → (four : Four) × (askOf e ≡ A.Request four) × TakenAt t four i u
-each-slot-taken e t u i (S.taken {four} g q f) =
-    (four, q, record {
-      first = f;
-      there = getD-set-same t i (newcomer t four) freeSlot (f .within);
-      others = λ j n. getD-set-other t i j (newcomer t four) freeSlot n;
-    })
+each-slot-taken e t u i (S.taken {four} g q f) = (
+  four,
+  q,
+  record {
+    first = f;
+    there = getD-set-same t i (newcomer t four) freeSlot (f .within);
+    others = λ j n. getD-set-other t i j (newcomer t four) freeSlot n;
+  },
+)
 
 -- the rank of a slot once the rank r is freed
 freed-rank : (r : ℕ) (t : List Slot) (j : ℕ) → 0 < r → Lowered r (rankAt t j) (rankAt (freed r t) j)
@@ -132,7 +134,7 @@ first-freed t four i g o before =
       within = inside-freed t four i o;
       free = freed-slots t four i o .free;
       first = λ j h. rank-waits (freed-rank (rankAt t i) t j (o .waits .1)) (o .waits .1) (before j h)
-        (λ e. let w = o .waits .0 in let k = one-slot g j i (omega arith, before j h) (o .waits) e in omega arith);
+          (λ e. let w = o .waits .0 in let k = one-slot g j i (omega arith, before j h) (o .waits) e in omega arith);
     }
 
 pub used-at-once : (e f : Entry) (t u v : List Slot) (r : Report) (i : ℕ) (four : Four) → Step e t (R.Answered i) u → askOf f ≡ A.Request four

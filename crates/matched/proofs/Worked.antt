@@ -1,21 +1,19 @@
 -- The worked history: each step by its own line of `Step`, its conditions looked up in the two slots; each table is one because the one before it was.
 -- Assumes nothing.
-use Prim.Native.Nat.{ℕ, zero, suc, _+_, _-_, _<_, _≤_, _^_}
+use Prim.Native.Nat.{ℕ, zero, suc, _+_, _<_, _≤_, _^_}
 use native.Mathlib.Omega.{arith}
 use mathlib.Core.Path.{_≡_, refl, sym, ap}
-use mathlib.Core.Bool.{Bool, true, false}
+use mathlib.Core.Bool.{true, false}
 use mathlib.Core.List.{List, [], _∷_}
-use lib.ListN.{length, replicate}
-use Rattle.entry.specs.declared.Entry.{Entry}
+use lib.ListN.{replicate}
 use Rattle.entry.specs.declared.optional.MaybeByte.the-variants as B
 use Rattle.slots.specs.declared.Four.{Four}
 use Rattle.slots.specs.declared.Slot.{Slot}
-use Rattle.slots.specs.declared.decide.Report.{Report}
 use Rattle.slots.specs.declared.decide.Report.the-variants as R
 use Rattle.slots.specs.Ask.{fourOf, byKind, askOf}
 use Rattle.slots.specs.Decide.{freeSlot, lowerOf}
 use Rattle.pending.specs.Table.{rankAt, fourAt, waiting, tally, Table, by-size, by-ranks}
-use Rattle.pending.specs.Step.{FirstFree, NoneFree, OldestWith, NoneWith, Step, refused-with, dropped, other, no-seq, taken, turned-away, answered, stray}
+use Rattle.pending.specs.Step.{FirstFree, NoneWith, Step, refused-with, dropped, other, no-seq, taken, turned-away, answered, stray}
 use Rattle.matched.specs.History.{History, none, more, countOf}
 use Rattle.matched.specs.Worked.{entry, slot, entries, reports, left, Worked}
 use Rattle.matched.proofs.Acts.{stays-a-table, empty-is-a-table}

@@ -1,5 +1,5 @@
 -- What an entry asks of the table, told of the entry itself in document 02's order of "else"; `askOf`, which the contracts cite, computes it.
-use Prim.Native.Nat.{ℕ, _%_, _^_, _<_, _≤_}
+use Prim.Native.Nat.{_%_, _^_, _<_, _≤_}
 use mathlib.Core.Path.{_≡_}
 use mathlib.Core.Bool.{true, false}
 use mathlib.Core.Logic.{_⊎_}

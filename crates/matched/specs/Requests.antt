@@ -1,6 +1,6 @@
 -- The plain list of waiting requests, the oldest first, and what an entry does to it. There are n places; nothing here knows of slots or ranks.
 use Prim.Native.Nat.{ℕ}
-use mathlib.Core.Bool.{Bool, true, false, cond, _||_}
+use mathlib.Core.Bool.{Bool, false, cond, _||_}
 use mathlib.Core.List.{List, [], _∷_, _++_}
 use lib.ListN.{length, take}
 use lib.Dec.{ltb}

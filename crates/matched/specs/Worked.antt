@@ -8,7 +8,6 @@ use Rattle.entry.specs.declared.Entry.{Entry}
 use Rattle.entry.specs.declared.optional.MaybeByte.{MaybeByte}
 use Rattle.entry.specs.declared.optional.MaybeByte.the-variants as B
 use Rattle.entry.specs.declared.optional.MaybeWord.the-variants as W
-use Rattle.slots.specs.declared.Four.{Four}
 use Rattle.slots.specs.declared.Slot.{Slot}
 use Rattle.slots.specs.declared.decide.Report.{Report}
 use Rattle.slots.specs.declared.decide.Report.the-variants as R
@@ -44,9 +43,11 @@ entry kind dropped domain route seq =
       dwords = 3;
     }
 
+-- a slot with domain, route, `seq`, read (0) or write (1), and its rank
 abbrev pub slot : ℕ → ℕ → ℕ → ℕ → ℕ → Slot
 slot domain route seq write rank = record { four = record { route = route; domain = domain; seq = seq; write = write }; rank = rank }
 
+-- the entries in file order
 abbrev pub entries : List Entry
 entries =
     -- 1, 2: the same request twice
@@ -79,6 +80,7 @@ entries =
     ∷ entry 2 false 0 7 (B.Is 5)
     ∷ []
 
+-- their reports
 abbrev pub reports : List Report
 reports =
     -- 1, 2: the first free slot each time
@@ -119,17 +121,23 @@ pub record Worked : Type 0 where
   pub history : History entries (replicate 2 freeSlot) reports left
   -- No other reports and no other table are possible.
   pub worked-only : (rs : List Report) (u : List Slot) → History entries (replicate 2 freeSlot) rs u → (rs ≡ reports) × (u ≡ left)
-  -- Four were taken in; three are answered and one waits.
+  -- Four were taken in.
   pub taken-in : takenIn reports ≡ 4
+  -- Three are answered.
   pub answered-in : answeredIn reports ≡ 3
+  -- One waits.
   pub waits : waiting left ≡ 1
-  -- No slot, and 65 of them: 50, whatever the entry.
+  -- No slot: 50, whatever the entry.
   pub no-slot : (e : Entry) → Step e [] (R.Refused 50) []
+  -- 65 slots: 50.
   pub too-many : (e : Entry) → Step e (replicate 65 freeSlot) (R.Refused 50) (replicate 65 freeSlot)
-  -- Rank 2 without rank 1, a rank twice, a waiting route with its top bit set, a waiting slot that neither reads nor writes: 51, whatever the entry.
+  -- Rank 2 without rank 1: 51, whatever the entry.
   pub rank-missing : (e : Entry) → Step e (slot 0 7 5 0 2 ∷ []) (R.Refused 51) (slot 0 7 5 0 2 ∷ [])
+  -- A rank twice: 51.
   pub rank-twice : (e : Entry) → Step e (slot 0 7 5 0 1 ∷ slot 0 9 5 0 1 ∷ []) (R.Refused 51) (slot 0 7 5 0 1 ∷ slot 0 9 5 0 1 ∷ [])
+  -- A waiting slot's route with its top bit set: 51.
   pub top-bit : (e : Entry) → Step e (slot 0 (2 ^ 63) 5 0 1 ∷ []) (R.Refused 51) (slot 0 (2 ^ 63) 5 0 1 ∷ [])
+  -- A waiting slot that neither reads nor writes: 51.
   pub neither-way : (e : Entry) → Step e (slot 0 7 5 2 1 ∷ []) (R.Refused 51) (slot 0 7 5 2 1 ∷ [])
   -- Of a free slot nothing but its rank is judged.
   pub free-slot-unjudged : Table (slot 0 (2 ^ 63) 5 2 0 ∷ [])

@@ -24,7 +24,7 @@ use Rattle.matched.specs.Holds.{requestAt, Holds, Empty}
 use Rattle.matched.proofs.Counts.{waiting-all, waiting-less}
 use Rattle.matched.proofs.Fours.{FirstAt, has-at, without-at, has-none, without-none}
 use Rattle.matched.proofs.Kept.{holds-take, holds-free}
-use Rattle.matched.proofs.Asked.{Does, dropped, other, no-seq, taken, turned-away, answered, stray, Judged, refuses, does, judged, Plain, plain-ask}
+use Rattle.matched.proofs.Does.{Does, dropped, other, no-seq, taken, turned-away, answered, stray, Judged, refuses, does, judged, Plain, plain-ask}
 use Rattle.matched.proofs.Lists.{table-holds, holds-sound, empty-holds, slot-at, table-passes}
 
 -- a step keeps the number of slots

@@ -21,7 +21,7 @@ use Rattle.matched.specs.Requests.{nextOf, wordsOf, leftOf}
 use Rattle.matched.specs.Holds.{Holds, Empty}
 use Rattle.matched.specs.History.{History, none, more, isTaken, isAnswered, countOf, takenIn, answeredIn}
 use Rattle.matched.proofs.Counts.{waiting-none, waiting-take, waiting-free}
-use Rattle.matched.proofs.Asked.{Does, dropped, other, no-seq, taken, turned-away, answered, stray, Judged, refuses, does, judged}
+use Rattle.matched.proofs.Does.{Does, dropped, other, no-seq, taken, turned-away, answered, stray, Judged, refuses, does, judged}
 use Rattle.matched.proofs.Lists.{table-passes}
 use Rattle.matched.proofs.Acts.{same-size, acts-as-list, stays-a-table, empty-is-a-table}
 

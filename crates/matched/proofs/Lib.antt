@@ -3,7 +3,7 @@ pub mod Counts
 pub mod Fours
 pub mod Asks
 pub mod Kept
-pub mod Asked
+pub mod Does
 pub mod Lists
 pub mod Acts
 pub mod One

@@ -21,7 +21,7 @@ use Rattle.pending.specs.Table as T
 use Rattle.pending.specs.Step.{FirstFree, NoneFree, OldestWith, NoneWith, newcomer, freed, Step}
 use Rattle.matched.specs.History.{History, none, more}
 use Rattle.matched.proofs.Counts.{tally-one}
-use Rattle.matched.proofs.Asked.{Does, dropped, other, no-seq, taken, turned-away, answered, stray, Judged, refuses, does, judged}
+use Rattle.matched.proofs.Does.{Does, dropped, other, no-seq, taken, turned-away, answered, stray, Judged, refuses, does, judged}
 use Rattle.matched.proofs.Lists.{table-passes}
 
 -- a rank stands at one place

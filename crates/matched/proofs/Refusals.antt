@@ -15,7 +15,7 @@ use Rattle.pending.specs.Table as T
 use Rattle.pending.specs.Table.{Sized, Sound, Table, Refuses, by-size, by-ranks, CountTold, counts, PlaceTold, lies, nowhere}
 use Rattle.pending.specs.Step.{Step}
 use Rattle.pending.specs.Words.{reportTold}
-use Rattle.matched.proofs.Asked.{Does, dropped, other, no-seq, taken, turned-away, answered, stray, Judged, refuses, does, judged}
+use Rattle.matched.proofs.Does.{Does, dropped, other, no-seq, taken, turned-away, answered, stray, Judged, refuses, does, judged}
 use Rattle.matched.proofs.Lists.{table-passes}
 use Rattle.matched.proofs.One.{one-number}
 

@@ -23,7 +23,7 @@ use Rattle.pending.specs.Words.{reportTold}
 use Rattle.matched.specs.Matched.{TakenAt, AnsweredAt}
 use Rattle.matched.proofs.Counts.{Lowered, this, later, earlier, lowered-is}
 use Rattle.matched.proofs.Kept.{freed-at}
-use Rattle.matched.proofs.Asked.{taken, turned-away, answered, stray, Judged, refuses, does, judged}
+use Rattle.matched.proofs.Does.{taken, turned-away, answered, stray, Judged, refuses, does, judged}
 use Rattle.matched.proofs.Lists.{table-passes}
 use Rattle.matched.proofs.Acts.{stays-a-table}
 use Rattle.matched.proofs.One.{one-slot, one-first}

@@ -10,7 +10,7 @@ use Rattle.entry.specs.declared.optional.MaybeByte.the-variants as B
 use Rattle.slots.specs.declared.Four.{Four}
 use Rattle.slots.specs.declared.Slot.{Slot}
 use Rattle.slots.specs.declared.decide.Report.the-variants as R
-use Rattle.slots.specs.Ask.{fourOf, byKind, askOf}
+use Rattle.slots.specs.Ask.{wayOf, fourOf, byKind, askOf}
 use Rattle.slots.specs.Decide.{freeSlot, lowerOf}
 use Rattle.pending.specs.Table.{rankAt, fourAt, waiting, tally, Table, by-size, by-ranks}
 use Rattle.pending.specs.Step.{FirstFree, NoneWith, Step, refused-with, dropped, other, no-seq, taken, turned-away, answered, stray}
@@ -22,7 +22,7 @@ use Rattle.matched.proofs.Histories.{cleared-is-a-table}
 
 -- one word for all that a step computes with
 computes : Unit {0}
-unfolding fourOf byKind askOf lowerOf waiting tally
+unfolding wayOf fourOf byKind askOf lowerOf waiting tally
 computes = tt
 
 one : (P : ℕ → Type 0) → P 0 → (i : ℕ) → i < 1 → P i

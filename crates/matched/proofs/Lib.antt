@@ -7,6 +7,7 @@ pub mod Does
 pub mod Lists
 pub mod Acts
 pub mod One
+pub mod Some
 pub mod Slots
 pub mod ReadOut
 pub mod Refusals

@@ -3,6 +3,7 @@ use Rattle.matched.specs.Matched.{Matched}
 use Rattle.matched.proofs.Asks.{asks-exactly}
 use Rattle.matched.proofs.Lists.{table-holds, holds-sound, list-fits, one-list, empty-holds}
 use Rattle.matched.proofs.Acts.{same-size, acts-as-list, stays-a-table, empty-is-a-table}
+use Rattle.matched.proofs.Some.{some-answer, some-history}
 use Rattle.matched.proofs.One.{one-answer, one-count, one-place, one-history}
 use Rattle.matched.proofs.Slots.{each-slot-taken, each-slot-answered, else-unchanged, turned-away-exactly, stray-exactly, used-again, used-at-once}
 use Rattle.matched.proofs.ReadOut.{count-of-the-list, place-in-the-list, nowhere-else}
@@ -39,6 +40,8 @@ matched =
       refusal-changes-nothing = refusal-changes-nothing;
       stays-a-table = stays-a-table;
       never-refused = never-refused;
+      some-answer = some-answer;
+      some-history = some-history;
       one-answer = one-answer;
       one-count = one-count;
       one-place = one-place;

@@ -121,6 +121,10 @@ pub record Matched : Type 0 where
   -- A table is never refused.
   pub never-refused : (e : Entry) (t u : List Slot) (r : Report) (n : ℕ) → Table t → Step e t r u → reportTold r ≡ refused n → ⊥
   -- ---- one answer
+  -- Every entry has a report and a next table, whatever the slots are.
+  pub some-answer : (e : Entry) (t : List Slot) → (r : Report) × (u : List Slot) × Step e t r u
+  -- So every list of entries has a history.
+  pub some-history : (es : List Entry) (t : List Slot) → (rs : List Report) × (u : List Slot) × History es t rs u
   -- No second report and no second table keeps the contract of `step`.
   pub one-answer : (e : Entry) (t u v : List Slot) (r s : Report) → Step e t r u → Step e t s v → (r ≡ s) × (u ≡ v)
   -- No second number keeps that of `waiting`.

@@ -8,7 +8,7 @@ import os
 import struct
 import sys
 from collections import Counter
-from itertools import islice
+from itertools import islice, product
 
 sys.path.insert(0, os.path.dirname(os.path.dirname(os.path.abspath(__file__))))
 
@@ -225,6 +225,37 @@ def generate(seed):
     while True:
         for make in CLASSES:
             yield make.__name__.replace("_", " "), *make(source)
+
+
+# Short ones, all of them
+
+def letters():
+    """Two reads and a write that waits like the first, their responses, and the first response dropped."""
+    first = {"kind": 1, "dropped": 0, "domain": 0, "route": 0x301, "seq": 1}
+    listed = [first, {**first, "seq": 2}, {**first, "kind": 3}]
+    listed += [{**made, "kind": made["kind"] + 1, "route": made["route"] + TOP_BIT} for made in listed]
+    return listed + [{**listed[3], "dropped": 1}]
+
+
+def all_tables():
+    """All ranks of 0 to 4 in up to three slots; none, or one of the slots with a top bit, or that neither reads nor writes."""
+    for count in (1, 2, 3):
+        for ranks in product(range(5), repeat=count):
+            slots = [Slot(0x301, 0, 1, 0, rank) for rank in ranks]
+            yield slots
+            for place in range(count):
+                yield changed(slots, place, route=0x301 + TOP_BIT)
+                yield changed(slots, place, write=2)
+
+
+def all_short(length):
+    """Every history of so many letters over 1 to 3 slots, from nothing; and every letter for each small table."""
+    for count in (1, 2, 3):
+        for listed in product(letters(), repeat=length):
+            yield "all short", [FREE] * count, list(listed)
+    for slots in all_tables():
+        for made in letters():
+            yield "all small tables", slots, [made]
 
 
 # Files

@@ -78,12 +78,15 @@ def judge_history(table, tally, reading, source, name, slots, listed):
     return None
 
 
-def compare(seed, count, reading=pending, table=None, most=None):
-    """Histories of so many steps or a few more; ends earlier if there are `most` differences."""
+def compare(seed, count, short=0, reading=pending, table=None, most=None):
+    """All short histories of so many steps, if any; then generated ones of `count` steps or a few more. Ends earlier if there are `most` differences."""
     tally, source = Tally(), Seed(seed + 1)
     table = table or Table()
+    for name, slots, listed in generator.all_short(short) if short else ():
+        judge_history(table, tally, reading, source, name, slots, listed)
+    before = tally.compared
     for name, slots, listed in generator.generate(seed):
-        if tally.compared >= count or most is not None and len(tally.differences) >= most:
+        if tally.compared >= before + count or most is not None and len(tally.differences) >= most:
             return tally
         judge_history(table, tally, reading, source, name, slots, listed)
     return tally

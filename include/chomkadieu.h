@@ -365,9 +365,9 @@ size_t ck_value_name(const uint8_t *book, size_t book_len, size_t range, uint32_
 /* ---- which requests wait for their responses
  *
  * A table is 1 to CK_MOST_PENDING slots that the caller lends and keeps. Clear it once, then step through the entries in their order; what waits
- * behind the last is unanswered. Each call judges the whole table first, whatever the entry: 50, then 51, and then no field of a slot changes. A
- * table that was cleared, and every table that a step leaves, is good. A slot stays where it is while it waits, so an array beside the table can
- * hold what else is known of its request. */
+ * behind the last is unanswered. A step judges the whole table first, whatever the entry, and so do the questions: 50, then 51, and then no field
+ * of a slot changes. A table of that size that was cleared is good, and so is every table that a step leaves of a good one. A slot stays where it
+ * is while it waits, so an array beside the table can hold what else is known of its request. */
 
 /* No table of requests has more slots. */
 enum { CK_MOST_PENDING = 64 };

@@ -77,8 +77,9 @@ impl Slot {
 
 /// A table of requests that wait for their responses, over 1 to [`MOST_PENDING`](crate::MOST_PENDING) slots that the caller lends.
 ///
-/// Step through the entries in their order; what waits behind the last is unanswered. Each call judges the whole table first: it is refused with
-/// [`Refusal::TableSize`] or [`Refusal::BrokenTable`], whatever the entry, and then stays as it was. A table that was cleared is good, and stays good.
+/// Step through the entries in their order; what waits behind the last is unanswered. A step judges the whole table first, whatever the entry, and so
+/// do the questions: it is refused with [`Refusal::TableSize`] or [`Refusal::BrokenTable`], and then stays as it was. A table of that size that was
+/// cleared is good, and stays good. A slot stays where it is while it waits, so an array beside the table can hold what else is known of its request.
 ///
 /// ```
 /// use chomkadieu::{Entry, Pending, Report, Slot};

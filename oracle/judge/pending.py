@@ -8,6 +8,10 @@ from reading import pending
 from reading.texts import Refused
 
 
+# No rank, also where only its lower bits count.
+PAST = 65, 129, 257, 2**16 + 1, 2**31 + 1, 2**32 - 1
+
+
 def outcome(call, *given):
     """What the reading answers, or its number."""
     try:
@@ -69,7 +73,7 @@ def judge_history(table, tally, reading, source, name, slots, listed):
         if not counts.agrees(made, expected[0] if isinstance(expected[0], tuple) else ("refused",), slots):
             return tally.differ(name, given, f"step {number}: counts and list", str(got))
         tally.same(name, expected[0][0] if isinstance(expected[0], tuple) else f"refused {expected[0]}")
-    expected, got = asked(table, reading, slots, (*range(len(slots) + 2), 65, 2**32 - 1))
+    expected, got = asked(table, reading, slots, (*range(len(slots) + 2), *PAST))
     if expected != got:
         return tally.differ(name, given, f"behind the last: {expected}", str(got))
     table.clear()

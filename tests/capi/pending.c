@@ -88,7 +88,7 @@ static int waits(size_t n, uint32_t count) {
         ck_place_answer o = ck_pending_oldest(table, n, k);
         if (o.number != CK_OK || o.present != 1 || o.place >= n || table[o.place].rank != k) return 0;
     }
-    const uint32_t none[] = {0, count + 1, 65, UINT32_MAX};
+    const uint32_t none[] = {0, count + 1, 65, 129, 257, 65537, UINT32_C(0x80000001), UINT32_MAX};
     for (size_t i = 0; i < sizeof none / sizeof *none; i++) {
         ck_place_answer o = ck_pending_oldest(table, n, none[i]);
         if (o.number != CK_OK || o.present || o.place) return 0;

@@ -83,7 +83,7 @@ def judge_history(table, tally, reading, source, name, slots, listed):
 
 
 def compare(seed, count, short=0, reading=pending, table=None, most=None):
-    """All short histories of so many steps, if any; then generated ones of `count` steps or a few more. Ends earlier if there are `most` differences."""
+    """All histories of `short` steps, if any; then generated ones of `count` steps or a few more. Ends earlier with `most` differences."""
     tally, source = Tally(), Seed(seed + 1)
     table = table or Table()
     for name, slots, listed in generator.all_short(short) if short else ():

@@ -181,8 +181,8 @@ static void broken(void) {
     static const struct { uint64_t route; uint8_t write; uint32_t ranks[3]; uint8_t number; const char *what; } cases[] = {
         {1, 0, {1, 2, 3}, CK_OK, "three that wait"}, {1, 1, {3, 0, 2}, CK_BROKEN_TABLE, "no rank 1"}, {1, 1, {2, 0, 1}, CK_OK, "two that wait"},
         {1, 0, {0, 2, 0}, CK_BROKEN_TABLE, "rank 2 alone"}, {1, 0, {1, 1, 0}, CK_BROKEN_TABLE, "rank 1 twice"},
-        {1, 0, {1, 2, 2}, CK_BROKEN_TABLE, "rank 2 twice"}, {1, 0, {1, 3, 0}, CK_BROKEN_TABLE, "a gap"}, {1, 0, {1, 2, 4}, CK_BROKEN_TABLE, "rank 4 of 3"},
-        {1, 0, {64, 0, 0}, CK_BROKEN_TABLE, "rank 64"}, {1, 0, {65, 0, 0}, CK_BROKEN_TABLE, "rank 65"},
+        {1, 0, {1, 2, 2}, CK_BROKEN_TABLE, "rank 2 twice"}, {1, 0, {1, 3, 0}, CK_BROKEN_TABLE, "a gap"},
+        {1, 0, {1, 2, 4}, CK_BROKEN_TABLE, "rank 4 of 3"}, {1, 0, {64, 0, 0}, CK_BROKEN_TABLE, "rank 64"}, {1, 0, {65, 0, 0}, CK_BROKEN_TABLE, "rank 65"},
         {1, 0, {1, UINT32_MAX, 2}, CK_BROKEN_TABLE, "the largest rank"}, {1, 0, {257, 0, 0}, CK_BROKEN_TABLE, "rank 257"},
         {TOP, 0, {2, 1, 3}, CK_BROKEN_TABLE, "a top bit that waits"}, {TOP, 0, {0, 2, 1}, CK_OK, "a top bit in a free slot"},
         {UINT64_MAX, 0, {1, 0, 0}, CK_BROKEN_TABLE, "all bits of a route"}, {TOP - 1, 1, {1, 0, 0}, CK_OK, "all but the top bit"},

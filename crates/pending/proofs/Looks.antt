@@ -124,9 +124,11 @@ oldest-is (s ∷ l) i k h = by-z (λ g. oldest-is l (suc i) k g) (eqb (s .rank) 
       where
         unlike : false ≡ true → ⊥
         unlike q = let w : _≡_ {A = ℕ} 0 1 = ap (λ (b : Bool). cond b 1 0) q in omega (arith, w)
+
     by-l : ((g : Oldest) → OldestIs l (suc i) k g (oldestAll l (suc i) k g)) → 0 < s .rank → (b : Bool) → ltb (s .rank) (h .rank) ≡ b → OldestIs (s ∷ l) i k h (oldestAll l (suc i) k (cond b (cond (isAsked k s) (record { place = i; rank = s .rank }) h) h))
     by-l more z true e = by-k more z (ltb-true (s .rank) (h .rank) e) (isAsked k s) refl
     by-l more z false e = pass s l i k h _ (λ c. ltb-false (s .rank) (h .rank) e) (more h)
+
     by-z : ((g : Oldest) → OldestIs l (suc i) k g (oldestAll l (suc i) k g)) → (b : Bool) → eqb (s .rank) 0 ≡ b → OldestIs (s ∷ l) i k h (oldestAll l (suc i) k (cond b h (cond (ltb (s .rank) (h .rank)) (cond (isAsked k s) (record { place = i; rank = s .rank }) h) h)))
     by-z more true e = pass s l i k h _ (λ c. let q = eqb-true (s .rank) 0 e in let z = c .0 in absurd (omega (arith, q, z))) (more h)
     by-z more false e = by-l more (nonzero (s .rank) e) (ltb (s .rank) (h .rank)) refl

@@ -88,6 +88,7 @@ marks-all (s ∷ l) r h = by-z (λ q g. marks-all l q g) (eqb (s .rank) 0) refl
   where
     further : {i : ℕ} → i < length l → suc i < suc (length l)
     further g = omega (arith, g)
+
     by-z : ((q : Ranks) → Ready l q → Marked l q (ranksAll l q)) → (b : Bool) → eqb (s .rank) 0 ≡ b → Marked (s ∷ l) r (ranksAll l (rankedOf r s))
     by-z more true e =
         let z = eqb-true (s .rank) 0 e in

@@ -112,6 +112,7 @@ fine-one r s z h =
     after-free : (b c d : Bool) → Ranks
     after-free b c d = cond b (record { count = r .count; mask = r .mask; well = false }) (cond c (record { count = r .count + 1; mask = r .mask; well = false })
         (cond d (record { count = r .count + 1; mask = bitOr (r .mask) (bitOf (s .rank)); well = r .well }) (record { count = r .count + 1; mask = r .mask; well = false })))
+
     by-a : (b : Bool) → ltb 63 (r .count) ≡ b → (c : Bool) → broken (s .four) (s .rank) ≡ c → (d : Bool) → eqb (bitAnd (r .mask) (bitOf (s .rank))) 0 ≡ d → after-free b c d .well ≡ true → Fine r s
     by-a true e₁ c e₂ d e₃ q = unlike (sym q)
     by-a false e₁ true e₂ d e₃ q = unlike (sym q)
@@ -133,6 +134,7 @@ marks-back (s ∷ t) r h = by-z (marks-back t (rankedOf r s) h) (eqb (s .rank) 0
   where
     nearer : {i : ℕ} → suc i < suc (length t) → i < length t
     nearer g = omega (arith, g)
+
     by-z : Back t (rankedOf r s) (ranksAll t (rankedOf r s)) → (b : Bool) → eqb (s .rank) 0 ≡ b → (c : Bool) → rankedOf r s .well ≡ c → Back (s ∷ t) r (ranksAll t (rankedOf r s))
     by-z m b e false q = unlike (sym h ∙ unwell-all t (rankedOf r s) q)
     by-z m true e true q =
@@ -183,6 +185,7 @@ module _ (t : List Slot) (most : length t ≤ 64) where
           by-b : (b : Bool) → ltb x v ≡ b → suc x ≤ v
           by-b true e = let g = ltb-true x v e in omega (arith, g)
           by-b false e = let a : tally (suc x) t ≡ 0 = f x ∙ ap (λ (b : Bool). cond {A = ℕ} b 1 0) e in absurd (omega (arith, a, h))
+
       one : (k : ℕ) → 0 < k → k ≤ waiting t → ((j : ℕ) → tally (suc j) t ≡ cond (ltb j (waiting t)) 1 0) → tally k t ≡ 1
       one zero h g f = absurd (omega (arith, h))
       one (suc k) h g f = f k ∙ ap (λ (b : Bool). cond {A = ℕ} b 1 0) (lt-ltb k (waiting t) (omega (arith, g)))

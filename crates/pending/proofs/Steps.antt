@@ -81,6 +81,7 @@ judge ask t = by-size₀ (eqb (length t) 0) refl (ltb 64 (length t)) refl
     by-sound : Sized t → (b : Bool) → soundOf (ranksAll t r₀) ≡ b → Judged t (cond b 0 51)
     by-sound z true e = well (record { sized = z; sound = found-sound t (z .1) e }) refl
     by-sound z false e = ill (by-ranks z (λ s. unlike (sym (sound-found t s (z .1)) ∙ e))) (omega arith)
+
     by-size₀ : (a : Bool) → eqb (length t) 0 ≡ a → (b : Bool) → ltb 64 (length t) ≡ b → Judged t (cond (a || b) 50 (cond (soundOf (ranksAll t r₀)) 0 51))
     by-size₀ true e b f = ill (by-size (λ z. let q = eqb-true (length t) 0 e in let y = z .0 in omega (arith, q, y))) (omega arith)
     by-size₀ false e true f = ill (by-size (λ z. let q = ltb-true 64 (length t) f in let y = z .1 in omega (arith, q, y))) (omega arith)
@@ -186,6 +187,7 @@ no-rank e = by-d (e .dropped) (eqb (e .kind) 0 || ltb 4 (e .kind)) (e .seq)
     by-k : (b : Bool) (four : Four) → asksRank (cond b (A.Request four) (A.Response four)) ≡ 0
     by-k true four = refl
     by-k false four = refl
+
     by-d : (d o : Bool) (q : MaybeByte) → asksRank (cond d A.Dropped (cond o A.Other (bySeq e q))) ≡ 0
     by-d true o q = refl
     by-d false true q = refl

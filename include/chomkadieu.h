@@ -59,7 +59,7 @@ enum {
     CK_SHORT_BUFFER = 36,     /* the lent buffer is too short for the record */
     CK_BAD_ENTRY = 37,        /* the entry is out of the record's ranges, or its parts lie outside what is lent */
     CK_TABLE_SIZE = 50,       /* the table of requests has no slot, or more than 64 */
-    CK_BROKEN_TABLE = 51      /* the waiting slots do not carry the ranks 1 to their number once each, or one has a route with its top bit set */
+    CK_BROKEN_TABLE = 51      /* the waiting slots do not carry the ranks 1 to their number once each, or one of them has a route with its top bit set, or neither reads nor writes */
 };
 
 /* What an optional field says if it is absent, and a question if it has no answer. */

@@ -81,7 +81,7 @@ refusals! {
     ShortBuffer = 36, "the lent buffer is too short for the record";
     BadEntry = 37, "the entry is out of the record's ranges, or its parts lie outside what is lent";
     TableSize = 50, "the table of requests has no slot, or more than 64";
-    BrokenTable = 51, "the waiting slots do not carry the ranks 1 to their number once each, or one has a route with its top bit set";
+    BrokenTable = 51, "the waiting slots do not carry the ranks 1 to their number once each, or one of them has a route with its top bit set, or neither reads nor writes";
 }
 
 impl Error for Refusal {}

@@ -90,12 +90,12 @@ fn first_free(free: usize, slot: Slot, place: usize) -> usize
 }
 
 // A slot that waits is counted and its rank marked. It breaks a rule if its route has a top bit, it neither reads nor writes, or its rank is past
-// 64 or marked already; and no more than 64 are counted.
+// 64 or marked already; and no more than 64 are counted. What stays is made anew field by field: a struct that is handed back whole is copied
+// slowly.
 fn ranked(ranks: Ranks, slot: Slot) -> Ranks
     ensures { λ r. ⌜ r ≡ rankedOf ranks slot ⌝ }
 {
     if slot.rank == 0 {
-        // Field by field, since a struct that is handed back whole is copied slowly.
         return Ranks {
             count: ranks.count,
             mask: ranks.mask,

@@ -1,0 +1,21 @@
+use native.Mathlib.Omega.{arith}
+use borrow.Author.Needs.{needs}
+use Rattle.table.proofs.take_at.Statement.{statement}
+use Rattle.table.proofs.take_at.Tie as tie
+use Rattle.table.proofs.take_at.Reads as reads
+use Rattle.table.proofs.take_at.Lts as lts
+
+mul-slot : tie.Need-mul-slot
+mul-slot c = search needs
+
+element-set-from-slot : tie.Need-element-set-from-slot
+element-set-from-slot c = search needs
+
+returns : tie.Need-returns
+returns c = search needs
+
+returns-2 : tie.Need-returns-2
+returns-2 c = search needs
+
+pub take-at-spec : {M : Type 1} → statement M
+take-at-spec = tie.close (tie.spec mul-slot element-set-from-slot returns returns-2)

@@ -10,7 +10,7 @@ free-slot-requires : tie.Need-free-slot-requires
 free-slot-requires c κs = search needs
 
 returns : tie.Need-returns
-returns c = search needs
+returns c = rw (c .free-slot .ensures)
 
 pub empty-spec : {M : Type 1} → statement M
 empty-spec = tie.close (tie.spec free-slot-requires returns)

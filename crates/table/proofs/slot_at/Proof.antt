@@ -1,4 +1,7 @@
 use native.Mathlib.Omega.{arith}
+use mathlib.Core.Path.{_≡_, sym, _∙_}
+use lib.ListN.{length, length-map, List·getD-eq-default}
+use Rattle.slots.specs.Decide.{freeSlot}
 use borrow.Author.Needs.{needs}
 use Rattle.table.proofs.slot_at.Statement.{statement}
 use Rattle.table.proofs.slot_at.Tie as tie
@@ -19,7 +22,9 @@ free-slot-requires : tie.Need-free-slot-requires
 free-slot-requires c κs = search needs
 
 returns-2 : tie.Need-returns-2
-returns-2 c = search needs
+returns-2 c =
+    let size : length (c .before .before .args .t1 .slots) ≡ 64 = simp length-map at (c .before .before .good .0 .1 .1 .0 .1 .0 .1) in 
+    c .free-slot .ensures ∙ sym (List·getD-eq-default (c .before .before .args .t1 .slots) freeSlot {n = c .before .before .args .i} (omega arith))
 
 pub slot-at-spec : {M : Type 1} → statement M
 slot-at-spec =

@@ -1,3 +1,5 @@
+use borrow.Author.Tests.{eq-eqb, ne-eqb}
+use Rattle.pending.specs.Table.{waiting}
 use borrow.Author.Needs.{needs}
 use native.Mathlib.Omega.{arith}
 use Rattle.table.proofs.waits_one.Statement.{statement}
@@ -6,10 +8,12 @@ use Rattle.table.proofs.waits_one.Reads as reads
 use Rattle.table.proofs.waits_one.Lts as lts
 
 returns : tie.Need-returns
-returns c = search needs
+unfolding waiting
+returns c = (rw (eq-eqb _ _ (c .if1 .taken)), omega arith)
 
 returns-2 : tie.Need-returns-2
-returns-2 c = search needs
+unfolding waiting
+returns-2 c = (rw (ne-eqb _ _ (c .if1 .left)), omega arith)
 
 pub waits-one-spec : {M : Type 1} → statement M
 waits-one-spec = tie.close (tie.spec returns returns-2)

@@ -12,6 +12,11 @@ use crate::parts::put_number;
 use crate::parts::put_six;
 use crate::parts::put_text;
 use slots::Four;
+ghost use Prim.Native.Nat.{_+_, _≤_};
+ghost use lib.ListN.{length};
+ghost use Rattle.listing_rows.specs.Rows.{Put, refusedRow};
+ghost use Rattle.unanswered_rows.specs.Parts.{Part};
+ghost use Rattle.unanswered_rows.specs.Rows.{rowText, wordRow, answeredRow, waitsRow, whenText, fourText, wayText, totalsText, othersText};
 
 // What became of a line: what is reported of its entry, or the number that refuses it. An answer says which line it answers, and how many
 // microseconds it came after that one, or before it.
@@ -44,7 +49,10 @@ pub struct Counts {
 }
 
 // The row of the line with that number.
-pub fn put_row(out: &mut [u8], line: u64, row: Row) -> usize {
+pub fn put_row(out: &mut [u8], line: u64, row: Row) -> usize
+    requires { ⌜ 256 ≤ length (now out) ⌝ }
+    ensures { λ r. ⌜ Put (now (out .entry)) 0 (rowText line row) (now (out .exit)) r ⌝ }
+{
     match row {
         Row::Dropped => put_word(out, line, b" dropped\n"),
         Row::Other => put_word(out, line, b" other\n"),
@@ -58,18 +66,27 @@ pub fn put_row(out: &mut [u8], line: u64, row: Row) -> usize {
     }
 }
 
-fn put_word(out: &mut [u8], line: u64, word: &[u8]) -> usize {
+fn put_word(out: &mut [u8], line: u64, word: &[u8]) -> usize
+    requires { ⌜ (256 ≤ length (now out)) × (length (now word) ≤ 20) ⌝ }
+    ensures { λ r. ⌜ Put (now (out .entry)) 0 (wordRow line (now (word .entry))) (now (out .exit)) r ⌝ }
+{
     let a = put_number(out, 0, b"", line);
     put_text(out, a, word)
 }
 
-fn put_refused(out: &mut [u8], line: u64, number: u8) -> usize {
+fn put_refused(out: &mut [u8], line: u64, number: u8) -> usize
+    requires { ⌜ 256 ≤ length (now out) ⌝ }
+    ensures { λ r. ⌜ Put (now (out .entry)) 0 (refusedRow line number) (now (out .exit)) r ⌝ }
+{
     let a = put_number(out, 0, b"", line);
     let b = put_number(out, a, b" refused ", number as u64);
     put_text(out, b, b"\n")
 }
 
-fn put_answered(out: &mut [u8], line: u64, request: u64, word: &[u8], gap: u64) -> usize {
+fn put_answered(out: &mut [u8], line: u64, request: u64, word: &[u8], gap: u64) -> usize
+    requires { ⌜ (256 ≤ length (now out)) × (length (now word) ≤ 20) ⌝ }
+    ensures { λ r. ⌜ Put (now (out .entry)) 0 (answeredRow line request (now (word .entry)) gap) (now (out .exit)) r ⌝ }
+{
     let a = put_number(out, 0, b"", line);
     let b = put_number(out, a, b" answered ", request);
     let c = put_number(out, b, word, gap);
@@ -77,19 +94,28 @@ fn put_answered(out: &mut [u8], line: u64, request: u64, word: &[u8], gap: u64) 
 }
 
 // The row of a request that waits.
-pub fn put_waits(out: &mut [u8], note: Note, four: Four) -> usize {
+pub fn put_waits(out: &mut [u8], note: Note, four: Four) -> usize
+    requires { ⌜ 256 ≤ length (now out) ⌝ }
+    ensures { λ r. ⌜ Put (now (out .entry)) 0 (waitsRow note four) (now (out .exit)) r ⌝ }
+{
     let a = put_when(out, note);
     put_four(out, a, four)
 }
 
-fn put_when(out: &mut [u8], note: Note) -> usize {
+fn put_when(out: &mut [u8], note: Note) -> usize
+    requires { ⌜ 256 ≤ length (now out) ⌝ }
+    ensures { λ r. ⌜ Part (now (out .entry)) 0 (whenText note) (now (out .exit)) r 71 ⌝ }
+{
     let a = put_number(out, 0, b"waits ", note.line);
     let b = put_number(out, a, b" at ", note.seconds);
     let c = put_text(out, b, b".");
     put_six(out, c, note.microseconds)
 }
 
-fn put_four(out: &mut [u8], at: usize, four: Four) -> usize {
+fn put_four(out: &mut [u8], at: usize, four: Four) -> usize
+    requires { ⌜ at + 85 ≤ length (now out) ⌝ }
+    ensures { λ r. ⌜ Part (now (out .entry)) at (fourText four) (now (out .exit)) r 85 ⌝ }
+{
     let a = put_number(out, at, b" domain ", four.domain as u64);
     let b = put_text(out, a, b" route 0x");
     let c = put_route(out, b, four.route);
@@ -97,7 +123,10 @@ fn put_four(out: &mut [u8], at: usize, four: Four) -> usize {
     put_way(out, d, four.write)
 }
 
-fn put_way(out: &mut [u8], at: usize, write: u8) -> usize {
+fn put_way(out: &mut [u8], at: usize, write: u8) -> usize
+    requires { ⌜ at + 7 ≤ length (now out) ⌝ }
+    ensures { λ r. ⌜ Part (now (out .entry)) at (wayText write) (now (out .exit)) r 7 ⌝ }
+{
     if write == 0 {
         return put_text(out, at, b" read\n");
     }
@@ -105,7 +134,10 @@ fn put_way(out: &mut [u8], at: usize, write: u8) -> usize {
 }
 
 // The last row.
-pub fn put_totals(out: &mut [u8], counts: Counts, waiting: u64) -> usize {
+pub fn put_totals(out: &mut [u8], counts: Counts, waiting: u64) -> usize
+    requires { ⌜ 256 ≤ length (now out) ⌝ }
+    ensures { λ r. ⌜ Put (now (out .entry)) 0 (totalsText counts waiting) (now (out .exit)) r ⌝ }
+{
     let a = put_number(out, 0, b"lines ", counts.lines);
     let b = put_number(out, a, b" entries ", counts.entries);
     let c = put_number(out, b, b" taken ", counts.taken);
@@ -113,7 +145,10 @@ pub fn put_totals(out: &mut [u8], counts: Counts, waiting: u64) -> usize {
     put_others(out, d, counts, waiting)
 }
 
-fn put_others(out: &mut [u8], at: usize, counts: Counts, waiting: u64) -> usize {
+fn put_others(out: &mut [u8], at: usize, counts: Counts, waiting: u64) -> usize
+    requires { ⌜ at + 90 ≤ length (now out) ⌝ }
+    ensures { λ r. ⌜ Part (now (out .entry)) at (othersText counts waiting) (now (out .exit)) r 90 ⌝ }
+{
     let a = put_number(out, at, b" turned away ", counts.away);
     let b = put_number(out, a, b" stray ", counts.stray);
     let c = put_number(out, b, b" waiting ", waiting);

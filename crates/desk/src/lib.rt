@@ -4,11 +4,11 @@
 //     begin       nothing was read
 //     step_line   one more line: what is kept then, and what its row says
 //     note_at     the note beside a slot
-mod notes;
+mod reports;
 
-use crate::notes::counted;
-use crate::notes::noted;
-use crate::notes::row_of;
+use crate::reports::counted;
+use crate::reports::noted;
+use crate::reports::row_of;
 use channel::sink::sum;
 use entry::Entry;
 use scan::Answer;
@@ -19,6 +19,11 @@ use table::step_held;
 use unanswered_rows::Counts;
 use unanswered_rows::Note;
 use unanswered_rows::Row;
+ghost use mathlib.Core.Path.{_≡_};
+ghost use lib.ListN.{getD, replicate};
+ghost use Rattle.slots.specs.Decide.{freeSlot};
+ghost use Rattle.desk.specs.Kept.{noNote};
+ghost use Rattle.desk.specs.Turn.{Entered, Refusing, Turned};
 
 pub struct Notes {
     pub of: [Note; 64],
@@ -35,7 +40,9 @@ pub struct Turn {
     pub row: Row,
 }
 
-pub fn begin() -> Desk {
+pub fn begin() -> Desk
+    ensures { λ r. ⌜ (r .table .slots ≡ replicate 64 freeSlot) × (r .notes .of ≡ replicate 64 noNote) × (r .counts .lines ≡ 0) ⌝ }
+{
     let note = Note {
         line: 0,
         seconds: 0,
@@ -59,7 +66,9 @@ pub fn begin() -> Desk {
     }
 }
 
-pub fn step_line(line: &[u8], desk: Desk) -> Turn {
+pub fn step_line(line: &[u8], desk: Desk) -> Turn
+    ensures { λ r. ⌜ Turned (now (line .entry)) desk r ⌝ }
+{
     let mut slots = [0u32; 256];
     match parse(line, &mut slots) {
         Answer::Entry(e) => step_entry(e, desk),
@@ -67,28 +76,36 @@ pub fn step_line(line: &[u8], desk: Desk) -> Turn {
     }
 }
 
-fn refuse(number: u8, desk: Desk) -> Turn {
+fn refuse(number: u8, desk: Desk) -> Turn
+    ensures { λ r. ⌜ Refusing number desk r ⌝ }
+{
+    let mut counts = desk.counts;
+    counts.lines = sum(counts.lines, 1);
     let mut next = desk;
-    next.counts.lines = sum(desk.counts.lines, 1);
+    next.counts = counts;
     Turn {
         desk: next,
         row: Row::Refused(number),
     }
 }
 
-fn step_entry(e: Entry, desk: Desk) -> Turn {
-    let held = step_held(e, desk.table);
-    let report = held.report;
+fn step_entry(e: Entry, desk: Desk) -> Turn
+    ensures { λ r. ⌜ Entered e desk r ⌝ }
+{
+    let counts = desk.counts;
     let notes = desk.notes;
+    let held = step_held(e, desk.table);
+    let table = held.table;
+    let report = held.report;
     let note = Note {
-        line: sum(desk.counts.lines, 1),
+        line: sum(counts.lines, 1),
         seconds: e.seconds,
         microseconds: e.microseconds,
     };
     let next = Desk {
-        table: held.table,
+        table: table,
         notes: noted(notes, report, note),
-        counts: counted(desk.counts, report),
+        counts: counted(counts, report),
     };
     Turn {
         desk: next,
@@ -96,7 +113,9 @@ fn step_entry(e: Entry, desk: Desk) -> Turn {
     }
 }
 
-pub fn note_at(notes: Notes, i: usize) -> Note {
+pub fn note_at(notes: Notes, i: usize) -> Note
+    ensures { λ r. ⌜ r ≡ getD (notes .of) i noNote ⌝ }
+{
     if i < 64 {
         return notes.of[i];
     }

@@ -1,5 +1,5 @@
 -- Six digits at least are the last six of twenty or more; the zeros in front of sixteen end where the first other digit stands. Assumes nothing.
-use Prim.Native.Nat.{ℕ, zero, suc, _+_, _-_, _≤_, _<_, min}
+use Prim.Native.Nat.{ℕ, zero, suc, _+_, _-_, _/_, _%_, _≤_, _<_, min}
 use mathlib.Core.Path.{_≡_, refl, sym, ap, _∙_}
 use mathlib.Core.Bool.{Bool, true, false, cond}
 use mathlib.Core.List.{List, [], _∷_, _++_}
@@ -7,8 +7,8 @@ use native.Mathlib.Numerals.{add-one}
 use native.Mathlib.Omega.{arith}
 use borrow.Author.Tests.{eq-eqb, ne-eqb}
 use lib.Dec.{eqb}
-use lib.ListN.{length, take, drop, getD, replicate, length-append, length-drop, length-replicate}
-use lib.Seq.{take-all, take-append-drop, drop-append-le, drop-cons}
+use lib.ListN.{length, take, drop, getD, replicate, length-append, length-drop, length-replicate, take-append-drop}
+use lib.Seq.{take-all, drop-append-le, drop-cons}
 use Rattle.text.specs.Decimal.{decimalText}
 use Rattle.text.proofs.Places.{by-order}
 use Rattle.print.specs.Put.{Placed, Digits, bufferAfter}
@@ -65,7 +65,7 @@ six-digits {n} {from} {f} {bytes} d e =
     long q l =
         let some : from ≡ 14 + (6 - length (decimalText n)) = omega (arith, size, d .within) in
         let whole : bytes ≡ replicate from 48 ++ decimalText n = sym (take-append-drop from bytes) ∙ rw (d .front, d .is) in
-        rw (q, whole, some) (drop-append-le 14 (replicate (14 + (6 - length (decimalText n))) 48) (decimalText n) (omega (arith, length-replicate (14 + (6 - length (decimalText n))) 48)) ∙ rw (drop-zeros 14 (6 - length (decimalText n))))
+        rw (q, whole, some) (drop-append-le 14 (replicate (14 + (6 - length (decimalText n))) 48) (decimalText n) (omega (arith, length-replicate {A = ℕ} (14 + (6 - length (decimalText n))) 48)) ∙ rw (drop-zeros 14 (6 - length (decimalText n))))
 
 pub six-part : {n from f at r : ℕ} {bytes out exit : List ℕ} → Digits n bytes from → f ≡ min from 14 → at + 20 ≤ length out → Placed out at (take (20 - f) (drop f bytes)) exit r → Part out at (sixText n) exit r 20
 six-part {n} {from} {f} {at} {r} {bytes} {out} {exit} d e room p =
@@ -77,3 +77,16 @@ six-part {n} {from} {f} {at} {r} {bytes} {out} {exit} d e room p =
 pub sixteen : (h l : ℕ) {mid exit : List ℕ} {a b : ℕ} → Placed (replicate 16 48) 0 (dwordText h) mid a → Placed mid 8 (dwordText l) exit b → exit ≡ dwordText h ++ dwordText l
 unfolding bufferAfter
 sixteen h l p q = q .buffer ∙ ap (λ (m : List ℕ). bufferAfter m 8 (dwordText l)) (p .buffer)
+
+-- what is left of sixteen digits without the zeros in front
+pub route-part : (n : ℕ) {f at r : ℕ} {mid digits out exit : List ℕ} {a b : ℕ} → Placed (replicate 16 48) 0 (dwordText (n / 4294967296)) mid a → Placed mid 8 (dwordText (n % 4294967296)) digits b → f ≡ zerosIn 15 digits → at + 16 ≤ length out → Placed out at (take (16 - f) (drop f digits)) exit r → Part out at (routeText n) exit r 16
+unfolding routeText sixteenText
+route-part n {f} {at} {r} {mid} {digits} p q e room x =
+    let is : digits ≡ dwordText (n / 4294967296) ++ dwordText (n % 4294967296) = sixteen (n / 4294967296) (n % 4294967296) p q in
+    let size : length digits ≡ 16 = ap length is in
+    let all : take (16 - f) (drop f digits) ≡ drop f digits = take-all (16 - f) (drop f digits) (omega (arith, length-drop f digits)) in
+    let same : drop f digits ≡ drop (zerosIn 15 (dwordText (n / 4294967296) ++ dwordText (n % 4294967296))) (dwordText (n / 4294967296) ++ dwordText (n % 4294967296)) = rw (e, is) in
+    text-part 16 (rw (← same) (omega (arith, length-drop f digits))) (rw (← same) (omega (arith, length-drop f digits))) (rw (← same, ← all) x)
+
+pub zeros-within : (s : List ℕ) {f : ℕ} → f ≡ zerosIn 15 s → f ≤ 16
+zeros-within s e = omega (arith, zeros-most 15 s)

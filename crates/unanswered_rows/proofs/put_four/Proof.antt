@@ -1,3 +1,6 @@
+-- `put_four` meets its contract: its parts one behind the other. Assumes nothing.
+use Rattle.unanswered_rows.specs.Rows.{fourText}
+use Rattle.unanswered_rows.proofs.Joining.{part-then}
 use borrow.Author.Needs.{needs}
 use native.Mathlib.Omega.{arith}
 use Rattle.unanswered_rows.proofs.put_four.Statement.{statement}
@@ -43,7 +46,8 @@ same-length : tie.Need-same-length
 same-length c = search needs
 
 returns : tie.Need-returns
-returns c = search needs
+unfolding fourText
+returns c = part-then (c .before .before .before .before .before .before .before .before .before .before .before .before .before .before .before .before .before .before .before .before .before .put-number .ensures) (part-then (c .before .before .before .before .before .before .before .before .before .before .before .before .before .before .before .before .put-text .ensures) (part-then (c .before .before .before .before .before .before .before .before .before .before .before .before .put-route .ensures) (part-then (c .before .before .before .before .before .before .put-number2 .ensures) (c .before .before .put-way .ensures))))
 
 pub put-four-spec : {M : Type 1} → statement M
 put-four-spec =

@@ -1,3 +1,6 @@
+-- `put_waits` meets its contract: when, then what. Assumes nothing.
+use Rattle.unanswered_rows.specs.Rows.{waitsRow}
+use Rattle.unanswered_rows.proofs.Joining.{part-then}
 use borrow.Author.Needs.{needs}
 use native.Mathlib.Omega.{arith}
 use Rattle.unanswered_rows.proofs.put_waits.Statement.{statement}
@@ -17,7 +20,8 @@ same-length : tie.Need-same-length
 same-length c = search needs
 
 returns : tie.Need-returns
-returns c = search needs
+unfolding waitsRow
+returns c = part-then (c .before .before .before .before .before .before .put-when .ensures) (c .before .before .put-four .ensures) .put
 
 pub put-waits-spec : {M : Type 1} → statement M
 put-waits-spec = tie.close (tie.spec put-when-requires put-four-requires same-length returns)

@@ -1,3 +1,5 @@
+-- `put_route` meets its contract: sixteen digits without the zeros in front. Assumes nothing.
+use Rattle.unanswered_rows.proofs.Digits.{route-part, zeros-within}
 use borrow.Author.Needs.{needs}
 use native.Mathlib.Omega.{arith}
 use Rattle.unanswered_rows.proofs.hex.put_route.Statement.{statement}
@@ -33,10 +35,10 @@ zeros-end-requires : tie.Need-zeros-end-requires
 zeros-end-requires c κs = search needs
 
 sub-put : tie.Need-sub-put
-sub-put c = search needs
+sub-put c = zeros-within _ (c .before .zeros-end .ensures)
 
 part-put-start : tie.Need-part-put-start
-part-put-start c = search needs
+part-put-start c = zeros-within _ (c .before .before .zeros-end .ensures)
 
 part-put-end : tie.Need-part-put-end
 part-put-end c = search needs
@@ -48,7 +50,7 @@ same-length : tie.Need-same-length
 same-length c = search needs
 
 returns : tie.Need-returns
-returns c = search needs
+returns c = route-part _ (c .before .before .before .before .before .before .before .before .before .before .before .before .put-dword .ensures) (c .before .before .before .before .before .before .before .before .before .put-dword2 .ensures) (c .before .before .before .before .before .before .zeros-end .ensures) (c .before .before .before .before .before .before .before .before .before .before .before .before .before .before .before .pre) (c .before .before .put .ensures)
 
 pub put-route-spec : {M : Type 1} → statement M
 put-route-spec =

@@ -9,9 +9,14 @@ use unanswered_rows::Row;
 use unanswered_rows::gap::Gap;
 use unanswered_rows::gap::Moment;
 use unanswered_rows::gap::gap_of;
+ghost use mathlib.Core.Path.{_≡_};
+ghost use lib.ListN.{set};
+ghost use Rattle.desk.specs.Kept.{notesAfter, countsAfter, rowBy, answerRow, momentOf};
 
 // A request that is taken is noted beside its slot.
-pub fn noted(notes: Notes, report: Report, note: Note) -> Notes {
+pub fn noted(notes: Notes, report: Report, note: Note) -> Notes
+    ensures { λ r. ⌜ r .of ≡ notesAfter (notes .of) report note ⌝ }
+{
     match report {
         Report::Taken(i) => put_note(notes, i, note),
         Report::Dropped => notes,
@@ -24,7 +29,9 @@ pub fn noted(notes: Notes, report: Report, note: Note) -> Notes {
     }
 }
 
-fn put_note(notes: Notes, i: usize, note: Note) -> Notes {
+fn put_note(notes: Notes, i: usize, note: Note) -> Notes
+    ensures { λ r. ⌜ r .of ≡ set (notes .of) i note ⌝ }
+{
     let mut next = notes;
     if i < 64 {
         next.of[i] = note;
@@ -34,7 +41,9 @@ fn put_note(notes: Notes, i: usize, note: Note) -> Notes {
 }
 
 // One line and one entry more, and one more of what is counted by its report.
-pub fn counted(counts: Counts, report: Report) -> Counts {
+pub fn counted(counts: Counts, report: Report) -> Counts
+    ensures { λ r. ⌜ r ≡ countsAfter counts report ⌝ }
+{
     let mut next = counts;
     next.lines = sum(counts.lines, 1);
     next.entries = sum(counts.entries, 1);
@@ -62,7 +71,9 @@ pub fn counted(counts: Counts, report: Report) -> Counts {
     }
 }
 
-pub fn row_of(report: Report, notes: Notes, note: Note) -> Row {
+pub fn row_of(report: Report, notes: Notes, note: Note) -> Row
+    ensures { λ r. ⌜ r ≡ rowBy report (notes .of) note ⌝ }
+{
     match report {
         Report::Dropped => Row::Dropped,
         Report::Other => Row::Other,
@@ -75,20 +86,25 @@ pub fn row_of(report: Report, notes: Notes, note: Note) -> Row {
     }
 }
 
-fn answer_row(request: Note, note: Note) -> Row {
+fn answer_row(request: Note, note: Note) -> Row
+    ensures { λ r. ⌜ r ≡ answerRow request note ⌝ }
+{
+    let line = request.line;
     match gap_of(moment(request), moment(note)) {
         Gap::After(n) => Row::Answered {
-            request: request.line,
+            request: line,
             after: n,
         },
         Gap::Before(n) => Row::Early {
-            request: request.line,
+            request: line,
             before: n,
         },
     }
 }
 
-fn moment(note: Note) -> Moment {
+fn moment(note: Note) -> Moment
+    ensures { λ r. ⌜ r ≡ momentOf note ⌝ }
+{
     Moment {
         seconds: note.seconds,
         microseconds: note.microseconds,

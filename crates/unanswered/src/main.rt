@@ -20,6 +20,9 @@ use state::State;
 use state::begun;
 use state::closed;
 use state::unread;
+ghost use mathlib.Core.Path.{_≡_};
+ghost use Prim.Native.Nat.{_≤_};
+ghost use lib.ListN.{length};
 
 fn main() {
     if os::arg_count() == 1 {
@@ -33,7 +36,9 @@ fn main() {
     }
 }
 
-fn run(input: &mut [u8], unit: &mut [u8], out: &mut [u8]) {
+fn run(input: &mut [u8], unit: &mut [u8], out: &mut [u8])
+    requires { ⌜ 65539 ≤ length (now unit) ⌝ }
+{
     let end = read_all(input, unit, out);
     let sink = flush(out, end.sink);
     if 0 < sink.errno {
@@ -51,7 +56,10 @@ fn fail(call: &[u8], errno: u32, whole: u64) {
 }
 
 // Part after part to the end of the input. No input lasts for all the turns.
-fn read_all(input: &mut [u8], unit: &mut [u8], out: &mut [u8]) -> State {
+fn read_all(input: &mut [u8], unit: &mut [u8], out: &mut [u8]) -> State
+    requires { ⌜ 65539 ≤ length (now unit) ⌝ }
+    ensures { λ r. ⌜ r .held ≤ length (now (unit .entry)) ⌝ }
+{
     let mut state = begun();
     let mut turns = u64::MAX;
     while 0 < turns {
@@ -65,7 +73,10 @@ fn read_all(input: &mut [u8], unit: &mut [u8], out: &mut [u8]) -> State {
 }
 
 // The next part, or the end.
-fn read_next(input: &mut [u8], unit: &mut [u8], out: &mut [u8], state: State) -> State {
+fn read_next(input: &mut [u8], unit: &mut [u8], out: &mut [u8], state: State) -> State
+    requires { ⌜ (65539 ≤ length (now unit)) × (state .held ≤ length (now unit)) ⌝ }
+    ensures { λ r. ⌜ r .held ≤ length (now (unit .entry)) ⌝ }
+{
     match read_some(STDIN_FILENO, input) {
         Got::Bytes(n) => take_part(&input[..n], unit, out, state),
         Got::End => end_input(unit, out, state),
@@ -74,7 +85,10 @@ fn read_next(input: &mut [u8], unit: &mut [u8], out: &mut [u8], state: State) ->
 }
 
 // All lines that end in a part; what is open is held. After a write that failed nothing more is read.
-fn take_part(part: &[u8], unit: &mut [u8], out: &mut [u8], state: State) -> State {
+fn take_part(part: &[u8], unit: &mut [u8], out: &mut [u8], state: State) -> State
+    requires { ⌜ (65539 ≤ length (now unit)) × (state .held ≤ length (now unit)) ⌝ }
+    ensures { λ r. ⌜ r .held ≤ length (now (unit .entry)) ⌝ }
+{
     let mut now = state;
     let mut from: usize = 0;
     while from < part.len() {
@@ -88,7 +102,10 @@ fn take_part(part: &[u8], unit: &mut [u8], out: &mut [u8], state: State) -> Stat
     now
 }
 
-fn take_fed(fed: Fed, unit: &[u8], out: &mut [u8], state: State) -> State {
+fn take_fed(fed: Fed, unit: &[u8], out: &mut [u8], state: State) -> State
+    requires { ⌜ fed .held ≤ length (now unit) ⌝ }
+    ensures { λ r. ⌜ r .held ≤ length (now (unit .entry)) ⌝ }
+{
     let mut next = state;
     next.held = fed.held;
     if fed.whole {
@@ -98,25 +115,44 @@ fn take_fed(fed: Fed, unit: &[u8], out: &mut [u8], state: State) -> State {
 }
 
 // The line that is held. One that starts with A1 is refused as every other text that is no line.
-fn take_held(unit: &[u8], out: &mut [u8], state: State) -> State {
+fn take_held(unit: &[u8], out: &mut [u8], state: State) -> State
+    requires { ⌜ state .held ≤ length (now unit) ⌝ }
+    ensures { λ r. ⌜ r .held ≡ 0 ⌝ }
+{
     let held = state.held;
     let said = say_line(&unit[..held], state.desk, out, state.sink);
-    let mut next = state;
-    next.held = 0;
-    next.desk = said.desk;
-    next.sink = said.sink;
-    next
+    let desk = said.desk;
+    let sink = said.sink;
+    State {
+        held: 0,
+        sink: sink,
+        desk: desk,
+        unread: state.unread,
+        open: state.open,
+    }
 }
 
 // A last line with no newline counts if it has a byte. Then what waits, and the totals.
-fn end_input(unit: &[u8], out: &mut [u8], state: State) -> State {
+fn end_input(unit: &[u8], out: &mut [u8], state: State) -> State
+    requires { ⌜ state .held ≤ length (now unit) ⌝ }
+    ensures { λ r. ⌜ r .held ≤ length (now (unit .entry)) ⌝ }
+{
     let last = take_last(unit, out, state);
-    let mut next = closed(last);
-    next.sink = say_end(last.desk, out, last.sink);
-    next
+    let desk = last.desk;
+    let sink = say_end(desk, out, last.sink);
+    State {
+        held: last.held,
+        sink: sink,
+        desk: desk,
+        unread: last.unread,
+        open: false,
+    }
 }
 
-fn take_last(unit: &[u8], out: &mut [u8], state: State) -> State {
+fn take_last(unit: &[u8], out: &mut [u8], state: State) -> State
+    requires { ⌜ state .held ≤ length (now unit) ⌝ }
+    ensures { λ r. ⌜ r .held ≤ length (now (unit .entry)) ⌝ }
+{
     if 0 < state.held {
         return take_held(unit, out, state);
     }

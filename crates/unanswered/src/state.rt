@@ -2,6 +2,7 @@
 use channel::sink::Sink;
 use desk::Desk;
 use desk::begin;
+ghost use mathlib.Core.Path.{_≡_};
 
 // How many bytes of the open line are held; what waits to be written; what is kept of the lines; 0 or the errno of the read that failed; and
 // whether there may be more input.
@@ -13,7 +14,9 @@ pub struct State {
     pub open: bool,
 }
 
-pub fn begun() -> State {
+pub fn begun() -> State
+    ensures { λ r. ⌜ r .held ≡ 0 ⌝ }
+{
     let sink = Sink {
         at: 0,
         whole: 0,
@@ -28,14 +31,18 @@ pub fn begun() -> State {
     }
 }
 
-pub fn unread(state: State, errno: u32) -> State {
+pub fn unread(state: State, errno: u32) -> State
+    ensures { λ r. ⌜ r .held ≡ state .held ⌝ }
+{
     let mut next = state;
     next.unread = errno;
     next.open = false;
     next
 }
 
-pub fn closed(state: State) -> State {
+pub fn closed(state: State) -> State
+    ensures { λ r. ⌜ r .held ≡ state .held ⌝ }
+{
     let mut next = state;
     next.open = false;
     next

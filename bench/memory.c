@@ -13,6 +13,7 @@ static uint8_t text[CK_MOST_BYTES], record[CK_MOST_BYTES], book[65536];
 static size_t text_len, record_len, book_len;
 static uint32_t slots[CK_MOST_DWORDS], places[CK_MOST_DWORDS];
 static ck_entry_answer entry;
+static ck_slot table[CK_MOST_PENDING];
 static const uint32_t crossing[256] = {0, 1, 14, 0x0ed738b6, 0xbb40ff42, 0xe290c297, 0x07ffb2c0, 3};
 
 static void nothing(void) {}
@@ -26,6 +27,11 @@ static void packet(void) { ck_packet(8, book, book_len, crossing, 256, places, C
 static void checked_packet(void) { ck_checked_packet(8, book, book_len, crossing, 256, places, CK_MOST_DWORDS); }
 static void text_packet(void) { ck_read_packet(text, text_len, book, book_len, slots, CK_MOST_DWORDS, places, CK_MOST_DWORDS); }
 static void type_asked(void) { ck_packet_type(8, book, book_len, crossing, 256); }
+static void step(void) {
+    ck_entry request = entry.entry;
+    request.kind = 1, request.seq = 1;
+    ck_pending_step(request, table, CK_MOST_PENDING);
+}
 static void field_asked(void) { ck_described_field_by_name(8, book, book_len, crossing, 256, places, 256, (const uint8_t *)"UUID", 4); }
 
 static const struct {
@@ -44,6 +50,7 @@ static const struct {
     {"ck_read_packet", text_packet},
     {"ck_packet_type", type_asked},
     {"ck_described_field_by_name", field_asked},
+    {"ck_pending_step", step},
 };
 
 static void *run(void *call) {

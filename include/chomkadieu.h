@@ -1,4 +1,5 @@
-/* Chomkadieu: USB4 trace lines and records as entries, entries as records, and packets described by a book of fields.
+/* Chomkadieu: USB4 trace lines and records as entries, entries as records, packets described by a book of fields, and requests matched to their
+ * responses.
  *
  * Build the archive with `rt staticlib capi` (target/staticlib/libcapi.a, x86-64 Linux) and link it; of its surroundings it asks for memcpy and
  * memset alone.
@@ -56,7 +57,9 @@ enum {
     CK_BAD_BODY = 34,         /* the body of a record's field breaks its rule */
     CK_FEW_RECORD_SLOTS = 35, /* fewer slots are lent than the record has dwords */
     CK_SHORT_BUFFER = 36,     /* the lent buffer is too short for the record */
-    CK_BAD_ENTRY = 37         /* the entry is out of the record's ranges, or its parts lie outside what is lent */
+    CK_BAD_ENTRY = 37,        /* the entry is out of the record's ranges, or its parts lie outside what is lent */
+    CK_TABLE_SIZE = 50,       /* the table of requests has no slot, or more than 64 */
+    CK_BROKEN_TABLE = 51      /* the waiting slots do not carry the ranks 1 to their number once each, or one of them has a route with its top bit set, or neither reads nor writes */
 };
 
 /* What an optional field says if it is absent, and a question if it has no answer. */
@@ -358,6 +361,75 @@ size_t ck_name(const uint8_t *book, size_t book_len, size_t place, uint8_t *out,
 
 /* The name that the bit range at a place gives to a value, likewise. */
 size_t ck_value_name(const uint8_t *book, size_t book_len, size_t range, uint32_t value, uint8_t *out, size_t room);
+
+/* ---- which requests wait for their responses
+ *
+ * A table is 1 to CK_MOST_PENDING slots that the caller lends and keeps. Clear it once, then step through the entries in their order; what waits
+ * behind the last is unanswered. A step judges the whole table first, whatever the entry, and so do the questions: 50, then 51, and then no field
+ * of a slot changes. A table of that size that was cleared is good, and so is every table that a step leaves of a good one. A slot stays where it
+ * is while it waits, so an array beside the table can hold what else is known of its request. */
+
+/* No table of requests has more slots. */
+enum { CK_MOST_PENDING = 64 };
+
+/* What a step reports of its entry, in the order in which it is asked. */
+enum {
+    CK_PENDING_DROPPED = 1,     /* the packet was dropped */
+    CK_PENDING_OTHER = 2,       /* the kind is not 1 to 4 */
+    CK_PENDING_NO_SEQ = 3,      /* there is no `seq` */
+    CK_PENDING_TAKEN = 4,       /* a request (kind 1, 3): it waits in the first slot that was free */
+    CK_PENDING_TURNED_AWAY = 5, /* a request, and no slot is free: nothing is kept of it */
+    CK_PENDING_ANSWERED = 6,    /* a response (kind 2, 4): the oldest slot with its four is free now */
+    CK_PENDING_STRAY = 7        /* a response, and no slot that waits has its four */
+};
+
+/* What a request and its response share. */
+typedef struct ck_four {
+    uint64_t route;        /* the route without its top bit, which responses carry */
+    uint32_t domain;       /* the domain */
+    uint8_t seq;           /* `seq` */
+    uint8_t write;         /* 1 if it writes (kind 3, 4), 0 if it reads (1, 2); a waiting slot with another value is refused with 51 */
+} ck_four;
+
+/* A slot of a table. */
+typedef struct ck_slot {
+    ck_four four;          /* the request's; a slot that was freed keeps it, and of a free slot nothing but its rank is judged */
+    uint32_t rank;         /* 0 for a free slot; of those that wait 1 is the oldest, 2 the next */
+} ck_slot;
+
+/* What a step reports, or why there is no report. */
+typedef struct ck_step_answer {
+    uint8_t number;        /* 0, 50 or 51 */
+    uint8_t report;        /* CK_PENDING_.., 0 if the table is refused */
+    size_t place;          /* which slot was taken or freed by an answer, from 0; else 0 */
+} ck_step_answer;
+
+/* How many requests wait. */
+typedef struct ck_count_answer {
+    uint8_t number;        /* 0, 50 or 51 */
+    uint32_t count;        /* how many, 0 if the table is refused */
+} ck_count_answer;
+
+/* Where a slot lies. */
+typedef struct ck_place_answer {
+    uint8_t number;        /* 0, 50 or 51 */
+    uint8_t present;       /* 1 if there is such a slot, else 0 */
+    size_t place;          /* which slot it is, from 0; 0 if there is none */
+} ck_place_answer;
+
+/* Every slot all 0, so that none waits. Any number of slots. */
+void ck_pending_clear(ck_slot *slots, size_t count);
+
+/* One entry: the table changes, and the entry is reported. A request that is taken changes its slot alone. A response that is answered changes
+ * ranks alone: that of its slot becomes 0 and each later one is one less. Nothing else changes a slot. `seq` past its width counts as absent, and
+ * `dropped` counts if it is 1. Numbers 50, 51. */
+ck_step_answer ck_pending_step(ck_entry entry, ck_slot *slots, size_t count);
+
+/* How many requests wait. Numbers 50, 51. */
+ck_count_answer ck_pending_waiting(const ck_slot *slots, size_t count);
+
+/* Where the k-th oldest of those that wait lies, for k from 1 to their number. Numbers 50, 51. */
+ck_place_answer ck_pending_oldest(const ck_slot *slots, size_t count, uint32_t k);
 
 #ifdef __cplusplus
 }

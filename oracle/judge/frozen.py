@@ -1,9 +1,10 @@
-"""The frozen sample: chosen lines, books and packets with their answers, made again from a seed."""
+"""The frozen sample: chosen lines, books, packets, records and histories with their answers, made again from a seed."""
 
 import struct
 from collections import Counter
+from itertools import islice
 
-from generate import books, lines as line_generator, packets as packet_generator, records as record_generator, short
+from generate import books, histories, lines as line_generator, packets as packet_generator, records as record_generator, short
 from generate.broken import RULES
 from generate.seed import Seed, frame
 from generate.tree import encoded
@@ -11,7 +12,7 @@ from judge import chosen, chosen_books, chosen_records
 from judge.differ import group
 from judge.lines import beyond
 from judge.tally import ask
-from reading import book as book_reading, line as line_reading, packet as packet_reading, record as record_reading
+from reading import book as book_reading, line as line_reading, packet as packet_reading, pending, record as record_reading
 
 SEED = 2024
 SLOTS = 256
@@ -245,3 +246,27 @@ def freeze_records(origin):
     answers = [record_reading.answer(*case) for case in cases]
     origin["the reading"] = len(answers)
     return {"records.bin": b"".join(record_frame(*case) for case in cases), "records.txt": text(answers)}, answers
+
+
+# Histories
+
+EACH_HISTORY = 9
+# Long ones, of which few are taken, so that the sample stays small.
+FEW_HISTORIES = {"large": 2, "of any size": 4}
+
+
+def history_cases():
+    """Some histories of each class."""
+    taken = Counter()
+    for name, slots, listed in islice(histories.generate(SEED), EACH_HISTORY * len(histories.CLASSES)):
+        if taken[name] < FEW_HISTORIES.get(name, EACH_HISTORY):
+            taken[name] += 1
+            yield histories.encoded(slots, listed)
+
+
+def freeze_histories(origin):
+    """The Rust matches no requests, so the reading answers all."""
+    cases = list(history_cases())
+    answers = [pending.answer(data) for data in cases]
+    origin["the reading"] = len(answers)
+    return {"histories.bin": b"".join(map(frame, cases)), "histories.txt": text(answers)}, answers

@@ -43,6 +43,18 @@ class EventText(ctypes.Structure):
     _fields_ = [("bytes", ctypes.c_uint8 * 14), ("len", ctypes.c_size_t)]
 
 
+class StepAnswer(ctypes.Structure):
+    _fields_ = [("number", ctypes.c_uint8), ("report", ctypes.c_uint8), ("place", ctypes.c_size_t)]
+
+
+class CountAnswer(ctypes.Structure):
+    _fields_ = [("number", ctypes.c_uint8), ("count", ctypes.c_uint32)]
+
+
+class PlaceAnswer(ctypes.Structure):
+    _fields_ = [("number", ctypes.c_uint8), ("present", ctypes.c_uint8), ("place", ctypes.c_size_t)]
+
+
 class Lent:
     """Memory for writing between two guards, all of it marked."""
 

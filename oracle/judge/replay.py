@@ -1,6 +1,6 @@
-"""Replays the frozen sample: python3 replay.py FOLDER_OF_READING FROZEN lines|packets|records
+"""Replays the frozen sample: python3 replay.py FOLDER_OF_READING FROZEN lines|packets|records|histories
 
-Prints how many answers differ, of lines, of packets and books, or of records. A crash counts as another answer.
+Prints how many answers differ, of lines, of packets and books, of records, or of histories. A crash counts as another answer.
 """
 
 import os
@@ -83,7 +83,23 @@ def replay_records(folder):
     return differing(record_cases(load(folder, "records.bin")), answers(folder, "records.txt"), record.answer)
 
 
-REPLAYS = {"lines": replay_lines, "packets": replay_packets, "records": replay_records}
+def history_answers(folder):
+    """The rows of each history: the last one is its table."""
+    found = [[]]
+    for row in answers(folder, "histories.txt"):
+        found[-1].append(row)
+        if row.startswith("table "):
+            found.append([])
+    return ["\n".join(rows) for rows in found[:-1]]
+
+
+def replay_histories(folder):
+    from reading import pending
+    cases = [(data,) for data in frames(load(folder, "histories.bin"))]
+    return differing(cases, history_answers(folder), pending.answer)
+
+
+REPLAYS = {"lines": replay_lines, "packets": replay_packets, "records": replay_records, "histories": replay_histories}
 
 
 def main():

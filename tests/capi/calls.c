@@ -431,6 +431,7 @@ int main(int count, char **words) {
     texts();
     crossing();
     every_field(book, book_len);
+    every_request();
     printf("%u passed, %u failed\n", passed, failed);
     return failed != 0;
 }

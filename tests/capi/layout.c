@@ -94,6 +94,28 @@ static void packet_rows(void) {
     FIELD(ck_name_part, len);
 }
 
+static void table_rows(void) {
+    STRUCT(ck_four);
+    FIELD(ck_four, route);
+    FIELD(ck_four, domain);
+    FIELD(ck_four, seq);
+    FIELD(ck_four, write);
+    STRUCT(ck_slot);
+    FIELD(ck_slot, four);
+    FIELD(ck_slot, rank);
+    STRUCT(ck_step_answer);
+    FIELD(ck_step_answer, number);
+    FIELD(ck_step_answer, report);
+    FIELD(ck_step_answer, place);
+    STRUCT(ck_count_answer);
+    FIELD(ck_count_answer, number);
+    FIELD(ck_count_answer, count);
+    STRUCT(ck_place_answer);
+    FIELD(ck_place_answer, number);
+    FIELD(ck_place_answer, present);
+    FIELD(ck_place_answer, place);
+}
+
 void every_offset(const char *path) {
     static char promised[sizeof rows];
     FILE *file = fopen(path, "rb");
@@ -101,6 +123,7 @@ void every_offset(const char *path) {
     if (file) fclose(file);
     entry_rows();
     packet_rows();
+    table_rows();
     int same = size == used && !memcmp(rows, promised, used);
     see(same, "each field lies where layout.txt says");
     if (!same) fputs(rows, stdout);

@@ -11,6 +11,9 @@ void see(int holds, const char *what);
 /* fields.c: every field of every struct, over the sample book. */
 void every_field(const uint8_t *book, size_t book_len);
 
+/* pending.c: the table of requests. */
+void every_request(void);
+
 /* layout.c: where each field of each struct lies, beside the file of that name. */
 void every_offset(const char *path);
 

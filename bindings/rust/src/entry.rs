@@ -64,6 +64,10 @@ impl<'t, 's> Entry<'t, 's> {
         ControlPacket::parse(self.pdf(), book, self.data, places)
     }
 
+    pub(crate) fn raw(&self) -> RawEntry {
+        self.raw
+    }
+
     fn part(&self, at: usize, len: usize) -> &'t str {
         // Texts of an entry lie in the text and are ASCII; were they not, this would be empty and no harm done.
         let bytes = self

@@ -1,4 +1,4 @@
-//! Trace lines of USB4 control packets, and the records made of them, as entries.
+//! Trace lines of USB4 control packets, and the records made of them, as entries; requests matched to their responses.
 //!
 //! The work is done by proved code behind C calls (`include/chomkadieu.h`); this crate is the thin, safe side of it. Nothing is copied and
 //! nothing allocated: an [`Entry`] borrows the text that it was read from and the slots that its dwords went to. Names follow the `trace`
@@ -22,6 +22,7 @@ mod entry;
 mod event;
 mod packet;
 mod pdf;
+mod pending;
 mod raw;
 mod refusal;
 mod what;
@@ -31,6 +32,8 @@ pub use entry::{Entry, Timestamp};
 pub use event::Event;
 pub use packet::{ControlPacket, Field, Range, Source};
 pub use pdf::Pdf;
+pub use pending::{OldestFirst, Pending, Report};
+pub use raw::{Four, Slot};
 pub use refusal::Refusal;
 pub use what::{What, what};
 
@@ -39,3 +42,6 @@ pub const MOST_DWORDS: usize = 256;
 
 /// No record has more bytes: with as long a buffer, none is refused for want of room.
 pub const MOST_BYTES: usize = 5227;
+
+/// No table of requests has more slots.
+pub const MOST_PENDING: usize = 64;

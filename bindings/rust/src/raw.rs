@@ -122,6 +122,53 @@ pub struct NamePart {
     len: usize,
 }
 
+/// What a request and its response share.
+#[derive(Clone, Copy, Debug, Default, PartialEq, Eq, Hash)]
+#[repr(C)]
+pub struct Four {
+    /// The route without its top bit, which responses carry.
+    pub route: u64,
+    /// The domain.
+    pub domain: u32,
+    /// The sequence number.
+    pub seq: u8,
+    /// 1 if it writes, 0 if it reads. A waiting slot with another value is refused with 51.
+    pub write: u8,
+}
+
+/// A slot of a table of requests.
+#[derive(Clone, Copy, Debug, Default, PartialEq, Eq, Hash)]
+#[repr(C)]
+pub struct Slot {
+    /// The request's. A slot that was freed keeps it, and of a free slot nothing but its rank is judged.
+    pub four: Four,
+    /// 0 for a free slot; of those that wait 1 is the oldest, 2 the next.
+    pub rank: u32,
+}
+
+/// `ck_step_answer`.
+#[repr(C)]
+pub struct StepAnswer {
+    number: u8,
+    report: u8,
+    place: usize,
+}
+
+/// `ck_count_answer`.
+#[repr(C)]
+pub struct CountAnswer {
+    number: u8,
+    count: u32,
+}
+
+/// `ck_place_answer`.
+#[repr(C)]
+pub struct PlaceAnswer {
+    number: u8,
+    present: u8,
+    place: usize,
+}
+
 /// One row a call, as the header has it: a slice stands in brackets, and C takes it as a pointer and a length. Each row makes the declaration and
 /// a safe function of the same name over it.
 macro_rules! calls {
@@ -176,6 +223,10 @@ calls! {
     ck_range_named([book: u8], entry: usize, dword: u32, [name: u8]) -> RawRange;
     ck_name_at([book: u8], place: usize) -> NamePart;
     ck_value_at([book: u8], range: usize, number: u32) -> usize;
+    ck_pending_clear([mut slots: Slot]) -> ();
+    ck_pending_step(entry: RawEntry, [mut slots: Slot]) -> StepAnswer;
+    ck_pending_waiting([slots: Slot]) -> CountAnswer;
+    ck_pending_oldest([slots: Slot], k: u32) -> PlaceAnswer;
 }
 
 /// A number other than 0 is the refusal's.
@@ -371,6 +422,26 @@ pub fn value_name(book: &[u8], range: usize, number: u32) -> Option<&str> {
     name(book, ck_value_at(book, range, number))
 }
 
+pub fn pending_clear(slots: &mut [Slot]) {
+    ck_pending_clear(slots)
+}
+
+/// `CK_PENDING_..`, and the place.
+pub fn pending_step(entry: RawEntry, slots: &mut [Slot]) -> Result<(u8, usize), u8> {
+    let answer = ck_pending_step(entry, slots);
+    accepted(answer.number, (answer.report, answer.place))
+}
+
+pub fn pending_waiting(slots: &[Slot]) -> Result<u32, u8> {
+    let answer = ck_pending_waiting(slots);
+    accepted(answer.number, answer.count)
+}
+
+pub fn pending_oldest(slots: &[Slot], k: u32) -> Told<usize> {
+    let answer = ck_pending_oldest(slots, k);
+    told(answer.number, answer.present, answer.place)
+}
+
 #[cfg(test)]
 mod layout {
     extern crate std;
@@ -418,6 +489,11 @@ mod layout {
             ck_field_answer RawField { number, present, offset, value, source, entry }
             ck_range_answer RawRange { present, low, high, value, place }
             ck_name_part NamePart { at, len }
+            ck_four Four { route, domain, seq, write }
+            ck_slot Slot { four, rank }
+            ck_step_answer StepAnswer { number, report, place }
+            ck_count_answer CountAnswer { number, count }
+            ck_place_answer PlaceAnswer { number, present, place }
         };
         let promised: String = include_str!("../../../tests/capi/layout.txt")
             .split_inclusive('\n')

@@ -2,10 +2,10 @@
 use core::error::Error;
 use core::fmt;
 
-/// One row a number: the case, document 01's number, and a sentence.
+/// One row a number: the case, the document's number, and a sentence.
 macro_rules! refusals {
     ($($case:ident = $number:literal, $sentence:literal;)*) => {
-        /// Why a text, a book or an entry has no answer. Each case has one number of document 01.
+        /// Why a text, a book, an entry or a table has no answer. Each case has one number of documents 01 and 02.
         #[derive(Clone, Copy, Debug, PartialEq, Eq, Hash)]
         #[non_exhaustive]
         pub enum Refusal {
@@ -15,7 +15,7 @@ macro_rules! refusals {
         }
 
         impl Refusal {
-            /// Every case that has a number of document 01, in the order of the numbers.
+            /// Every case that has a number of the documents, in the order of the numbers.
             pub const ALL: &'static [Refusal] = &[$(Refusal::$case,)*];
 
             pub(crate) fn from_number(number: u8) -> Self {
@@ -25,7 +25,7 @@ macro_rules! refusals {
                 }
             }
 
-            /// Document 01's number.
+            /// The document's number.
             pub fn number(self) -> u8 {
                 match self {
                     $(Refusal::$case => $number,)*
@@ -80,6 +80,8 @@ refusals! {
     FewRecordSlots = 35, "fewer slots are lent than the record has dwords";
     ShortBuffer = 36, "the lent buffer is too short for the record";
     BadEntry = 37, "the entry is out of the record's ranges, or its parts lie outside what is lent";
+    TableSize = 50, "the table of requests has no slot, or more than 64";
+    BrokenTable = 51, "the waiting slots do not carry the ranks 1 to their number once each, or one of them has a route with its top bit set, or neither reads nor writes";
 }
 
 impl Error for Refusal {}

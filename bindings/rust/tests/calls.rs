@@ -144,7 +144,11 @@ fn each_number_has_one_case_and_a_sentence_of_its_own() {
         .iter()
         .map(|refusal| refusal.number())
         .collect();
-    let expected: Vec<u8> = (1..=17).chain(20..=28).chain(30..=37).collect();
+    let expected: Vec<u8> = (1..=17)
+        .chain(20..=28)
+        .chain(30..=37)
+        .chain(50..=51)
+        .collect();
     assert_eq!(numbers, expected);
     let sentences: std::collections::HashSet<String> = Refusal::ALL
         .iter()

@@ -2,3 +2,4 @@
 pub mod Calls
 pub mod Packets
 pub mod Told
+pub mod Requests

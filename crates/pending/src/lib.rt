@@ -43,8 +43,11 @@ pub fn step(e: Entry, slots: &mut [Slot]) -> Report
     let begun = start(e, slots.len());
     let seen = find_oldest(slots, begun);
     let plan = decide(seen);
-    take(slots, plan.at, plan.slot);
-    free(slots, plan.rank);
+    if plan.rank == 0 {
+        take(slots, plan.at, plan.slot);
+    } else {
+        free(slots, plan.rank);
+    }
     plan.report
 }
 

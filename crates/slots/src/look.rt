@@ -51,10 +51,7 @@ fn asked(ask: Ask, size: usize) -> Seen
         mask: 0,
         well: true,
     };
-    let oldest = Oldest {
-        place: 0,
-        rank: 65,
-    };
+    let oldest = Oldest { place: 0, rank: 65 };
     Seen {
         ask: ask,
         size: size,
@@ -93,12 +90,17 @@ fn first_free(free: usize, slot: Slot, place: usize) -> usize
 }
 
 // A slot that waits is counted and its rank marked. It breaks a rule if its route has a top bit, it neither reads nor writes, or its rank is past
-// 64 or marked already; and no more than 64 are counted.
+// 64 or marked already; and no more than 64 are counted. What stays is made anew field by field: a struct that is handed back whole is copied
+// slowly.
 fn ranked(ranks: Ranks, slot: Slot) -> Ranks
     ensures { λ r. ⌜ r ≡ rankedOf ranks slot ⌝ }
 {
     if slot.rank == 0 {
-        return ranks;
+        return Ranks {
+            count: ranks.count,
+            mask: ranks.mask,
+            well: ranks.well,
+        };
     }
     if 63 < ranks.count {
         return Ranks {
@@ -158,7 +160,10 @@ fn older(oldest: Oldest, ask: Ask, slot: Slot, place: usize) -> Oldest
     ensures { λ r. ⌜ r ≡ olderOf oldest ask slot place ⌝ }
 {
     if slot.rank == 0 {
-        return oldest;
+        return Oldest {
+            place: oldest.place,
+            rank: oldest.rank,
+        };
     }
     if slot.rank < oldest.rank {
         if is_asked(ask, slot) {
@@ -167,9 +172,15 @@ fn older(oldest: Oldest, ask: Ask, slot: Slot, place: usize) -> Oldest
                 rank: slot.rank,
             };
         }
-        return oldest;
+        return Oldest {
+            place: oldest.place,
+            rank: oldest.rank,
+        };
     }
-    oldest
+    Oldest {
+        place: oldest.place,
+        rank: oldest.rank,
+    }
 }
 
 fn is_asked(ask: Ask, slot: Slot) -> bool

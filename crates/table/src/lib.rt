@@ -7,6 +7,7 @@
 //     slot_at         the slot at a place
 use entry::Entry;
 use slots::Slot;
+use slots::decide::Plan;
 use slots::decide::Report;
 use slots::decide::decide;
 use slots::decide::free_slot;
@@ -22,7 +23,7 @@ ghost use Rattle.slots.specs.Decide.{freeSlot};
 ghost use Rattle.pending.specs.Over.{lookAll};
 ghost use Rattle.pending.specs.Step.{Step, freed};
 ghost use Rattle.pending.specs.Table.{waiting};
-ghost use Rattle.table.specs.Held.{HasRank};
+ghost use Rattle.table.specs.Held.{HasRank, planned};
 
 pub struct Table {
     pub slots: [Slot; 64],
@@ -51,9 +52,8 @@ pub fn step_held(e: Entry, t: Table) -> Held
     let seen = find_oldest(t, start(e, 64));
     let plan = decide(seen);
     let report = plan.report;
-    let taken = take_at(t, plan.at, plan.slot);
     Held {
-        table: free_rank(taken, plan.rank),
+        table: changed(t, plan),
         report: report,
     }
 }
@@ -106,6 +106,16 @@ fn find_oldest(t: Table, begun: Seen) -> Seen
         i += 1;
     }
     seen
+}
+
+// A plan takes or frees.
+fn changed(t: Table, plan: Plan) -> Table
+    ensures { λ r. ⌜ r .slots ≡ planned plan (t .slots) ⌝ }
+{
+    if plan.rank == 0 {
+        return take_at(t, plan.at, plan.slot);
+    }
+    free_rank(t, plan.rank)
 }
 
 // A slot goes to a place; nothing where there is no such place.

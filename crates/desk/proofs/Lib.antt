@@ -1,0 +1,2 @@
+-- The laws of what is kept.
+pub mod Turning

@@ -1,0 +1,3 @@
+-- The laws of a table that is held.
+pub mod Loops
+pub mod Stepping

@@ -1,0 +1,2 @@
+-- What the contracts of `table` cite.
+pub mod Held

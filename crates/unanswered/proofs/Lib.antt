@@ -1,0 +1,2 @@
+-- The laws of what is said.
+pub mod Sayings

@@ -1,0 +1,2 @@
+-- What the program says of a line.
+pub mod Saying

@@ -1,0 +1,25 @@
+-- `put_number` meets its contract: the word, then the number. Assumes nothing.
+use Rattle.unanswered_rows.proofs.Joining.{number-part}
+use native.Mathlib.Omega.{arith}
+use borrow.Author.Needs.{needs}
+use Rattle.unanswered_rows.proofs.parts.put_number.Statement.{statement}
+use Rattle.unanswered_rows.proofs.parts.put_number.Tie as tie
+use Rattle.unanswered_rows.proofs.parts.put_number.Reads as reads
+use Rattle.unanswered_rows.proofs.parts.put_number.Lts as lts
+use Rattle.print.proofs.put.put.Reads as put-reads
+use Rattle.print.proofs.put.put_decimal.Reads as put-decimal-reads
+
+put-requires : tie.Need-put-requires
+put-requires c κs = search needs
+
+put-decimal-requires : tie.Need-put-decimal-requires
+put-decimal-requires c κs = search needs
+
+same-length : tie.Need-same-length
+same-length c = search needs
+
+returns : tie.Need-returns
+returns c = number-part _ (c .before .before .before .before .before .before .before .before .before .before .pre) (c .before .before .before .before .before .before .put .ensures) (c .before .before .put-decimal .ensures)
+
+pub put-number-spec : {M : Type 1} → statement M
+put-number-spec = tie.close (tie.spec put-requires put-decimal-requires same-length returns)

@@ -1,0 +1,67 @@
+-- `put_four` meets its contract: its parts one behind the other. Assumes nothing.
+use Rattle.unanswered_rows.specs.Rows.{fourText}
+use Rattle.unanswered_rows.proofs.Joining.{part-then}
+use borrow.Author.Needs.{needs}
+use native.Mathlib.Omega.{arith}
+use Rattle.unanswered_rows.proofs.put_four.Statement.{statement}
+use Rattle.unanswered_rows.proofs.put_four.Tie as tie
+use Rattle.unanswered_rows.proofs.put_four.Reads as reads
+use Rattle.unanswered_rows.proofs.put_four.Lts as lts
+use Rattle.unanswered_rows.proofs.hex.put_route.Reads as put-route-reads
+use Rattle.unanswered_rows.proofs.parts.put_number.Reads as put-number-reads
+use Rattle.unanswered_rows.proofs.parts.put_text.Reads as put-text-reads
+use Rattle.unanswered_rows.proofs.put_way.Reads as put-way-reads
+
+slice-aggregate-put-number : tie.Need-slice-aggregate-put-number
+slice-aggregate-put-number c = search needs
+
+cast-put-number : tie.Need-cast-put-number
+cast-put-number c = search needs
+
+put-number-requires : tie.Need-put-number-requires
+put-number-requires c κs = search needs
+
+slice-aggregate-put-text : tie.Need-slice-aggregate-put-text
+slice-aggregate-put-text c = search needs
+
+put-text-requires : tie.Need-put-text-requires
+put-text-requires c κs = search needs
+
+put-route-requires : tie.Need-put-route-requires
+put-route-requires c κs = search needs
+
+slice-aggregate-put-number-2 : tie.Need-slice-aggregate-put-number-2
+slice-aggregate-put-number-2 c = search needs
+
+cast-put-number-2 : tie.Need-cast-put-number-2
+cast-put-number-2 c = search needs
+
+put-number-requires-2 : tie.Need-put-number-requires-2
+put-number-requires-2 c κs = search needs
+
+put-way-requires : tie.Need-put-way-requires
+put-way-requires c κs = search needs
+
+same-length : tie.Need-same-length
+same-length c = search needs
+
+returns : tie.Need-returns
+unfolding fourText
+returns c = part-then (c .before .before .before .before .before .before .before .before .before .before .before .before .before .before .before .before .before .before .before .before .before .put-number .ensures) (part-then (c .before .before .before .before .before .before .before .before .before .before .before .before .before .before .before .before .put-text .ensures) (part-then (c .before .before .before .before .before .before .before .before .before .before .before .before .put-route .ensures) (part-then (c .before .before .before .before .before .before .put-number2 .ensures) (c .before .before .put-way .ensures))))
+
+pub put-four-spec : {M : Type 1} → statement M
+put-four-spec =
+    tie.close
+    (tie.spec
+    slice-aggregate-put-number
+    cast-put-number
+    put-number-requires
+    slice-aggregate-put-text
+    put-text-requires
+    put-route-requires
+    slice-aggregate-put-number-2
+    cast-put-number-2
+    put-number-requires-2
+    put-way-requires
+    same-length
+    returns)

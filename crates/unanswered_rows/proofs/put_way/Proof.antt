@@ -1,0 +1,50 @@
+-- `put_way` meets its contract, by cases. Assumes nothing.
+use Rattle.unanswered_rows.proofs.Joining.{longer}
+use Rattle.unanswered_rows.specs.Rows.{wayText}
+use borrow.Author.Tests.{eq-eqb, ne-eqb}
+use native.Mathlib.Omega.{arith}
+use borrow.Author.Needs.{needs}
+use Rattle.unanswered_rows.proofs.put_way.Statement.{statement}
+use Rattle.unanswered_rows.proofs.put_way.Tie as tie
+use Rattle.unanswered_rows.proofs.put_way.Reads as reads
+use Rattle.unanswered_rows.proofs.put_way.Lts as lts
+use Rattle.unanswered_rows.proofs.parts.put_text.Reads as put-text-reads
+
+slice-aggregate-put-text : tie.Need-slice-aggregate-put-text
+slice-aggregate-put-text c = search needs
+
+put-text-requires : tie.Need-put-text-requires
+put-text-requires c κs = search needs
+
+same-length : tie.Need-same-length
+same-length c = search needs
+
+returns : tie.Need-returns
+unfolding wayText
+returns c = rw (eq-eqb _ _ (c .before .before .before .before .before .if1 .taken)) (longer (c .before .before .put-text .ensures) (omega arith))
+
+slice-aggregate-put-text-2 : tie.Need-slice-aggregate-put-text-2
+slice-aggregate-put-text-2 c = search needs
+
+put-text-requires-2 : tie.Need-put-text-requires-2
+put-text-requires-2 c κs = search needs
+
+same-length-2 : tie.Need-same-length-2
+same-length-2 c = search needs
+
+returns-2 : tie.Need-returns-2
+unfolding wayText
+returns-2 c = rw (ne-eqb _ _ (c .before .before .before .before .before .if1 .left)) (c .before .before .put-text2 .ensures)
+
+pub put-way-spec : {M : Type 1} → statement M
+put-way-spec =
+    tie.close
+    (tie.spec
+    slice-aggregate-put-text
+    put-text-requires
+    same-length
+    returns
+    slice-aggregate-put-text-2
+    put-text-requires-2
+    same-length-2
+    returns-2)

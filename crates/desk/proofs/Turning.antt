@@ -1,13 +1,11 @@
 -- An answer's row from the two times, and a line's turn from the reader's answer. Assumes nothing.
 use Prim.Native.Nat.{ℕ}
-use mathlib.Core.Path.{_≡_, refl, sym, ap, _∙_}
+use mathlib.Core.Path.{_≡_, sym, ap, _∙_}
 use mathlib.Core.List.{List}
-use Rattle.text.specs.Told.{Told, is, refused}
 use Rattle.entry.specs.declared.Entry.{Entry}
 use Rattle.scan.specs.declared.Answer.{Answer}
 use Rattle.scan.specs.declared.Answer.the-variants as S
 use Rattle.scan.specs.Parse.{answerTold, parseOf}
-use Rattle.unanswered_rows.specs.declared.Row.{Row}
 use Rattle.unanswered_rows.specs.declared.Row.the-variants as R
 use Rattle.unanswered_rows.specs.declared.Note.{Note}
 use Rattle.unanswered_rows.specs.declared.gap.Moment.{Moment}

@@ -48,9 +48,7 @@ pub fn begin() -> Desk
         seconds: 0,
         microseconds: 0,
     };
-    let notes = Notes {
-        of: [note; 64],
-    };
+    let notes = Notes { of: [note; 64] };
     let counts = Counts {
         lines: 0,
         entries: 0,

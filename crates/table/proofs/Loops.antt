@@ -1,8 +1,7 @@
 -- The loops over the array: what is left to do from a place on gives what was to be done from the first. Assumes nothing.
-use Prim.Native.Nat.{ℕ, zero, suc, _+_, _≤_, _<_}
+use Prim.Native.Nat.{ℕ, suc, _+_, _≤_, _<_}
 use mathlib.Core.Path.{_≡_, refl, sym, ap, _∙_}
-use mathlib.Core.Bool.{cond}
-use mathlib.Core.List.{List, [], _∷_, _++_, map, append-nil, append-assoc}
+use mathlib.Core.List.{List, [], _∷_, _++_, append-nil, append-assoc}
 use native.Mathlib.Numerals.{add-one}
 use native.Mathlib.Omega.{arith}
 use lib.ListN.{length, take, drop, getD, set, length-set, drop-of-length-le}
@@ -15,7 +14,6 @@ use Rattle.slots.specs.Decide.{freeSlot, loweredOf}
 use Rattle.pending.specs.Over.{lookAll}
 use Rattle.pending.specs.Step.{freed}
 use Rattle.pending.specs.Table.{rankAt, waiting}
-use Rattle.table.specs.Held.{HasRank}
 
 -- a look at one more slot
 pub looked-next : (t : List Slot) (i : ℕ) (a : Seen) {x : Seen} → i < length t → lookAll (drop i t) i a ≡ x → lookAll (drop (i + 1) t) (i + 1) (lookOf a (getD t i freeSlot) i) ≡ x

@@ -40,9 +40,7 @@ pub fn empty() -> Table
     ensures { λ r. ⌜ r .slots ≡ replicate 64 freeSlot ⌝ }
 {
     let slot = free_slot();
-    Table {
-        slots: [slot; 64],
-    }
+    Table { slots: [slot; 64] }
 }
 
 // One entry.

@@ -1,13 +1,13 @@
 -- Six digits at least are the last six of twenty or more; the zeros in front of sixteen end where the first other digit stands. Assumes nothing.
 use Prim.Native.Nat.{ℕ, zero, suc, _+_, _-_, _/_, _%_, _≤_, _<_, min}
-use mathlib.Core.Path.{_≡_, refl, sym, ap, _∙_}
+use mathlib.Core.Path.{_≡_, sym, ap, _∙_}
 use mathlib.Core.Bool.{Bool, true, false, cond}
 use mathlib.Core.List.{List, [], _∷_, _++_}
 use native.Mathlib.Numerals.{add-one}
 use native.Mathlib.Omega.{arith}
 use borrow.Author.Tests.{eq-eqb, ne-eqb}
 use lib.Dec.{eqb}
-use lib.ListN.{length, take, drop, getD, replicate, length-append, length-drop, length-replicate, take-append-drop}
+use lib.ListN.{length, take, drop, getD, replicate, length-drop, length-replicate, take-append-drop}
 use lib.Seq.{take-all, drop-append-le, drop-cons}
 use Rattle.text.specs.Decimal.{decimalText}
 use Rattle.text.proofs.Places.{by-order}

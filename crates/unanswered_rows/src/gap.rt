@@ -59,7 +59,10 @@ fn distance(from: Moment, to: Moment) -> u64
     ensures { λ r. ⌜ r ≡ most64 (instant to - instant from) ⌝ }
 {
     if from.microseconds <= to.microseconds {
-        return micros(to.seconds - from.seconds, to.microseconds - from.microseconds);
+        return micros(
+            to.seconds - from.seconds,
+            to.microseconds - from.microseconds,
+        );
     }
     micros(
         to.seconds - from.seconds - 1,

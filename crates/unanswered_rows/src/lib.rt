@@ -3,9 +3,9 @@
 //     put_row      what became of a line
 //     put_waits    a request that waits still
 //     put_totals   how many of each there were
+pub mod gap;
 mod hex;
 mod parts;
-pub mod gap;
 
 use crate::hex::put_route;
 use crate::parts::put_number;

@@ -6,8 +6,6 @@ use native.Mathlib.Omega.{arith}
 use borrow.Author.Needs.{needs}
 use Rattle.desk.proofs.note_at.Statement.{statement}
 use Rattle.desk.proofs.note_at.Tie as tie
-use Rattle.desk.proofs.note_at.Reads as reads
-use Rattle.desk.proofs.note_at.Lts as lts
 
 mul-result : tie.Need-mul-result
 mul-result c = search needs

@@ -1,12 +1,8 @@
 -- `refuse` meets its contract: the line is counted. Assumes nothing.
 use mathlib.Core.Path.{refl}
-use native.Mathlib.Omega.{arith}
 use borrow.Author.Needs.{needs}
 use Rattle.desk.proofs.refuse.Statement.{statement}
 use Rattle.desk.proofs.refuse.Tie as tie
-use Rattle.desk.proofs.refuse.Reads as reads
-use Rattle.desk.proofs.refuse.Lts as lts
-use Rattle.channel.proofs.sink.sum.Reads as sum-reads
 
 sum-requires : tie.Need-sum-requires
 sum-requires c κs = search needs

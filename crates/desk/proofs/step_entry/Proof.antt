@@ -1,15 +1,7 @@
 -- `step_entry` meets its contract: each part by its own function. Assumes nothing.
-use native.Mathlib.Omega.{arith}
 use borrow.Author.Needs.{needs}
 use Rattle.desk.proofs.step_entry.Statement.{statement}
 use Rattle.desk.proofs.step_entry.Tie as tie
-use Rattle.desk.proofs.step_entry.Reads as reads
-use Rattle.desk.proofs.step_entry.Lts as lts
-use Rattle.channel.proofs.sink.sum.Reads as sum-reads
-use Rattle.desk.proofs.reports.counted.Reads as counted-reads
-use Rattle.desk.proofs.reports.noted.Reads as noted-reads
-use Rattle.desk.proofs.reports.row_of.Reads as row-of-reads
-use Rattle.table.proofs.step_held.Reads as step-held-reads
 
 step-held-requires : tie.Need-step-held-requires
 step-held-requires c κs = search needs
@@ -27,7 +19,7 @@ row-of-requires : tie.Need-row-of-requires
 row-of-requires c κs = search needs
 
 returns : tie.Need-returns
-returns c = 
+returns c =
     record {
       report = c .before .before .before .before .before .step-held .result .report;
       steps = c .before .before .before .before .before .step-held .ensures;

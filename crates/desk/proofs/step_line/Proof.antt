@@ -1,15 +1,9 @@
 -- `step_line` meets its contract, by the reader's answer. Assumes nothing.
 use mathlib.Core.Path.{refl}
 use Rattle.desk.proofs.Turning.{turned-entry, turned-refusal}
-use native.Mathlib.Omega.{arith}
 use borrow.Author.Needs.{needs}
 use Rattle.desk.proofs.step_line.Statement.{statement}
 use Rattle.desk.proofs.step_line.Tie as tie
-use Rattle.desk.proofs.step_line.Reads as reads
-use Rattle.desk.proofs.step_line.Lts as lts
-use Rattle.desk.proofs.refuse.Reads as refuse-reads
-use Rattle.desk.proofs.step_entry.Reads as step-entry-reads
-use Rattle.scan.proofs.parse.Reads as parse-reads
 
 slice-aggregate-parse : tie.Need-slice-aggregate-parse
 slice-aggregate-parse c = search needs

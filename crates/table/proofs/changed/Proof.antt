@@ -2,14 +2,9 @@
 use Rattle.table.specs.Held.{planned}
 use borrow.Author.Tests.{eq-eqb, ne-eqb}
 use mathlib.Core.Path.{_∙_}
-use native.Mathlib.Omega.{arith}
 use borrow.Author.Needs.{needs}
 use Rattle.table.proofs.changed.Statement.{statement}
 use Rattle.table.proofs.changed.Tie as tie
-use Rattle.table.proofs.changed.Reads as reads
-use Rattle.table.proofs.changed.Lts as lts
-use Rattle.table.proofs.free_rank.Reads as free-rank-reads
-use Rattle.table.proofs.take_at.Reads as take-at-reads
 
 take-at-requires : tie.Need-take-at-requires
 take-at-requires c κs = search needs

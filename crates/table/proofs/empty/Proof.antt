@@ -1,10 +1,7 @@
-use native.Mathlib.Omega.{arith}
+-- `empty` meets its contract: each slot is a free one. Assumes nothing.
 use borrow.Author.Needs.{needs}
 use Rattle.table.proofs.empty.Statement.{statement}
 use Rattle.table.proofs.empty.Tie as tie
-use Rattle.table.proofs.empty.Reads as reads
-use Rattle.table.proofs.empty.Lts as lts
-use Rattle.slots.proofs.decide.free_slot.Reads as free-slot-reads
 
 free-slot-requires : tie.Need-free-slot-requires
 free-slot-requires c κs = search needs

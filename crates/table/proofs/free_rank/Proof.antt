@@ -1,14 +1,12 @@
+-- `free_rank` meets its contract: the slots before a place are lowered. Assumes nothing.
 use Prim.Native.Nat.{_-_, _≤_}
-use mathlib.Core.Path.{_≡_, refl}
+use mathlib.Core.Path.{_≡_}
 use lib.ListN.{length, length-map, length-set}
 use Rattle.table.proofs.Loops.{Lowering, lowering-starts, lowering-next, lowering-ends}
 use borrow.Author.Needs.{needs}
 use native.Mathlib.Omega.{arith}
 use Rattle.table.proofs.free_rank.Statement.{statement}
 use Rattle.table.proofs.free_rank.Tie as tie
-use Rattle.table.proofs.free_rank.Reads as reads
-use Rattle.table.proofs.free_rank.Lts as lts
-use Rattle.slots.proofs.decide.lowered.Reads as lowered-reads
 
 abbrev Inv-loop : tie.InvT-loop
 Inv-loop rank next₀ i₀ next i = (i ≤ 64) × (length (next .slots) ≡ 64) × (Lowering rank (next₀ .slots) i (next .slots))
@@ -18,7 +16,7 @@ abbrev μ-loop : tie.MeasureT-loop
 
 loop-holds : tie.Need-loop-holds Inv-loop μ-loop
 loop-holds c =
-    let size : length (c .args .t .slots) ≡ 64 = simp length-map at (c .good .0 .1 .1 .0 .1 .0 .1) in 
+    let size : length (c .args .t .slots) ≡ 64 = simp length-map at (c .good .0 .1 .1 .0 .1 .0 .1) in
     (omega arith, size, lowering-starts _ _)
 
 mul-lowered : tie.Need-mul-lowered Inv-loop μ-loop

@@ -1,3 +1,4 @@
+-- `slot_at` meets its contract: past the last place there is a free slot. Assumes nothing.
 use native.Mathlib.Omega.{arith}
 use mathlib.Core.Path.{_≡_, sym, _∙_}
 use lib.ListN.{length, length-map, List·getD-eq-default}
@@ -5,9 +6,6 @@ use Rattle.slots.specs.Decide.{freeSlot}
 use borrow.Author.Needs.{needs}
 use Rattle.table.proofs.slot_at.Statement.{statement}
 use Rattle.table.proofs.slot_at.Tie as tie
-use Rattle.table.proofs.slot_at.Reads as reads
-use Rattle.table.proofs.slot_at.Lts as lts
-use Rattle.slots.proofs.decide.free_slot.Reads as free-slot-reads
 
 mul-result : tie.Need-mul-result
 mul-result c = search needs
@@ -23,7 +21,7 @@ free-slot-requires c κs = search needs
 
 returns-2 : tie.Need-returns-2
 returns-2 c =
-    let size : length (c .before .before .args .t1 .slots) ≡ 64 = simp length-map at (c .before .before .good .0 .1 .1 .0 .1 .0 .1) in 
+    let size : length (c .before .before .args .t1 .slots) ≡ 64 = simp length-map at (c .before .before .good .0 .1 .1 .0 .1 .0 .1) in
     c .free-slot .ensures ∙ sym (List·getD-eq-default (c .before .before .args .t1 .slots) freeSlot {n = c .before .before .args .i} (omega arith))
 
 pub slot-at-spec : {M : Type 1} → statement M

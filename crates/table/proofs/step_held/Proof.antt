@@ -2,16 +2,9 @@
 use Rattle.table.proofs.Stepping.{step-held}
 use lib.ListN.{length, length-map}
 use mathlib.Core.Path.{_≡_}
-use native.Mathlib.Omega.{arith}
 use borrow.Author.Needs.{needs}
 use Rattle.table.proofs.step_held.Statement.{statement}
 use Rattle.table.proofs.step_held.Tie as tie
-use Rattle.table.proofs.step_held.Reads as reads
-use Rattle.table.proofs.step_held.Lts as lts
-use Rattle.slots.proofs.decide.decide.Reads as decide-reads
-use Rattle.slots.proofs.look.start.Reads as start-reads
-use Rattle.table.proofs.changed.Reads as changed-reads
-use Rattle.table.proofs.find_oldest.Reads as find-oldest-reads
 
 start-requires : tie.Need-start-requires
 start-requires c κs = search needs
@@ -26,7 +19,7 @@ changed-requires : tie.Need-changed-requires
 changed-requires c κs = search needs
 
 returns : tie.Need-returns
-returns c = 
+returns c =
     let size : length (c .before .before .before .before .args .t .slots) ≡ 64 = simp length-map at (c .before .before .before .before .good .1 .0 .1 .1 .0 .1 .0 .1) in
     step-held _ _ size (c .before .before .before .start .ensures) (c .before .before .find-oldest .ensures) (c .before .decide .ensures) (c .changed .ensures)
 

@@ -1,5 +1,6 @@
+-- `waiting_held` meets its contract: those counted and those left are all. Assumes nothing.
 use Prim.Native.Nat.{_+_, _-_, _≤_}
-use mathlib.Core.Path.{_≡_, refl}
+use mathlib.Core.Path.{_≡_}
 use lib.ListN.{length, drop, length-map}
 use Rattle.pending.specs.Table.{waiting}
 use Rattle.table.proofs.Loops.{counted-next, counted-all}
@@ -7,9 +8,6 @@ use borrow.Author.Needs.{needs}
 use native.Mathlib.Omega.{arith}
 use Rattle.table.proofs.waiting_held.Statement.{statement}
 use Rattle.table.proofs.waiting_held.Tie as tie
-use Rattle.table.proofs.waiting_held.Reads as reads
-use Rattle.table.proofs.waiting_held.Lts as lts
-use Rattle.table.proofs.waits_one.Reads as waits-one-reads
 
 abbrev Inv-loop : tie.InvT-loop
 Inv-loop t n₀ i₀ n i = (i ≤ 64) × (n ≤ i) × (n + waiting (drop i (t .slots)) ≡ waiting (t .slots))
@@ -40,12 +38,12 @@ loop-less c = search needs
 
 loop-again : tie.Need-loop-again Inv-loop μ-loop
 loop-again c =
-    let size : length (c .before .before .before .before .args .t1 .slots) ≡ 64 = simp length-map at (c .before .before .before .before .good .0 .1 .1 .0 .1 .0 .1) in 
+    let size : length (c .before .before .before .before .args .t1 .slots) ≡ 64 = simp length-map at (c .before .before .before .before .good .0 .1 .1 .0 .1 .0 .1) in
     (omega arith, omega (arith, c .waits-one .ensures .1), counted-next (c .before .before .before .before .args .t1 .slots) (c .before .before .before .loop .i) (c .before .before .before .loop .n) (omega arith) (c .waits-one .ensures .0) (c .before .before .before .loop .inv .2))
 
 returns : tie.Need-returns Inv-loop μ-loop
 returns c =
-    let size : length (c .before .before .args .t1 .slots) ≡ 64 = simp length-map at (c .before .before .good .0 .1 .1 .0 .1 .0 .1) in 
+    let size : length (c .before .before .args .t1 .slots) ≡ 64 = simp length-map at (c .before .before .good .0 .1 .1 .0 .1 .0 .1) in
     counted-all (c .before .before .args .t1 .slots) (c .before .loop .i) (c .before .loop .n) (omega arith) (c .before .loop .inv .2)
 
 pub waiting-held-spec : {M : Type 1} → statement M

@@ -1,11 +1,9 @@
+-- `waits_one` meets its contract, by the rank. Assumes nothing.
 use borrow.Author.Tests.{eq-eqb, ne-eqb}
 use Rattle.pending.specs.Table.{waiting}
-use borrow.Author.Needs.{needs}
 use native.Mathlib.Omega.{arith}
 use Rattle.table.proofs.waits_one.Statement.{statement}
 use Rattle.table.proofs.waits_one.Tie as tie
-use Rattle.table.proofs.waits_one.Reads as reads
-use Rattle.table.proofs.waits_one.Lts as lts
 
 returns : tie.Need-returns
 unfolding waiting

@@ -1,16 +1,10 @@
 -- `read_all` meets its contract: the turns fall. Assumes nothing.
 use lib.ListN.{length}
-use mathlib.Core.Path.{_≡_, refl}
+use mathlib.Core.Path.{_≡_}
 use Prim.Native.Nat.{_≤_}
 use borrow.Author.Needs.{needs}
-use native.Mathlib.Omega.{arith}
 use Rattle.unanswered.proofs.read_all.Statement.{statement}
 use Rattle.unanswered.proofs.read_all.Tie as tie
-use Rattle.unanswered.proofs.read_all.Reads as reads
-use Rattle.unanswered.proofs.read_all.Lts as lts
-use Rattle.unanswered.proofs.read_next.Reads as read-next-reads
-use Rattle.unanswered.proofs.state.begun.Reads as begun-reads
-use Rattle.unanswered.proofs.state.unread.Reads as unread-reads
 
 abbrev Inv-loop : tie.InvT-loop
 Inv-loop input₀ unit₀ out₀ state₀ turns₀ input unit out state turns = (length input ≡ length input₀) × (length unit ≡ length unit₀) × (length out ≡ length out₀) × (state .held ≤ length unit₀)

@@ -1,17 +1,11 @@
 -- `read_next` meets its contract: what was read lies in the buffer. Assumes nothing.
 use Rattle.channel.proofs.Moves.{got-bytes}
 use lib.Seq.{length-take-le}
-use mathlib.Core.Path.{_≡_, sym, refl}
+use mathlib.Core.Path.{sym}
 use native.Mathlib.Omega.{arith}
 use borrow.Author.Needs.{needs}
 use Rattle.unanswered.proofs.read_next.Statement.{statement}
 use Rattle.unanswered.proofs.read_next.Tie as tie
-use Rattle.unanswered.proofs.read_next.Reads as reads
-use Rattle.unanswered.proofs.read_next.Lts as lts
-use Rattle.channel.proofs.reading.read_some.Reads as read-some-reads
-use Rattle.unanswered.proofs.end_input.Reads as end-input-reads
-use Rattle.unanswered.proofs.state.unread.Reads as unread-reads
-use Rattle.unanswered.proofs.take_part.Reads as take-part-reads
 
 read-some-requires : tie.Need-read-some-requires
 read-some-requires c κs = search needs

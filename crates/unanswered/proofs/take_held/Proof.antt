@@ -1,13 +1,9 @@
 -- `take_held` meets its contract: what is held lies in the unit buffer. Assumes nothing.
 use lib.Seq.{length-take-le}
-use mathlib.Core.Path.{_≡_, sym, refl}
-use native.Mathlib.Omega.{arith}
+use mathlib.Core.Path.{sym}
 use borrow.Author.Needs.{needs}
 use Rattle.unanswered.proofs.take_held.Statement.{statement}
 use Rattle.unanswered.proofs.take_held.Tie as tie
-use Rattle.unanswered.proofs.take_held.Reads as reads
-use Rattle.unanswered.proofs.take_held.Lts as lts
-use Rattle.unanswered.proofs.rows.say_line.Reads as say-line-reads
 
 slice-aggregate-say-line : tie.Need-slice-aggregate-say-line
 slice-aggregate-say-line c = sym (length-take-le _ _ (c .before .before .before .pre))

@@ -1,16 +1,11 @@
 -- `take_part` meets its contract: each feed takes some of the part. Assumes nothing.
 use lib.ListN.{length}
-use mathlib.Core.Path.{_≡_, refl}
+use mathlib.Core.Path.{_≡_}
 use Prim.Native.Nat.{_-_, _≤_}
 use borrow.Author.Needs.{needs}
 use native.Mathlib.Omega.{arith}
 use Rattle.unanswered.proofs.take_part.Statement.{statement}
 use Rattle.unanswered.proofs.take_part.Tie as tie
-use Rattle.unanswered.proofs.take_part.Reads as reads
-use Rattle.unanswered.proofs.take_part.Lts as lts
-use Rattle.framing.proofs.feed.Reads as feed-reads
-use Rattle.unanswered.proofs.state.closed.Reads as closed-reads
-use Rattle.unanswered.proofs.take_fed.Reads as take-fed-reads
 
 abbrev Inv-loop : tie.InvT-loop
 Inv-loop part unit₀ out₀ now₀ from₀ unit out now from = (length unit ≡ length unit₀) × (length out ≡ length out₀) × (from ≤ length part) × (now .held ≤ length unit₀)

@@ -1,13 +1,8 @@
 -- `put_answered` meets its contract: its parts one behind the other. Assumes nothing.
 use Rattle.unanswered_rows.proofs.Joining.{answered-row}
-use native.Mathlib.Omega.{arith}
 use borrow.Author.Needs.{needs}
 use Rattle.unanswered_rows.proofs.put_answered.Statement.{statement}
 use Rattle.unanswered_rows.proofs.put_answered.Tie as tie
-use Rattle.unanswered_rows.proofs.put_answered.Reads as reads
-use Rattle.unanswered_rows.proofs.put_answered.Lts as lts
-use Rattle.unanswered_rows.proofs.parts.put_number.Reads as put-number-reads
-use Rattle.unanswered_rows.proofs.parts.put_text.Reads as put-text-reads
 
 slice-aggregate-put-number : tie.Need-slice-aggregate-put-number
 slice-aggregate-put-number c = search needs

@@ -2,15 +2,8 @@
 use Rattle.unanswered_rows.specs.Rows.{fourText}
 use Rattle.unanswered_rows.proofs.Joining.{part-then}
 use borrow.Author.Needs.{needs}
-use native.Mathlib.Omega.{arith}
 use Rattle.unanswered_rows.proofs.put_four.Statement.{statement}
 use Rattle.unanswered_rows.proofs.put_four.Tie as tie
-use Rattle.unanswered_rows.proofs.put_four.Reads as reads
-use Rattle.unanswered_rows.proofs.put_four.Lts as lts
-use Rattle.unanswered_rows.proofs.hex.put_route.Reads as put-route-reads
-use Rattle.unanswered_rows.proofs.parts.put_number.Reads as put-number-reads
-use Rattle.unanswered_rows.proofs.parts.put_text.Reads as put-text-reads
-use Rattle.unanswered_rows.proofs.put_way.Reads as put-way-reads
 
 slice-aggregate-put-number : tie.Need-slice-aggregate-put-number
 slice-aggregate-put-number c = search needs

@@ -1,13 +1,8 @@
 -- `put_refused` meets its contract: its parts one behind the other. Assumes nothing.
 use Rattle.unanswered_rows.proofs.Joining.{refused-row}
-use native.Mathlib.Omega.{arith}
 use borrow.Author.Needs.{needs}
 use Rattle.unanswered_rows.proofs.put_refused.Statement.{statement}
 use Rattle.unanswered_rows.proofs.put_refused.Tie as tie
-use Rattle.unanswered_rows.proofs.put_refused.Reads as reads
-use Rattle.unanswered_rows.proofs.put_refused.Lts as lts
-use Rattle.unanswered_rows.proofs.parts.put_number.Reads as put-number-reads
-use Rattle.unanswered_rows.proofs.parts.put_text.Reads as put-text-reads
 
 slice-aggregate-put-number : tie.Need-slice-aggregate-put-number
 slice-aggregate-put-number c = search needs

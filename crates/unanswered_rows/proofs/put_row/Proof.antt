@@ -2,15 +2,9 @@
 use Rattle.unanswered_rows.specs.Rows.{rowText}
 use mathlib.Core.Path.{refl}
 use Rattle.unanswered_rows.proofs.Joining.{known-row}
-use native.Mathlib.Omega.{arith}
 use borrow.Author.Needs.{needs}
 use Rattle.unanswered_rows.proofs.put_row.Statement.{statement}
 use Rattle.unanswered_rows.proofs.put_row.Tie as tie
-use Rattle.unanswered_rows.proofs.put_row.Reads as reads
-use Rattle.unanswered_rows.proofs.put_row.Lts as lts
-use Rattle.unanswered_rows.proofs.put_answered.Reads as put-answered-reads
-use Rattle.unanswered_rows.proofs.put_refused.Reads as put-refused-reads
-use Rattle.unanswered_rows.proofs.put_word.Reads as put-word-reads
 
 enum-told : tie.Need-enum-told
 enum-told c = search needs

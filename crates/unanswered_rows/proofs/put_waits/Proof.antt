@@ -2,13 +2,8 @@
 use Rattle.unanswered_rows.specs.Rows.{waitsRow}
 use Rattle.unanswered_rows.proofs.Joining.{part-then}
 use borrow.Author.Needs.{needs}
-use native.Mathlib.Omega.{arith}
 use Rattle.unanswered_rows.proofs.put_waits.Statement.{statement}
 use Rattle.unanswered_rows.proofs.put_waits.Tie as tie
-use Rattle.unanswered_rows.proofs.put_waits.Reads as reads
-use Rattle.unanswered_rows.proofs.put_waits.Lts as lts
-use Rattle.unanswered_rows.proofs.put_four.Reads as put-four-reads
-use Rattle.unanswered_rows.proofs.put_when.Reads as put-when-reads
 
 put-when-requires : tie.Need-put-when-requires
 put-when-requires c κs = search needs

@@ -6,9 +6,6 @@ use native.Mathlib.Omega.{arith}
 use borrow.Author.Needs.{needs}
 use Rattle.unanswered_rows.proofs.put_way.Statement.{statement}
 use Rattle.unanswered_rows.proofs.put_way.Tie as tie
-use Rattle.unanswered_rows.proofs.put_way.Reads as reads
-use Rattle.unanswered_rows.proofs.put_way.Lts as lts
-use Rattle.unanswered_rows.proofs.parts.put_text.Reads as put-text-reads
 
 slice-aggregate-put-text : tie.Need-slice-aggregate-put-text
 slice-aggregate-put-text c = search needs

@@ -1,15 +1,9 @@
 -- `put_when` meets its contract: its parts one behind the other. Assumes nothing.
 use Rattle.unanswered_rows.specs.Rows.{whenText}
 use Rattle.unanswered_rows.proofs.Joining.{part-then}
-use native.Mathlib.Omega.{arith}
 use borrow.Author.Needs.{needs}
 use Rattle.unanswered_rows.proofs.put_when.Statement.{statement}
 use Rattle.unanswered_rows.proofs.put_when.Tie as tie
-use Rattle.unanswered_rows.proofs.put_when.Reads as reads
-use Rattle.unanswered_rows.proofs.put_when.Lts as lts
-use Rattle.unanswered_rows.proofs.parts.put_number.Reads as put-number-reads
-use Rattle.unanswered_rows.proofs.parts.put_six.Reads as put-six-reads
-use Rattle.unanswered_rows.proofs.parts.put_text.Reads as put-text-reads
 
 slice-aggregate-put-number : tie.Need-slice-aggregate-put-number
 slice-aggregate-put-number c = search needs

@@ -1,13 +1,8 @@
 -- `put_word` meets its contract: the line's number, then the word. Assumes nothing.
 use Rattle.unanswered_rows.proofs.Joining.{word-row}
-use native.Mathlib.Omega.{arith}
 use borrow.Author.Needs.{needs}
 use Rattle.unanswered_rows.proofs.put_word.Statement.{statement}
 use Rattle.unanswered_rows.proofs.put_word.Tie as tie
-use Rattle.unanswered_rows.proofs.put_word.Reads as reads
-use Rattle.unanswered_rows.proofs.put_word.Lts as lts
-use Rattle.unanswered_rows.proofs.parts.put_number.Reads as put-number-reads
-use Rattle.unanswered_rows.proofs.parts.put_text.Reads as put-text-reads
 
 slice-aggregate-put-number : tie.Need-slice-aggregate-put-number
 slice-aggregate-put-number c = search needs

@@ -1,13 +1,8 @@
 -- `answer_row` meets its contract, by the gap. Assumes nothing.
 use Rattle.desk.proofs.Turning.{row-after, row-before}
-use native.Mathlib.Omega.{arith}
 use borrow.Author.Needs.{needs}
 use Rattle.desk.proofs.reports.answer_row.Statement.{statement}
 use Rattle.desk.proofs.reports.answer_row.Tie as tie
-use Rattle.desk.proofs.reports.answer_row.Reads as reads
-use Rattle.desk.proofs.reports.answer_row.Lts as lts
-use Rattle.desk.proofs.reports.moment.Reads as moment-reads
-use Rattle.unanswered_rows.proofs.gap.gap_of.Reads as gap-of-reads
 
 moment-requires : tie.Need-moment-requires
 moment-requires c κs = search needs

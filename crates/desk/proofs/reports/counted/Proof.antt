@@ -1,12 +1,8 @@
 -- `counted` meets its contract, by cases. Assumes nothing.
 use Rattle.desk.specs.Kept.{countsAfter}
-use native.Mathlib.Omega.{arith}
 use borrow.Author.Needs.{needs}
 use Rattle.desk.proofs.reports.counted.Statement.{statement}
 use Rattle.desk.proofs.reports.counted.Tie as tie
-use Rattle.desk.proofs.reports.counted.Reads as reads
-use Rattle.desk.proofs.reports.counted.Lts as lts
-use Rattle.channel.proofs.sink.sum.Reads as sum-reads
 
 sum-requires : tie.Need-sum-requires
 sum-requires c κs = search needs

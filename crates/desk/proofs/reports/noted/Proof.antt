@@ -1,13 +1,9 @@
 -- `noted` meets its contract, by cases. Assumes nothing.
 use mathlib.Core.Path.{_∙_}
 use Rattle.desk.specs.Kept.{notesAfter}
-use native.Mathlib.Omega.{arith}
 use borrow.Author.Needs.{needs}
 use Rattle.desk.proofs.reports.noted.Statement.{statement}
 use Rattle.desk.proofs.reports.noted.Tie as tie
-use Rattle.desk.proofs.reports.noted.Reads as reads
-use Rattle.desk.proofs.reports.noted.Lts as lts
-use Rattle.desk.proofs.reports.put_note.Reads as put-note-reads
 
 enum-known-report : tie.Need-enum-known-report
 enum-known-report c = search needs

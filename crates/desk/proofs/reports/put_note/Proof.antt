@@ -6,8 +6,6 @@ use native.Mathlib.Omega.{arith}
 use borrow.Author.Needs.{needs}
 use Rattle.desk.proofs.reports.put_note.Statement.{statement}
 use Rattle.desk.proofs.reports.put_note.Tie as tie
-use Rattle.desk.proofs.reports.put_note.Reads as reads
-use Rattle.desk.proofs.reports.put_note.Lts as lts
 
 mul-note : tie.Need-mul-note
 mul-note c = search needs

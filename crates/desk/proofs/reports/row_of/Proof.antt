@@ -1,14 +1,9 @@
 -- `row_of` meets its contract, by cases. Assumes nothing.
 use mathlib.Core.Path.{_∙_}
 use Rattle.desk.specs.Kept.{rowBy}
-use native.Mathlib.Omega.{arith}
 use borrow.Author.Needs.{needs}
 use Rattle.desk.proofs.reports.row_of.Statement.{statement}
 use Rattle.desk.proofs.reports.row_of.Tie as tie
-use Rattle.desk.proofs.reports.row_of.Reads as reads
-use Rattle.desk.proofs.reports.row_of.Lts as lts
-use Rattle.desk.proofs.note_at.Reads as note-at-reads
-use Rattle.desk.proofs.reports.answer_row.Reads as answer-row-reads
 
 enum-told : tie.Need-enum-told
 enum-told c = search needs

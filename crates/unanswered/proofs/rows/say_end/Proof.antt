@@ -1,17 +1,11 @@
 -- `say_end` puts its row within the buffer. Assumes nothing.
 use Rattle.listing_rows.proofs.Putting.{put-size}
 use lib.Seq.{length-take-le}
-use mathlib.Core.Path.{_≡_, sym, refl}
+use mathlib.Core.Path.{sym}
 use native.Mathlib.Omega.{arith}
 use borrow.Author.Needs.{needs}
 use Rattle.unanswered.proofs.rows.say_end.Statement.{statement}
 use Rattle.unanswered.proofs.rows.say_end.Tie as tie
-use Rattle.unanswered.proofs.rows.say_end.Reads as reads
-use Rattle.unanswered.proofs.rows.say_end.Lts as lts
-use Rattle.channel.proofs.sink.say.Reads as say-reads
-use Rattle.table.proofs.waiting_held.Reads as waiting-held-reads
-use Rattle.unanswered.proofs.rows.say_waiting.Reads as say-waiting-reads
-use Rattle.unanswered_rows.proofs.put_totals.Reads as put-totals-reads
 
 say-waiting-requires : tie.Need-say-waiting-requires
 say-waiting-requires c κs = search needs

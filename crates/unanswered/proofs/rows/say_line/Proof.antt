@@ -7,11 +7,6 @@ use native.Mathlib.Omega.{arith}
 use borrow.Author.Needs.{needs}
 use Rattle.unanswered.proofs.rows.say_line.Statement.{statement}
 use Rattle.unanswered.proofs.rows.say_line.Tie as tie
-use Rattle.unanswered.proofs.rows.say_line.Reads as reads
-use Rattle.unanswered.proofs.rows.say_line.Lts as lts
-use Rattle.channel.proofs.sink.say.Reads as say-reads
-use Rattle.desk.proofs.step_line.Reads as step-line-reads
-use Rattle.unanswered_rows.proofs.put_row.Reads as put-row-reads
 
 step-line-requires : tie.Need-step-line-requires
 step-line-requires c κs = search needs

@@ -3,13 +3,8 @@ use lib.ListN.{length}
 use mathlib.Core.Path.{_≡_}
 use Prim.Native.Nat.{_-_, _≤_}
 use borrow.Author.Needs.{needs}
-use native.Mathlib.Omega.{arith}
 use Rattle.unanswered.proofs.rows.say_waiting.Statement.{statement}
 use Rattle.unanswered.proofs.rows.say_waiting.Tie as tie
-use Rattle.unanswered.proofs.rows.say_waiting.Reads as reads
-use Rattle.unanswered.proofs.rows.say_waiting.Lts as lts
-use Rattle.table.proofs.place_of_rank.Reads as place-of-rank-reads
-use Rattle.unanswered.proofs.rows.say_waits.Reads as say-waits-reads
 
 abbrev Inv-loop : tie.InvT-loop
 Inv-loop desk out₀ table to₀ rank₀ out to rank = (length out ≡ length out₀) × (rank ≤ 65)

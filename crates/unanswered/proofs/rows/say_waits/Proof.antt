@@ -1,17 +1,11 @@
 -- `say_waits` puts its row within the buffer. Assumes nothing.
 use Rattle.listing_rows.proofs.Putting.{put-size}
 use lib.Seq.{length-take-le}
-use mathlib.Core.Path.{sym, refl}
+use mathlib.Core.Path.{sym}
 use native.Mathlib.Omega.{arith}
 use borrow.Author.Needs.{needs}
 use Rattle.unanswered.proofs.rows.say_waits.Statement.{statement}
 use Rattle.unanswered.proofs.rows.say_waits.Tie as tie
-use Rattle.unanswered.proofs.rows.say_waits.Reads as reads
-use Rattle.unanswered.proofs.rows.say_waits.Lts as lts
-use Rattle.channel.proofs.sink.say.Reads as say-reads
-use Rattle.desk.proofs.note_at.Reads as note-at-reads
-use Rattle.table.proofs.slot_at.Reads as slot-at-reads
-use Rattle.unanswered_rows.proofs.put_waits.Reads as put-waits-reads
 
 slot-at-requires : tie.Need-slot-at-requires
 slot-at-requires c κs = search needs

@@ -1,14 +1,8 @@
 -- `gap_of` meets its contract: the times as they are carried are the times. Assumes nothing.
 use Rattle.unanswered_rows.proofs.Gaps.{before-le, after-le, gap-before, gap-after}
-use native.Mathlib.Omega.{arith}
 use borrow.Author.Needs.{needs}
 use Rattle.unanswered_rows.proofs.gap.gap_of.Statement.{statement}
 use Rattle.unanswered_rows.proofs.gap.gap_of.Tie as tie
-use Rattle.unanswered_rows.proofs.gap.gap_of.Reads as reads
-use Rattle.unanswered_rows.proofs.gap.gap_of.Lts as lts
-use Rattle.unanswered_rows.proofs.gap.carried.Reads as carried-reads
-use Rattle.unanswered_rows.proofs.gap.distance.Reads as distance-reads
-use Rattle.unanswered_rows.proofs.gap.is_before.Reads as is-before-reads
 
 carried-requires : tie.Need-carried-requires
 carried-requires c κs = search needs

@@ -2,12 +2,9 @@
 use Rattle.unanswered_rows.specs.Gap.{instant}
 use mathlib.Core.Path.{sym}
 use borrow.Author.Tests.{lt-ltb, le-ltb}
-use borrow.Author.Needs.{needs}
 use native.Mathlib.Omega.{arith}
 use Rattle.unanswered_rows.proofs.gap.is_before.Statement.{statement}
 use Rattle.unanswered_rows.proofs.gap.is_before.Tie as tie
-use Rattle.unanswered_rows.proofs.gap.is_before.Reads as reads
-use Rattle.unanswered_rows.proofs.gap.is_before.Lts as lts
 
 returns : tie.Need-returns
 returns c = sym (lt-ltb (instant (c .before .before .before .args .a)) (instant (c .before .before .before .args .b)) (omega arith))

@@ -1,14 +1,8 @@
 -- `put_route` meets its contract: sixteen digits without the zeros in front. Assumes nothing.
 use Rattle.unanswered_rows.proofs.Digits.{route-part, zeros-within}
 use borrow.Author.Needs.{needs}
-use native.Mathlib.Omega.{arith}
 use Rattle.unanswered_rows.proofs.hex.put_route.Statement.{statement}
 use Rattle.unanswered_rows.proofs.hex.put_route.Tie as tie
-use Rattle.unanswered_rows.proofs.hex.put_route.Reads as reads
-use Rattle.unanswered_rows.proofs.hex.put_route.Lts as lts
-use Rattle.print.proofs.hex.put_dword.Reads as put-dword-reads
-use Rattle.print.proofs.put.put.Reads as put-reads
-use Rattle.unanswered_rows.proofs.hex.zeros_end.Reads as zeros-end-reads
 
 slice-aggregate-put-dword : tie.Need-slice-aggregate-put-dword
 slice-aggregate-put-dword c = search needs

@@ -8,8 +8,6 @@ use borrow.Author.Needs.{needs}
 use native.Mathlib.Omega.{arith}
 use Rattle.unanswered_rows.proofs.hex.zeros_end.Statement.{statement}
 use Rattle.unanswered_rows.proofs.hex.zeros_end.Tie as tie
-use Rattle.unanswered_rows.proofs.hex.zeros_end.Reads as reads
-use Rattle.unanswered_rows.proofs.hex.zeros_end.Lts as lts
 
 abbrev Inv-loop : tie.InvT-loop
 Inv-loop digits i₀ i = (i ≤ 15) × (zerosIn 15 digits ≡ i + zerosIn (15 - i) (drop i digits))

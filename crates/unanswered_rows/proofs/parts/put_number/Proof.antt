@@ -1,13 +1,8 @@
 -- `put_number` meets its contract: the word, then the number. Assumes nothing.
 use Rattle.unanswered_rows.proofs.Joining.{number-part}
-use native.Mathlib.Omega.{arith}
 use borrow.Author.Needs.{needs}
 use Rattle.unanswered_rows.proofs.parts.put_number.Statement.{statement}
 use Rattle.unanswered_rows.proofs.parts.put_number.Tie as tie
-use Rattle.unanswered_rows.proofs.parts.put_number.Reads as reads
-use Rattle.unanswered_rows.proofs.parts.put_number.Lts as lts
-use Rattle.print.proofs.put.put.Reads as put-reads
-use Rattle.print.proofs.put.put_decimal.Reads as put-decimal-reads
 
 put-requires : tie.Need-put-requires
 put-requires c κs = search needs

@@ -1,14 +1,8 @@
 -- `put_six` meets its contract: the last six digits of twenty, or more. Assumes nothing.
 use Rattle.unanswered_rows.proofs.Digits.{six-part}
-use native.Mathlib.Omega.{arith}
 use borrow.Author.Needs.{needs}
 use Rattle.unanswered_rows.proofs.parts.put_six.Statement.{statement}
 use Rattle.unanswered_rows.proofs.parts.put_six.Tie as tie
-use Rattle.unanswered_rows.proofs.parts.put_six.Reads as reads
-use Rattle.unanswered_rows.proofs.parts.put_six.Lts as lts
-use Rattle.print.proofs.digits.digits_of.Reads as digits-of-reads
-use Rattle.print.proofs.put.put.Reads as put-reads
-use Rattle.unanswered_rows.proofs.parts.least.Reads as least-reads
 
 digits-of-requires : tie.Need-digits-of-requires
 digits-of-requires c κs = search needs

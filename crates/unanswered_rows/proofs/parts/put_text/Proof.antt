@@ -4,9 +4,6 @@ use native.Mathlib.Omega.{arith}
 use borrow.Author.Needs.{needs}
 use Rattle.unanswered_rows.proofs.parts.put_text.Statement.{statement}
 use Rattle.unanswered_rows.proofs.parts.put_text.Tie as tie
-use Rattle.unanswered_rows.proofs.parts.put_text.Reads as reads
-use Rattle.unanswered_rows.proofs.parts.put_text.Lts as lts
-use Rattle.print.proofs.put.put.Reads as put-reads
 
 put-requires : tie.Need-put-requires
 put-requires c κs = search needs

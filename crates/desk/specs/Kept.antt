@@ -22,6 +22,10 @@ oneMore n = min (n + 1) (2 ^ 64 - 1)
 abbrev pub noNote : Note
 noNote = record { line = 0; seconds = 0; microseconds = 0 }
 
+-- before the first line
+abbrev pub noCounts : Counts
+noCounts = record { lines = 0; entries = 0; taken = 0; answered = 0; away = 0; stray = 0 }
+
 -- what is kept of the entry of the line behind so many
 abbrev pub noteOf : ℕ → Entry → Note
 noteOf lines e = record { line = oneMore lines; seconds = e .seconds; microseconds = e .microseconds }

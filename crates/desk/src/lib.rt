@@ -22,7 +22,7 @@ use unanswered_rows::Row;
 ghost use mathlib.Core.Path.{_≡_};
 ghost use lib.ListN.{getD, replicate};
 ghost use Rattle.slots.specs.Decide.{freeSlot};
-ghost use Rattle.desk.specs.Kept.{noNote};
+ghost use Rattle.desk.specs.Kept.{noNote, noCounts};
 ghost use Rattle.desk.specs.Turn.{Entered, Refusing, Turned};
 
 pub struct Notes {
@@ -41,7 +41,7 @@ pub struct Turn {
 }
 
 pub fn begin() -> Desk
-    ensures { λ r. ⌜ (r .table .slots ≡ replicate 64 freeSlot) × (r .notes .of ≡ replicate 64 noNote) × (r .counts .lines ≡ 0) ⌝ }
+    ensures { λ r. ⌜ (r .table .slots ≡ replicate 64 freeSlot) × (r .notes .of ≡ replicate 64 noNote) × (r .counts ≡ noCounts) ⌝ }
 {
     let note = Note {
         line: 0,

@@ -59,7 +59,7 @@ class Counts:
         self.moved += {"taken": 1, "answered": -1}.get(report[0], 0)
         waiting = outcome(self.reading.queue, slots)
         return not isinstance(waiting, int) and len(waiting) == self.before + self.moved and (
-            word in (None, report[0])) and [self.reading.four_in(slots[place]) for place in waiting] == self.line
+            word == report[0]) and [self.reading.four_in(slots[place]) for place in waiting] == self.line
 
 
 def judge_history(table, tally, reading, source, name, slots, listed):

@@ -83,8 +83,12 @@ def step(entry, slots):
 
 def on_list(entry, waiting, most):
     """The word, and the list behind it, of a plain list of fours that is cut to so many."""
-    if entry["dropped"] or entry["kind"] not in (1, 2, 3, 4) or entry["seq"] is None:
-        return None, waiting
+    if entry["dropped"]:
+        return "dropped", waiting
+    if entry["kind"] not in (1, 2, 3, 4):
+        return "other", waiting
+    if entry["seq"] is None:
+        return "no seq", waiting
     four = four_of(entry)
     if entry["kind"] in REQUESTS:
         kept = (waiting + [four])[:most]

@@ -12,7 +12,7 @@ use Rattle.entry.specs.declared.optional.MaybeByte.the-variants as B
 use Rattle.slots.specs.declared.Four.{Four}
 use Rattle.slots.specs.declared.ask.Ask.{Ask}
 use Rattle.slots.specs.declared.ask.Ask.the-variants as A
-use Rattle.slots.specs.Ask.{wayOf, fourOf, byKind, bySeq, askOf}
+use Rattle.slots.specs.Ask.{directionOf, fourOf, byKind, bySeq, askOf}
 use Rattle.matched.specs.Asks.{Under, Matchable, Asks, dropped, other, no-seq, request, response}
 use Rattle.matched.proofs.Counts.{positive}
 use Rattle.matched.proofs.Fours.{four-by-parts}
@@ -51,7 +51,7 @@ inside-test k a b = let e = ne-eqb k 0 (λ q. omega arith) in let f = le-ltb 4 k
 
 -- ---- the four
 under : (e : Entry) (seq : ℕ) → e .seq ≡ B.Is seq → Under e (fourOf e seq)
-unfolding fourOf wayOf
+unfolding fourOf directionOf
 under e seq q =
     record {
       domain = refl;
@@ -62,13 +62,13 @@ under e seq q =
     }
 
 under-is : (e : Entry) (four : Four) → Under e four → fourOf e (four .seq) ≡ four
-unfolding fourOf wayOf
+unfolding fourOf directionOf
 under-is e four u =
-    four-by-parts (fourOf e (four .seq)) four (sym (u .route)) (sym (u .domain)) refl (way (ltb 2 (e .kind)) refl)
+    four-by-parts (fourOf e (four .seq)) four (sym (u .route)) (sym (u .domain)) refl (direction (ltb 2 (e .kind)) refl)
   where
-    way : (b : Bool) → ltb 2 (e .kind) ≡ b → cond b 1 0 ≡ four .write
-    way true h = sym (u .writes (ltb-true 2 (e .kind) h))
-    way false h = sym (u .reads (ltb-false 2 (e .kind) h))
+    direction : (b : Bool) → ltb 2 (e .kind) ≡ b → cond b 1 0 ≡ four .write
+    direction true h = sym (u .writes (ltb-true 2 (e .kind) h))
+    direction false h = sym (u .reads (ltb-false 2 (e .kind) h))
 
 -- ---- what is computed is asked
 asks-it : (e : Entry) → Asks e (askOf e)

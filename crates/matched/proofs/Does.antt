@@ -16,7 +16,7 @@ use Rattle.slots.specs.declared.ask.Ask.{Ask}
 use Rattle.slots.specs.declared.ask.Ask.the-variants as A
 use Rattle.slots.specs.declared.decide.Report.{Report}
 use Rattle.slots.specs.declared.decide.Report.the-variants as R
-use Rattle.slots.specs.Ask.{wayOf, fourOf, byKind, bySeq, askOf}
+use Rattle.slots.specs.Ask.{directionOf, fourOf, byKind, bySeq, askOf}
 use Rattle.pending.specs.Table.{rankAt, Table, Refuses}
 use Rattle.pending.specs.Step as S
 use Rattle.pending.specs.Step.{FirstFree, NoneFree, OldestWith, NoneWith, newcomer, freed, Step}
@@ -55,7 +55,7 @@ Plain (A.Response four) = Unit
 Plain (A.Rank k) = Unit
 
 plain-four : (e : Entry) (seq : ℕ) → (fourOf e seq .route < 2 ^ 63) × (fourOf e seq .write ≤ 1)
-unfolding fourOf wayOf
+unfolding fourOf directionOf
 plain-four e seq = (mod-lt (e .route) (lit< tt), by (ltb 2 (e .kind)))
   where
     by : (b : Bool) → cond b 1 0 ≤ 1

@@ -22,7 +22,7 @@ pub record Fits (s : Slot) (l : List Four) : Type 0 where
   pub within : s .rank ≤ length l
   pub placed : 0 < s .rank → s .four ≡ requestAt l (s .rank - 1)
   pub plain : 0 < s .rank → s .four .route < 2 ^ 63
-  pub way : 0 < s .rank → s .four .write ≤ 1
+  pub direction : 0 < s .rank → s .four .write ≤ 1
 
 pub holds-fits : {t : List Slot} {l : List Four} → Holds t l → (i : ℕ) → i < length t → Fits (getD t i freeSlot) l
 holds-fits hold i h =
@@ -30,7 +30,7 @@ holds-fits hold i h =
       within = hold .within i h;
       placed = λ w. hold .placed i (h, w);
       plain = λ w. hold .plain i (h, w);
-      way = λ w. hold .way i (h, w);
+      direction = λ w. hold .direction i (h, w);
     }
 
 fits-holds : (t : List Slot) (l : List Four) → waiting t ≡ length l → ((k : ℕ) → 0 < k → k ≤ length l → tally k t ≡ 1)
@@ -42,12 +42,12 @@ fits-holds t l many once fits =
       within = λ i h. fits i h .within;
       placed = λ i w. fits i (w .0) .placed (w .1);
       plain = λ i w. fits i (w .0) .plain (w .1);
-      way = λ i w. fits i (w .0) .way (w .1);
+      direction = λ i w. fits i (w .0) .direction (w .1);
     }
 
 -- ---- a request is taken
 module _ (t : List Slot) (l : List Four) (hold : Holds t l) (i : ℕ) (four : Four) (inside : i < length t) (free : rankAt t i ≡ 0)
-    (plain : four .route < 2 ^ 63) (way : four .write ≤ 1) where
+    (plain : four .route < 2 ^ 63) (direction : four .write ≤ 1) where
   abbrev longer : List Four
   longer = l ++ (four ∷ [])
 
@@ -65,7 +65,7 @@ module _ (t : List Slot) (l : List Four) (hold : Holds t l) (i : ℕ) (four : Fo
         within = omega arith;
         placed = λ w. sym (getD-at l four [] (freeSlot .four) (waiting t + 1 - 1) (omega arith));
         plain = λ w. plain;
-        way = λ w. way;
+        direction = λ w. direction;
       }
 
   -- who waited before keeps the place
@@ -76,7 +76,7 @@ module _ (t : List Slot) (l : List Four) (hold : Holds t l) (i : ℕ) (four : Fo
         within = omega arith;
         placed = λ w. f .placed w ∙ sym (List·getD-append l (four ∷ []) (freeSlot .four) (s .rank - 1) (omega arith));
         plain = f .plain;
-        way = f .way;
+        direction = f .direction;
       }
 
   taken-fits : (j : ℕ) → j < length t → Fits (getD (set t i (newcomer t four)) j freeSlot) longer
@@ -140,7 +140,7 @@ module _ (t : List Slot) (l : List Four) (hold : Holds t l) (r : ℕ) (some : 0 
         within = omega arith;
         placed = λ w. absurd (omega arith);
         plain = λ w. absurd (omega arith);
-        way = λ w. absurd (omega arith);
+        direction = λ w. absurd (omega arith);
       }
   lowered-fits s y f (later a b) =
       let n = short in let p = front in let v = f .within in
@@ -150,7 +150,7 @@ module _ (t : List Slot) (l : List Four) (hold : Holds t l) (r : ℕ) (some : 0 
         placed = λ w. f .placed (omega arith) ∙ ap (requestAt l) d
             ∙ sym (ap (requestAt shorter) c ∙ getD-append-add (take (r - 1) l) (drop r l) (y - r) (freeSlot .four) ∙ getD-drop r l (y - r) (freeSlot .four));
         plain = λ w. f .plain (omega arith);
-        way = λ w. f .way (omega arith);
+        direction = λ w. f .direction (omega arith);
       }
   lowered-fits s y f (earlier a b) =
       let n = short in let p = front in let v = f .within in let d : s .rank - 1 ≡ y - 1 = omega arith in
@@ -159,7 +159,7 @@ module _ (t : List Slot) (l : List Four) (hold : Holds t l) (r : ℕ) (some : 0 
         placed = λ w. f .placed (omega arith) ∙ ap (requestAt l) d
             ∙ sym (List·getD-append (take (r - 1) l) (drop r l) (freeSlot .four) (y - 1) (omega arith) ∙ getD-take (r - 1) l (y - 1) (freeSlot .four) (omega arith));
         plain = λ w. f .plain (omega arith);
-        way = λ w. f .way (omega arith);
+        direction = λ w. f .direction (omega arith);
       }
 
   freed-once : (k : ℕ) → 0 < k → k ≤ length shorter → tally k (freed r t) ≡ 1

@@ -9,6 +9,7 @@ pub mod Acts
 pub mod One
 pub mod Some
 pub mod Slots
+pub mod InPlace
 pub mod ReadOut
 pub mod Refusals
 pub mod Histories

@@ -56,7 +56,7 @@ sound-holds t g =
       within = λ i h. let w = g .within i h in omega arith;
       placed = λ i w. placed i w (g .within i (w .0));
       plain = g .plain;
-      way = g .way;
+      direction = g .direction;
     }
   where
     placed : (i : ℕ) → Waits t i → rankAt t i ≤ waiting t → fourAt t i ≡ requestAt (foursFrom (waiting t) 1 t) (rankAt t i - 1)
@@ -75,7 +75,7 @@ holds-sound t l hold =
       within = λ i h. let w = hold .within i h in omega arith;
       once = λ k a b. hold .once k a (omega arith);
       plain = hold .plain;
-      way = hold .way;
+      direction = hold .direction;
     }
 
 pub list-fits : (t : List Slot) (l : List Four) → Holds t l → length l ≤ length t
@@ -109,7 +109,7 @@ empty-holds t h =
       within = λ i g. let z = h i g in omega arith;
       placed = λ i w. let z = h i (w .0) in let v = w .1 in absurd (omega arith);
       plain = λ i w. let z = h i (w .0) in let v = w .1 in absurd (omega arith);
-      way = λ i w. let z = h i (w .0) in let v = w .1 in absurd (omega arith);
+      direction = λ i w. let z = h i (w .0) in let v = w .1 in absurd (omega arith);
     }
 
 -- a table is not refused

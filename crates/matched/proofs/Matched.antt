@@ -6,6 +6,7 @@ use Rattle.matched.proofs.Acts.{same-size, acts-as-list, stays-a-table,
 use Rattle.matched.proofs.Some.{some-answer, some-history}
 use Rattle.matched.proofs.One.{one-answer, one-count, one-place, one-history}
 use Rattle.matched.proofs.Slots.{each-slot-taken, each-slot-answered, else-unchanged, turned-away-exactly, stray-exactly, used-again, used-at-once}
+use Rattle.matched.proofs.InPlace.{stays-in-place}
 use Rattle.matched.proofs.ReadOut.{count-of-the-list, place-in-the-list, nowhere-else}
 use Rattle.matched.proofs.Refusals.{count-refused-alike, place-refused-alike, fifty-exactly, fifty-one-exactly, no-other-number, refusal-changes-nothing, never-refused}
 use Rattle.matched.proofs.Histories.{replays-as-list, counted, from-empty, cleared-is-empty, cleared-is-a-table}
@@ -28,6 +29,7 @@ matched =
       each-slot-taken = each-slot-taken;
       each-slot-answered = each-slot-answered;
       else-unchanged = else-unchanged;
+      stays-in-place = stays-in-place;
       turned-away-exactly = turned-away-exactly;
       stray-exactly = stray-exactly;
       used-again = used-again;

@@ -10,7 +10,7 @@ use Rattle.entry.specs.declared.optional.MaybeByte.the-variants as B
 use Rattle.slots.specs.declared.Four.{Four}
 use Rattle.slots.specs.declared.Slot.{Slot}
 use Rattle.slots.specs.declared.decide.Report.the-variants as R
-use Rattle.slots.specs.Ask.{wayOf, fourOf, byKind, askOf}
+use Rattle.slots.specs.Ask.{directionOf, fourOf, byKind, askOf}
 use Rattle.slots.specs.Decide.{freeSlot, lowerOf}
 use Rattle.pending.specs.Table.{rankAt, fourAt, waiting, tally, Table, by-size, by-ranks}
 use Rattle.pending.specs.Step.{FirstFree, NoneWith, Step, refused-with, dropped, other, no-seq, taken, turned-away, answered, stray}
@@ -22,7 +22,7 @@ use Rattle.matched.proofs.Histories.{cleared-is-a-table}
 
 -- one word for all that a step computes with
 computes : Unit {0}
-unfolding wayOf fourOf byKind askOf lowerOf waiting tally
+unfolding directionOf fourOf byKind askOf lowerOf waiting tally
 computes = tt
 
 one : (P : ℕ → Type 0) → P 0 → (i : ℕ) → i < 1 → P i
@@ -84,10 +84,10 @@ step-4 = stray table-2 refl (none-with (r 1) (r 2) _ (λ h q. other-domain q) (�
 
 step-5 : Step (entry 4 false 0 7 (B.Is 5)) (pair (r 1) (r 2)) R.Stray (pair (r 1) (r 2))
 unfolding computes
-step-5 = stray table-2 refl (none-with (r 1) (r 2) _ (λ h q. other-way q) (λ h q. other-way q))
+step-5 = stray table-2 refl (none-with (r 1) (r 2) _ (λ h q. other-direction q) (λ h q. other-direction q))
   where
-    other-way : r 0 .four ≡ record { route = 7; domain = 0; seq = 5; write = 1 } → ⊥
-    other-way q = let z : _≡_ {A = ℕ} 0 1 = ap (λ (x : Four). x .write) q in omega arith
+    other-direction : r 0 .four ≡ record { route = 7; domain = 0; seq = 5; write = 1 } → ⊥
+    other-direction q = let z : _≡_ {A = ℕ} 0 1 = ap (λ (x : Four). x .write) q in omega arith
 
 step-6 : Step (entry 2 false 0 (2 ^ 63 + 7) (B.Is 5)) (pair (r 1) (r 2)) (R.Answered 0) (pair (r 0) (r 1))
 unfolding computes
@@ -168,9 +168,10 @@ worked =
       waits = refl;
       no-slot = λ e. refused-with (by-size (λ s. let h = s .0 in omega arith));
       too-many = λ e. refused-with (by-size (λ s. let h = s .1 in omega arith));
+      too-many-and-broken = λ e. refused-with (by-size (λ s. let h = s .1 in omega arith));
       rank-missing = λ e. refused-with (by-ranks (omega arith, omega arith) (λ s. let h = s .within 0 (omega arith) in omega arith));
       rank-twice = λ e. refused-with (by-ranks (omega arith, omega arith) (λ s. let h = s .once 1 (omega arith) (omega arith) in omega arith));
       top-bit = λ e. refused-with (by-ranks (omega arith, omega arith) (λ s. let h = s .plain 0 (omega arith, omega arith) in omega arith));
-      neither-way = λ e. refused-with (by-ranks (omega arith, omega arith) (λ s. let h = s .way 0 (omega arith, omega arith) in omega arith));
+      neither-direction = λ e. refused-with (by-ranks (omega arith, omega arith) (λ s. let h = s .direction 0 (omega arith, omega arith) in omega arith));
       free-slot-unjudged = empty-is-a-table (slot 0 (2 ^ 63) 5 2 0 ∷ []) (omega arith, omega arith) (one (λ i. rankAt (slot 0 (2 ^ 63) 5 2 0 ∷ []) i ≡ 0) refl);
     }

@@ -24,7 +24,7 @@ pub record Holds (t : List Slot) (l : List Four) : Type 0 where
   -- No waiting slot's route has its top bit set.
   pub plain : (i : ℕ) → Waits t i → fourAt t i .route < 2 ^ 63
   -- Each waiting slot reads (0) or writes (1).
-  pub way : (i : ℕ) → Waits t i → fourAt t i .write ≤ 1
+  pub direction : (i : ℕ) → Waits t i → fourAt t i .write ≤ 1
 
 -- every slot is free
 abbrev pub Empty : List Slot → Type 0

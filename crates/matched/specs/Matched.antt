@@ -39,7 +39,7 @@ pub record AnsweredAt (t : List Slot) (four : Four) (i : ℕ) (u : List Slot) : 
   pub oldest : OldestWith t four i
   -- It is free now.
   pub free : rankAt u i ≡ 0
-  -- Each later one moved up by one.
+  -- The rank of each later one is one less.
   pub later : (j : ℕ) → rankAt t i < rankAt t j → rankAt u j + 1 ≡ rankAt t j
   -- Each earlier one, and each free slot, has its rank still.
   pub earlier : (j : ℕ) → rankAt t j < rankAt t i → rankAt u j ≡ rankAt t j
@@ -87,6 +87,9 @@ pub record Matched : Type 0 where
   -- Whatever else is reported or refused, no slot changes.
   pub else-unchanged : (e : Entry) (t u : List Slot) (r : Report) → Step e t r u → ((i : ℕ) → r ≡ R.Taken i → ⊥)
       → ((i : ℕ) → r ≡ R.Answered i → ⊥) → u ≡ t
+  -- A request stays in its slot, under its four, until it is answered; so a caller can keep what else is known of it beside the table.
+  pub stays-in-place : (e : Entry) (t u : List Slot) (r : Report) (j : ℕ) → Step e t r u → Waits t j → (r ≡ R.Answered j → ⊥)
+      → Waits u j × (fourAt u j ≡ fourAt t j)
   -- A request is turned away exactly when no slot is free.
   pub turned-away-exactly : (e : Entry) (t u : List Slot) (r : Report) (four : Four) → Table t → askOf e ≡ A.Request four → Step e t r u
       → (reportTold r ≡ is turned-away) ↔ NoneFree t

@@ -1,4 +1,5 @@
--- The plain list of waiting requests, the oldest first, and what an entry does to it. There are n places; nothing here knows of slots or ranks.
+-- The plain list of waiting requests, the oldest first, and what an entry does to it. There are n places. Of slots and ranks it knows nothing: the case of a rank
+-- stands for what no entry asks.
 use Prim.Native.Nat.{ℕ}
 use mathlib.Core.Bool.{Bool, false, cond, _||_}
 use mathlib.Core.List.{List, [], _∷_, _++_}

@@ -131,6 +131,8 @@ pub record Worked : Type 0 where
   pub no-slot : (e : Entry) → Step e [] (R.Refused 50) []
   -- 65 slots: 50.
   pub too-many : (e : Entry) → Step e (replicate 65 freeSlot) (R.Refused 50) (replicate 65 freeSlot)
+  -- 50 comes first: 65 slots that carry rank 1 each.
+  pub too-many-and-broken : (e : Entry) → Step e (replicate 65 (slot 0 7 5 0 1)) (R.Refused 50) (replicate 65 (slot 0 7 5 0 1))
   -- Rank 2 without rank 1: 51, whatever the entry.
   pub rank-missing : (e : Entry) → Step e (slot 0 7 5 0 2 ∷ []) (R.Refused 51) (slot 0 7 5 0 2 ∷ [])
   -- A rank twice: 51.
@@ -138,6 +140,6 @@ pub record Worked : Type 0 where
   -- A waiting slot's route with its top bit set: 51.
   pub top-bit : (e : Entry) → Step e (slot 0 (2 ^ 63) 5 0 1 ∷ []) (R.Refused 51) (slot 0 (2 ^ 63) 5 0 1 ∷ [])
   -- A waiting slot that neither reads nor writes: 51.
-  pub neither-way : (e : Entry) → Step e (slot 0 7 5 2 1 ∷ []) (R.Refused 51) (slot 0 7 5 2 1 ∷ [])
+  pub neither-direction : (e : Entry) → Step e (slot 0 7 5 2 1 ∷ []) (R.Refused 51) (slot 0 7 5 2 1 ∷ [])
   -- Of a free slot nothing but its rank is judged.
   pub free-slot-unjudged : Table (slot 0 (2 ^ 63) 5 2 0 ∷ [])

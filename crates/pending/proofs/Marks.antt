@@ -26,7 +26,7 @@ unlike q = absurd (let w : _≡_ {A = ℕ} 1 0 = ap (λ (b : Bool). cond {A = �
 pub record Whole (four : Four) (rank : ℕ) : Type 0 where
   pub low : rank ≤ 64
   pub plain : four .route < 2 ^ 63
-  pub way : four .write ≤ 1
+  pub direction : four .write ≤ 1
 
 pub whole-is : (four : Four) (rank : ℕ) → broken four rank ≡ false → Whole four rank
 unfolding broken
@@ -36,11 +36,11 @@ whole-is four rank h = by-a (ltb 64 rank) refl (ltb (2 ^ 63 - 1) (four .route)) 
     by-a true e b f c g q = unlike q
     by-a false e true f c g q = unlike q
     by-a false e false f true g q = unlike q
-    by-a false e false f false g q = record { low = ltb-false 64 rank e; plain = (let v = ltb-false (2 ^ 63 - 1) (four .route) f in omega (arith, v)); way = ltb-false 1 (four .write) g }
+    by-a false e false f false g q = record { low = ltb-false 64 rank e; plain = (let v = ltb-false (2 ^ 63 - 1) (four .route) f in omega (arith, v)); direction = ltb-false 1 (four .write) g }
 
 pub whole-not-broken : (four : Four) (rank : ℕ) → Whole four rank → broken four rank ≡ false
 unfolding broken
-whole-not-broken four rank w = rw (le-ltb 64 rank (w .low), le-ltb (2 ^ 63 - 1) (four .route) (let p = w .plain in omega (arith, p)), le-ltb 1 (four .write) (w .way))
+whole-not-broken four rank w = rw (le-ltb 64 rank (w .low), le-ltb (2 ^ 63 - 1) (four .route) (let p = w .plain in omega (arith, p)), le-ltb 1 (four .write) (w .direction))
 
 -- ---- the look at the ranks of a sound table
 pub record Ready (l : List Slot) (r : Ranks) : Type 0 where

@@ -60,7 +60,7 @@ module _ (t : List Slot) (sound : Sound t) (most : length t ≤ 64) where
     well = refl;
     room = (let b = w-most in omega (arith, b));
     small = pow-pos 64;
-    whole = (λ i g. whole-not-broken (fourAt t i) (rankAt t i) (record { low = (let a = sound .within i (g .0) in let b = w-most in omega (arith, a, b)); plain = sound .plain i g; way = sound .way i g }));
+    whole = (λ i g. whole-not-broken (fourAt t i) (rankAt t i) (record { low = (let a = sound .within i (g .0) in let b = w-most in omega (arith, a, b)); plain = sound .plain i g; direction = sound .direction i g }));
     once = (λ k. let a = zero-bits k in let b = ranks-are k in let c = at-most-one (ltb k w) in omega (arith, a, b, c));
   }
 
@@ -175,7 +175,7 @@ module _ (t : List Slot) (most : length t ≤ 64) where
         within = (λ i h. low (rankAt t i) (waiting t) (tally-in i (rankAt t i) t h refl) (λ k. f k));
         once = (λ k h g. one k h g (λ j. f j));
         plain = (λ i g. whole-is (fourAt t i) (rankAt t i) (m .whole i g) .plain);
-        way = (λ i g. whole-is (fourAt t i) (rankAt t i) (m .whole i g) .way);
+        direction = (λ i g. whole-is (fourAt t i) (rankAt t i) (m .whole i g) .direction);
       }
     where
       low : (x v : ℕ) → 0 < tally x t → ((k : ℕ) → tally (suc k) t ≡ cond (ltb k v) 1 0) → x ≤ v

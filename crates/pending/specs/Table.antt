@@ -44,7 +44,7 @@ pub record Sound (t : List Slot) : Type 0 where
   pub within : (i : ℕ) → i < length t → rankAt t i ≤ waiting t
   pub once : (k : ℕ) → 0 < k → k ≤ waiting t → tally k t ≡ 1
   pub plain : (i : ℕ) → Waits t i → fourAt t i .route < 2 ^ 63
-  pub way : (i : ℕ) → Waits t i → fourAt t i .write ≤ 1
+  pub direction : (i : ℕ) → Waits t i → fourAt t i .write ≤ 1
 
 pub record Table (t : List Slot) : Type 0 where
   pub sized : Sized t

@@ -70,6 +70,7 @@ pub fn oldest(slots: &[Slot], k: u32) -> Place
 }
 
 // ---- over the slice, slot by slot
+// One look at every slot: the first free one, the ranks, and the oldest that is asked for.
 fn find_oldest(slots: &[Slot], mut seen: Seen) -> Seen
     ensures { λ r. ⌜ r ≡ lookAll (now (slots .entry)) 0 seen ⌝ }
 {
@@ -90,7 +91,7 @@ fn take(slots: &mut [Slot], at: usize, slot: Slot)
     }
 }
 
-// The slot of a rank is free, and those that came later move up; rank 0 frees none.
+// The slot of a rank is free, and the rank of those that came later is one less; rank 0 frees none.
 fn free(slots: &mut [Slot], rank: u32)
     ensures { λ _. ⌜ now (slots .exit) ≡ freed rank (now (slots .entry)) ⌝ }
 {

@@ -11,12 +11,12 @@ use Rattle.slots.specs.declared.ask.Ask.{Ask}
 use Rattle.slots.specs.declared.ask.Ask.the-variants as A
 
 -- read (0), or write (1): the kinds 3 and 4
-unfoldable pub wayOf : ℕ → ℕ
-wayOf kind = cond (ltb 2 kind) 1 0
+unfoldable pub directionOf : ℕ → ℕ
+directionOf kind = cond (ltb 2 kind) 1 0
 
 -- domain, route without its top bit, `seq`, and read or write
 unfoldable pub fourOf : Entry → ℕ → Four
-fourOf e seq = record { route = e .route % 2 ^ 63; domain = e .domain; seq = seq; write = wayOf (e .kind) }
+fourOf e seq = record { route = e .route % 2 ^ 63; domain = e .domain; seq = seq; write = directionOf (e .kind) }
 
 unfoldable pub byKind : ℕ → Four → Ask
 byKind kind four = cond (eqb (kind % 2) 1) (A.Request four) (A.Response four)

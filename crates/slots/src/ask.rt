@@ -3,7 +3,7 @@ use crate::Four;
 use entry::Entry;
 use entry::optional::MaybeByte;
 ghost use mathlib.Core.Path.{_≡_};
-ghost use Rattle.slots.specs.Ask.{askOf, byKind, fourOf, wayOf};
+ghost use Rattle.slots.specs.Ask.{askOf, byKind, fourOf, directionOf};
 
 // The last one is no entry's: a caller asks for the slot that has this rank.
 pub enum Ask {
@@ -52,13 +52,13 @@ fn four_of(e: Entry, seq: u8) -> Four
         route: e.route % 0x8000_0000_0000_0000,
         domain: e.domain,
         seq: seq,
-        write: way_of(e.kind),
+        write: direction_of(e.kind),
     }
 }
 
 // Of the kinds 1 to 4 the last two write.
-fn way_of(kind: u8) -> u8
-    ensures { λ r. ⌜ r ≡ wayOf kind ⌝ }
+fn direction_of(kind: u8) -> u8
+    ensures { λ r. ⌜ r ≡ directionOf kind ⌝ }
 {
     if 2 < kind {
         return 1;

@@ -128,7 +128,7 @@ fn take_at(t: Table, at: usize, slot: Slot) -> Table
     next
 }
 
-// The slot of a rank is free, and those that came later move up; rank 0 frees none.
+// The slot of a rank is free, and the rank of those that came later is one less; rank 0 frees none.
 fn free_rank(t: Table, rank: u32) -> Table
     ensures { λ r. ⌜ r .slots ≡ freed rank (t .slots) ⌝ }
 {

@@ -21,7 +21,7 @@ use Rattle.pending.specs.Step.{OldestWith, NoneWith, newcomer, freed, Step}
 use Rattle.pending.specs.Words.{reportTold}
 use Rattle.matched.specs.Requests.{without, wordOf, nextOf}
 use Rattle.matched.specs.Holds.{requestAt, Holds, Empty}
-use Rattle.matched.proofs.Counts.{waiting-all, waiting-less}
+use Rattle.pending.proofs.Looks.{waiting-all, waiting-less}
 use Rattle.matched.proofs.Fours.{FirstAt, has-at, without-at, has-none, without-none}
 use Rattle.matched.proofs.Kept.{holds-take, holds-free}
 use Rattle.matched.proofs.Does.{Does, dropped, other, no-seq, taken, turned-away, answered, stray, Judged, refuses, does, judged, Plain, plain-ask}

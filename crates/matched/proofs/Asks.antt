@@ -14,8 +14,8 @@ use Rattle.slots.specs.declared.ask.Ask.{Ask}
 use Rattle.slots.specs.declared.ask.Ask.the-variants as A
 use Rattle.slots.specs.Ask.{directionOf, fourOf, byKind, bySeq, askOf}
 use Rattle.matched.specs.Asks.{Under, Matchable, Asks, dropped, other, no-seq, request, response}
-use Rattle.matched.proofs.Counts.{positive}
-use Rattle.matched.proofs.Fours.{four-by-parts}
+use Rattle.pending.proofs.Looks.{nonzero}
+use Rattle.pending.proofs.Fours.{four-by-parts}
 
 -- ---- the tests
 pub data Kind (k : ℕ) : Type 0 where
@@ -44,7 +44,7 @@ test-inside k h = by (eqb k 0) refl (ltb 4 k) refl h
     by : (b : Bool) → eqb k 0 ≡ b → (c : Bool) → ltb 4 k ≡ c → (b || c) ≡ false → (0 < k) × (k ≤ 4)
     by true e c f q = absurd (let z : _≡_ {A = ℕ} 0 1 = cc in omega arith)
     by false e true f q = absurd (let z : _≡_ {A = ℕ} 0 1 = cc in omega arith)
-    by false e false f q = (positive k e, ltb-false 4 k f)
+    by false e false f q = (nonzero k e, ltb-false 4 k f)
 
 inside-test : (k : ℕ) → 0 < k → k ≤ 4 → (eqb k 0 || ltb 4 k) ≡ false
 inside-test k a b = let e = ne-eqb k 0 (λ q. omega arith) in let f = le-ltb 4 k b in rw (e, f)

@@ -12,10 +12,7 @@ use Rattle.slots.specs.declared.Slot.{Slot}
 use Rattle.slots.specs.Decide.{lowerOf}
 use Rattle.pending.specs.Table.{rankAt, waiting, tally}
 use Rattle.pending.specs.Step.{freed}
-
-pub positive : (x : ℕ) → eqb x 0 ≡ false → 0 < x
-positive zero e = absurd (eqb-false 0 0 e refl)
-positive (suc x) e = omega arith
+use Rattle.pending.proofs.Sounds.{tally-in}
 
 same-test : (a b c d : ℕ) → (a ≡ b → c ≡ d) → (c ≡ d → a ≡ b) → eqb a b ≡ eqb c d
 same-test a b c d f g = by-test (eqb a b) refl
@@ -25,76 +22,25 @@ same-test a b c d f g = by-test (eqb a b) refl
     by-test false e = e ∙ sym (ne-eqb c d (λ q. eqb-false a b e (g q)))
 
 -- ---- which slots there are
-pub waiting-most : (t : List Slot) → waiting t ≤ length t
-unfolding waiting
-waiting-most [] = omega arith
-waiting-most (s ∷ t) = by-rank (waiting-most t) (eqb (s .rank) 0)
-  where
-    by-rank : waiting t ≤ length t → (b : Bool) → cond b 0 1 + waiting t ≤ suc (length t)
-    by-rank m true = omega arith
-    by-rank m false = omega arith
-
-pub waiting-all : (t : List Slot) → ((i : ℕ) → i < length t → 0 < rankAt t i) → waiting t ≡ length t
-unfolding waiting
-waiting-all [] h = refl
-waiting-all (s ∷ t) h =
-    let z = h 0 (omega arith) in
-    let d = ne-eqb (s .rank) 0 (λ q. omega arith) in let m = waiting-all t (λ i g. h (suc i) (omega arith)) in rw d (omega arith)
-
-pub waiting-less : (t : List Slot) (i : ℕ) → i < length t → rankAt t i ≡ 0 → waiting t < length t
-unfolding waiting
-waiting-less [] i h z = absurd (omega arith)
-waiting-less (s ∷ t) zero h z = let d = eq-eqb (s .rank) 0 z in let k = waiting-most t in rw d (omega arith)
-waiting-less (s ∷ t) (suc i) h z = by-rank (waiting-less t i (omega arith) z) (eqb (s .rank) 0)
-  where
-    by-rank : waiting t < length t → (b : Bool) → cond b 0 1 + waiting t < suc (length t)
-    by-rank m true = omega arith
-    by-rank m false = omega arith
-
 pub waiting-none : (t : List Slot) → ((i : ℕ) → i < length t → rankAt t i ≡ 0) → waiting t ≡ 0
 unfolding waiting
 waiting-none [] h = refl
 waiting-none (s ∷ t) h =
     let e = eq-eqb (s .rank) 0 (h 0 (omega arith)) in let m = waiting-none t (λ i g. h (suc i) (omega arith)) in rw e (omega arith)
 
-pub tally-none : (k : ℕ) (t : List Slot) → ((i : ℕ) → i < length t → rankAt t i ≡ k → ⊥) → tally k t ≡ 0
-unfolding tally
-tally-none k [] h = refl
-tally-none k (s ∷ t) h =
-    let d = ne-eqb (s .rank) k (h 0 (omega arith)) in let m = tally-none k t (λ i g. h (suc i) (omega arith)) in rw d (omega arith)
-
-pub tally-in : (k : ℕ) (t : List Slot) (i : ℕ) → i < length t → rankAt t i ≡ k → 0 < tally k t
-unfolding tally
-tally-in k [] i h e = absurd (omega arith)
-tally-in k (s ∷ t) zero h e = let q = eq-eqb (s .rank) k e in rw q (omega arith)
-tally-in k (s ∷ t) (suc i) h e = let m = tally-in k t i (omega arith) e in omega arith
-
--- where one slot has the rank, there is a place of it
-pub tally-some : (k : ℕ) (t : List Slot) → tally k t ≡ 1 → (i : ℕ) × ((i < length t) × (rankAt t i ≡ k))
-unfolding tally
-tally-some k [] h = absurd (omega arith)
-tally-some k (s ∷ t) h = by-rank (λ q. tally-some k t q) (eqb (s .rank) k) refl
-  where
-    by-rank : (tally k t ≡ 1 → (i : ℕ) × ((i < length t) × (rankAt t i ≡ k))) → (b : Bool) → eqb (s .rank) k ≡ b
-        → (i : ℕ) × ((i < length (s ∷ t)) × (rankAt (s ∷ t) i ≡ k))
-    by-rank more true e = (0, (omega arith, eqb-true (s .rank) k e))
-    by-rank more false e =
-        let q : 0 + tally k t ≡ 1 = ap (λ (b : Bool). cond b 1 0 + tally k t) (sym e) ∙ h in
-        let r = more (omega arith) in let a = r .1 .0 in (suc (r .0), (omega arith, r .1 .1))
-
--- and one place alone
+-- where a rank stands once, there is one place of it
 pub tally-one : (k : ℕ) (t : List Slot) (i j : ℕ) → tally k t ≡ 1 → i < length t → j < length t → rankAt t i ≡ k → rankAt t j ≡ k → i ≡ j
 unfolding tally
 tally-one k [] i j o hi hj ei ej = absurd (omega arith)
 tally-one k (s ∷ t) zero zero o hi hj ei ej = refl
 tally-one k (s ∷ t) zero (suc j) o hi hj ei ej =
-    let q = eq-eqb (s .rank) k ei in let m = tally-in k t j (omega arith) ej in
+    let q = eq-eqb (s .rank) k ei in let m = tally-in j k t (omega arith) ej in
     let a : 1 + tally k t ≡ 1 = ap (λ (b : Bool). cond b 1 0 + tally k t) (sym q) ∙ o in absurd (omega arith)
 tally-one k (s ∷ t) (suc i) zero o hi hj ei ej =
-    let q = eq-eqb (s .rank) k ej in let m = tally-in k t i (omega arith) ei in
+    let q = eq-eqb (s .rank) k ej in let m = tally-in i k t (omega arith) ei in
     let a : 1 + tally k t ≡ 1 = ap (λ (b : Bool). cond b 1 0 + tally k t) (sym q) ∙ o in absurd (omega arith)
 tally-one k (s ∷ t) (suc i) (suc j) o hi hj ei ej =
-    let m = tally-in k t i (omega arith) ei in ap suc (tally-one k t i j (rest (eqb (s .rank) k) o m) (omega arith) (omega arith) ei ej)
+    let m = tally-in i k t (omega arith) ei in ap suc (tally-one k t i j (rest (eqb (s .rank) k) o m) (omega arith) (omega arith) ei ej)
   where
     rest : (b : Bool) → cond b 1 0 + tally k t ≡ 1 → 0 < tally k t → tally k t ≡ 1
     rest true a m = absurd (omega arith)

@@ -1,45 +1,23 @@
--- Two fours that agree in each part are one, so `has` and `without` of the list speak of the first request that is the four: by induction over the list.
+-- `has` and `without` of the list speak of the first request that is the four: by induction over the list.
 -- Assumes nothing.
 use Prim.Native.Nat.{ℕ, zero, suc, _<_}
 use native.Mathlib.Omega.{arith}
-use mathlib.Core.Path.{_≡_, refl, ap}
-use mathlib.Core.Bool.{Bool, true, false, _&&_}
+use mathlib.Core.Path.{_≡_, refl}
+use mathlib.Core.Bool.{Bool, true, false}
 use mathlib.Core.List.{List, [], _∷_, _++_}
 use lib.ListN.{length, take, drop}
-use lib.Dec.{eqb}
-use borrow.Author.Tests.{eq-eqb, eqb-true}
 use Rattle.slots.specs.declared.Four.{Four}
 use Rattle.slots.specs.Look.{sameFour}
+use Rattle.pending.proofs.Fours.{one-four, same-four}
 use Rattle.matched.specs.Requests.{has, without}
 use Rattle.matched.specs.Holds.{requestAt}
 
-pub four-by-parts : (a b : Four) → a .route ≡ b .route → a .domain ≡ b .domain → a .seq ≡ b .seq → a .write ≡ b .write → a ≡ b
-four-by-parts a b p q r s = by (a .route) (b .route) p (a .domain) (b .domain) q (a .seq) (b .seq) r (a .write) (b .write) s
-  where
-    by : (p₁ p₂ : ℕ) → p₁ ≡ p₂ → (q₁ q₂ : ℕ) → q₁ ≡ q₂ → (r₁ r₂ : ℕ) → r₁ ≡ r₂ → (s₁ s₂ : ℕ) → s₁ ≡ s₂
-        → _≡_ {A = Four} (record { route = p₁; domain = q₁; seq = r₁; write = s₁ }) (record { route = p₂; domain = q₂; seq = r₂; write = s₂ })
-    by p₁ p₂ p q₁ q₂ q r₁ r₂ r s₁ s₂ s = rw (p, q, r, s)
-
-pub same-four : (a b : Four) → a ≡ b → sameFour a b ≡ true
-unfolding sameFour
-same-four a b e =
-    let p = eq-eqb (a .route) (b .route) (ap (λ (x : Four). x .route) e) in
-    let q = eq-eqb (a .domain) (b .domain) (ap (λ (x : Four). x .domain) e) in
-    let r = eq-eqb (a .seq) (b .seq) (ap (λ (x : Four). x .seq) e) in
-    let s = eq-eqb (a .write) (b .write) (ap (λ (x : Four). x .write) e) in rw (p, q, r, s)
-
 pub other-four : (a b : Four) → (a ≡ b → ⊥) → sameFour a b ≡ false
-unfolding sameFour
-other-four a b n = by-parts (eqb (a .route) (b .route)) refl (eqb (a .domain) (b .domain)) refl (eqb (a .seq) (b .seq)) refl (eqb (a .write) (b .write)) refl
+other-four a b n = by (sameFour a b) refl
   where
-    by-parts : (p : Bool) → eqb (a .route) (b .route) ≡ p → (q : Bool) → eqb (a .domain) (b .domain) ≡ q → (r : Bool) → eqb (a .seq) (b .seq) ≡ r
-        → (s : Bool) → eqb (a .write) (b .write) ≡ s → (p && q && r && s) ≡ false
-    by-parts false e q f r g s h = refl
-    by-parts true e false f r g s h = refl
-    by-parts true e true f false g s h = refl
-    by-parts true e true f true g false h = refl
-    by-parts true e true f true g true h =
-        absurd (n (four-by-parts a b (eqb-true (a .route) (b .route) e) (eqb-true (a .domain) (b .domain) f) (eqb-true (a .seq) (b .seq) g) (eqb-true (a .write) (b .write) h)))
+    by : (y : Bool) → sameFour a b ≡ y → sameFour a b ≡ false
+    by true e = absurd (n (one-four a b e))
+    by false e = e
 
 -- the first request that has the four stands at m
 pub record FirstAt (four : Four) (l : List Four) (m : ℕ) : Type 0 where

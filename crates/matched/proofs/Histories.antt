@@ -19,7 +19,7 @@ use Rattle.pending.specs.Step.{newcomer}
 use Rattle.pending.specs.Words.{reportTold}
 use Rattle.matched.specs.Requests.{nextOf, wordsOf, leftOf}
 use Rattle.matched.specs.Holds.{Holds, Empty}
-use Rattle.matched.specs.History.{History, none, more, isTaken, isAnswered, countOf, takenIn, answeredIn}
+use Rattle.matched.specs.History.{History, none, more, isTaken, isAnswered, howMany, takenIn, answeredIn}
 use Rattle.matched.proofs.Counts.{waiting-none, waiting-take, waiting-free}
 use Rattle.matched.proofs.Does.{Does, dropped, other, no-seq, taken, turned-away, answered, stray, Judged, refuses, does, judged}
 use Rattle.matched.proofs.Lists.{table-passes}
@@ -37,7 +37,7 @@ step-counts t u a r g (answered {four} {i} o) =
 step-counts t u a r g (stray f) = omega arith
 
 pub counted : (es : List Entry) (t u : List Slot) (rs : List Report) → Table t → History es t rs u → waiting t + takenIn rs ≡ answeredIn rs + waiting u
-unfolding countOf
+unfolding howMany
 counted es t u rs g none = omega arith
 counted es t u rs g (more {e} {es = es₁} {r} {rs = rs₁} {t₁} step h) =
     let m = counted es₁ t₁ u rs₁ (stays-a-table e t t₁ r g step) h in let n = by (judged step) in omega arith

@@ -15,7 +15,8 @@ use Rattle.slots.specs.Decide.{freeSlot, lowerOf, loweredOf}
 use Rattle.pending.specs.Table.{rankAt, waiting, tally}
 use Rattle.pending.specs.Step.{newcomer, freed}
 use Rattle.matched.specs.Holds.{requestAt, Holds}
-use Rattle.matched.proofs.Counts.{Lowered, this, later, earlier, lowered-is, tally-none, tally-take, waiting-take, tally-earlier, tally-later, waiting-free}
+use Rattle.pending.proofs.Sounds.{tally-none}
+use Rattle.matched.proofs.Counts.{Lowered, this, later, earlier, lowered-is, tally-take, waiting-take, tally-earlier, tally-later, waiting-free}
 
 -- what `Holds` says of one slot
 pub record Fits (s : Slot) (l : List Four) : Type 0 where

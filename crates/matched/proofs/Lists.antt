@@ -13,7 +13,9 @@ use Rattle.slots.specs.declared.Slot.{Slot}
 use Rattle.slots.specs.Decide.{freeSlot}
 use Rattle.pending.specs.Table.{rankAt, fourAt, Waits, waiting, tally, Sound, Table, Refuses, by-size, by-ranks}
 use Rattle.matched.specs.Holds.{requestAt, Holds, Empty}
-use Rattle.matched.proofs.Counts.{tally-in, tally-some, waiting-most, waiting-none}
+use Rattle.pending.proofs.Looks.{waiting-most}
+use Rattle.pending.proofs.Sounds.{tally-in, tally-some}
+use Rattle.matched.proofs.Counts.{waiting-none}
 
 -- the four of a rank
 unfoldable pub fourOfRank : ℕ → List Slot → Four
@@ -44,7 +46,7 @@ four-is k (s ∷ t) zero h e o = let q = eq-eqb (s .rank) k e in rw q
 four-is k (s ∷ t) (suc i) h e o = by (λ a. four-is k t i (omega arith) e a) (eqb (s .rank) k) o
   where
     by : (tally k t ≡ 1 → fourOfRank k t ≡ fourAt t i) → (b : Bool) → cond b 1 0 + tally k t ≡ 1 → cond b (s .four) (fourOfRank k t) ≡ fourAt t i
-    by more true a = absurd (let c = tally-in k t i (omega arith) e in omega arith)
+    by more true a = absurd (let c = tally-in i k t (omega arith) e in omega arith)
     by more false a = more (omega arith)
 
 pub sound-holds : (t : List Slot) → Sound t → Holds t (foursFrom (waiting t) 1 t)
@@ -89,7 +91,7 @@ pub record SlotOf (t : List Slot) (l : List Four) (j i : ℕ) : Type 0 where
 
 pub slot-at : {t : List Slot} {l : List Four} → Holds t l → (j : ℕ) → j < length l → (i : ℕ) × SlotOf t l j i
 slot-at {t} {l} hold j h =
-    let s = tally-some (suc j) t (hold .once (suc j) (omega arith) (omega arith)) in
+    let s = tally-some (suc j) t (let o = hold .once (suc j) (omega arith) (omega arith) in omega arith) in
     let q : rankAt t (s .0) ≡ suc j = s .1 .1 in let e : rankAt t (s .0) - 1 ≡ j = omega arith in
     let w : Waits t (s .0) = (s .1 .0, omega arith) in (s .0, record { waits = w; rank = q; four = hold .placed (s .0) w ∙ ap (requestAt l) e })
 

@@ -14,7 +14,7 @@ use Rattle.slots.specs.Ask.{directionOf, fourOf, byKind, askOf}
 use Rattle.slots.specs.Decide.{freeSlot, lowerOf}
 use Rattle.pending.specs.Table.{rankAt, fourAt, waiting, tally, Table, by-size, by-ranks}
 use Rattle.pending.specs.Step.{FirstFree, NoneWith, Step, refused-with, dropped, other, no-seq, taken, turned-away, answered, stray}
-use Rattle.matched.specs.History.{History, none, more, countOf}
+use Rattle.matched.specs.History.{History, none, more, howMany}
 use Rattle.matched.specs.Worked.{entry, slot, entries, reports, left, Worked}
 use Rattle.matched.proofs.Acts.{stays-a-table, empty-is-a-table}
 use Rattle.matched.proofs.One.{one-history}
@@ -158,7 +158,7 @@ history =
 
 -- ---- tables that are refused
 pub worked : Worked
-unfolding computes countOf
+unfolding computes howMany
 worked =
     record {
       history = history;

@@ -36,13 +36,13 @@ isAnswered R.Stray = false
 isAnswered (R.Refused n) = false
 
 -- how many of the reports are so
-unfoldable pub countOf : (Report → Bool) → List Report → ℕ
-countOf so [] = 0
-countOf so (r ∷ rs) = cond (so r) 1 0 + countOf so rs
+unfoldable pub howMany : (Report → Bool) → List Report → ℕ
+howMany so [] = 0
+howMany so (r ∷ rs) = cond (so r) 1 0 + howMany so rs
 
 -- how many requests a history took in, and how many it answered
 abbrev pub takenIn : List Report → ℕ
-takenIn rs = countOf isTaken rs
+takenIn rs = howMany isTaken rs
 
 abbrev pub answeredIn : List Report → ℕ
-answeredIn rs = countOf isAnswered rs
+answeredIn rs = howMany isAnswered rs

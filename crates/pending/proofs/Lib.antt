@@ -4,5 +4,6 @@ pub mod Fold
 pub mod Looks
 pub mod Bits
 pub mod Marks
+pub mod Fours
 pub mod Sounds
 pub mod Steps

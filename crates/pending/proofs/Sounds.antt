@@ -36,6 +36,16 @@ tally-in i k [] h e = absurd (omega (arith, h))
 tally-in zero k (s ∷ t) h e = let q = eq-eqb (s .rank) k e in rw q (omega arith)
 tally-in (suc i) k (s ∷ t) h e = let m = tally-in i k t (omega (arith, h)) e in omega (arith, m)
 
+-- a rank that stands is some slot's
+pub tally-some : (k : ℕ) (t : List Slot) → 0 < tally k t → (i : ℕ) × ((i < length t) × (rankAt t i ≡ k))
+unfolding tally
+tally-some k [] h = absurd (omega (arith, h))
+tally-some k (s ∷ t) h = by-b (λ z. tally-some k t z) (eqb (s .rank) k) refl h
+  where
+    by-b : (0 < tally k t → (i : ℕ) × ((i < length t) × (rankAt t i ≡ k))) → (b : Bool) → eqb (s .rank) k ≡ b → 0 < cond b 1 0 + tally k t → (i : ℕ) × ((i < length (s ∷ t)) × (rankAt (s ∷ t) i ≡ k))
+    by-b more true e z = (0, (omega arith, eqb-true (s .rank) k e))
+    by-b more false e z = let m = more (omega (arith, z)) in (suc (m .0), ((let g = m .1 .0 in omega (arith, g)), m .1 .1))
+
 -- ---- a sound table is found so
 module _ (t : List Slot) (sound : Sound t) (most : length t ≤ 64) where
   abbrev w : ℕ

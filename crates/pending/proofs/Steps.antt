@@ -3,7 +3,7 @@
 use mathlib.Core.Path.{_≡_, refl, sym, _∙_, ap, subst}
 use Prim.Native.Nat.{ℕ, zero, suc, _+_, _%_, _<_, _≤_}
 use native.Mathlib.Omega.{arith}
-use mathlib.Core.Bool.{Bool, true, false, cond, _&&_, _||_}
+use mathlib.Core.Bool.{Bool, true, false, cond, _||_}
 use mathlib.Core.List.{List, [], _∷_}
 use lib.Dec.{eqb, ltb}
 use lib.ListN.{length, getD, set}
@@ -26,7 +26,7 @@ use Rattle.slots.specs.declared.decide.Place.the-variants as P
 use Rattle.entry.specs.declared.optional.MaybeByte.{MaybeByte}
 use Rattle.entry.specs.declared.optional.MaybeByte.the-variants as B
 use Rattle.slots.specs.Ask.{askOf, byKind, bySeq, fourOf}
-use Rattle.slots.specs.Look.{startOf, seekOf, isAsked, sameFour}
+use Rattle.slots.specs.Look.{startOf, seekOf, isAsked}
 use Rattle.slots.specs.Decide.{freeSlot, stillOf, takeOf, freeOf, soundOf, faultOf, requestOf, responseOf, judged, decideOf, countOf, placeOf}
 use Rattle.pending.specs.Over.{lookAll}
 use Rattle.pending.specs.Table.{rankAt, fourAt, Waits, waiting, tally, Sized, Sound, Table, Refuses, by-size, by-ranks, waitingTold, placeTold, CountTold, PlaceTold}
@@ -34,9 +34,10 @@ use Rattle.pending.specs.Table as Tables
 use Rattle.pending.specs.Step.{Step, FirstFree, NoneFree, OldestWith, NoneWith, newcomer, freed}
 use Rattle.pending.specs.Step as Do
 use Rattle.pending.proofs.Fold.{firstAll, ranksAll, oldestAll, parts}
+use Rattle.pending.proofs.Fours.{one-four, same-four}
 use Rattle.pending.proofs.Looks.{FirstIs, spare, full, first-is, waiting-most, waiting-all, waiting-less, Fits, OldestIs, hit, miss, oldest-is}
 use Rattle.pending.proofs.Marks.{unlike}
-use Rattle.pending.proofs.Sounds.{r₀, count-is, sound-found, found-sound}
+use Rattle.pending.proofs.Sounds.{r₀, tally-some, count-is, sound-found, found-sound}
 
 abbrev pub planOf : Entry → List Slot → Plan
 planOf e t = decideOf (lookAll t 0 (startOf e (length t)))
@@ -99,26 +100,6 @@ decide-ill : (a : Seen) → 0 < faultOf a → decideOf a ≡ stillOf (a .size) (
 unfolding decideOf
 decide-ill a z = let c = lt-ltb 0 (faultOf a) z in rw c
 
--- ---- the same four
-both-true : (a b : Bool) → a && b ≡ true → (a ≡ true) × (b ≡ true)
-both-true true b h = (refl, h)
-both-true false b h = unlike (sym h)
-
-same-is : (a b : Four) → sameFour a b ≡ true → a ≡ b
-unfolding sameFour
-same-is a b h =
-    let p = both-true (eqb (a .route) (b .route) && eqb (a .domain) (b .domain) && eqb (a .seq) (b .seq)) (eqb (a .write) (b .write)) h in
-    let q = both-true (eqb (a .route) (b .route) && eqb (a .domain) (b .domain)) (eqb (a .seq) (b .seq)) (p .0) in
-    let r = both-true (eqb (a .route) (b .route)) (eqb (a .domain) (b .domain)) (q .0) in
-    fours (eqb-true _ _ (r .0)) (eqb-true _ _ (r .1)) (eqb-true _ _ (q .1)) (eqb-true _ _ (p .1))
-  where
-    fours : a .route ≡ b .route → a .domain ≡ b .domain → a .seq ≡ b .seq → a .write ≡ b .write → a ≡ b
-    fours p q r s = λ i. record { route = p i; domain = q i; seq = r i; write = s i }
-
-is-same : (a b : Four) → a ≡ b → sameFour a b ≡ true
-unfolding sameFour
-is-same a b e = rw (e, eq-eqb (b .route) (b .route) refl, eq-eqb (b .domain) (b .domain) refl, eq-eqb (b .seq) (b .seq) refl, eq-eqb (b .write) (b .write) refl)
-
 -- ---- each ask over a table
 few : (t : List Slot) → Table t → waiting t ≤ 64
 few t good = let a = waiting-most t in let b = good .sized .1 in omega (arith, a, b)
@@ -151,14 +132,14 @@ module _ (e : Entry) (t : List Slot) where
         subst Does (sym is-plan) (subst (λ (u : Bool). Step e t (R.Answered m) (cond u (set t (length t) freeSlot) (freed (rankAt t m) t))) (sym e₂)
         (Do.answered good q (record {
           waits = (g, z);
-          same = same-is (fourAt t m) four (f .1);
-          oldest = (λ j w y. subst (λ (x : ℕ). x ≤ rankAt t j) b (all j (w .0) (w .1, is-same (fourAt t j) four y)));
+          same = one-four (fourAt t m) four (f .1);
+          oldest = (λ j w y. subst (λ (x : ℕ). x ≤ rankAt t j) b (all j (w .0) (w .1, same-four (fourAt t j) four y)));
         })))
     asks-response four q (miss r all) =
         let d : oldestAll t 0 (A.Response four) o₀ .rank ≡ 65 = ap (λ (x : Oldest). x .rank) r in
         let e₂ = not-less (oldestAll t 0 (A.Response four) o₀ .rank) d in
         let is-plan : responseOf (seenBy (A.Response four) t) ≡ stillOf (length t) R.Stray = rw e₂ in
-        subst Does (sym is-plan) (stays R.Stray (Do.stray good q (λ j w y. let a = all j (w .0) (w .1, is-same (fourAt t j) four y) in let b = good .sound .within j (w .0) in let c = few t good in omega (arith, a, b, c))))
+        subst Does (sym is-plan) (stays R.Stray (Do.stray good q (λ j w y. let a = all j (w .0) (w .1, same-four (fourAt t j) four y) in let b = good .sound .within j (w .0) in let c = few t good in omega (arith, a, b, c))))
       where
         not-less : (x : ℕ) → x ≡ 65 → ltb x 65 ≡ false
         not-less x d = le-ltb x 65 (omega (arith, d))
@@ -213,16 +194,6 @@ count-told t r h = subst (λ (x : Waiting). CountTold t (waitingTold x)) (sym (h
     by-table : Judged t (faultOf (seenBy (A.Rank 0) t)) → CountTold t (waitingTold (countOf (seenBy (A.Rank 0) t)))
     by-table (well g z) = let c = le-ltb 0 (faultOf (seenBy (A.Rank 0) t)) (omega (arith, z)) in let n = count-is t (g .sound) (g .sized .1) in rw (c, n) (Tables.counts g)
     by-table (ill f z) = let c = lt-ltb 0 (faultOf (seenBy (A.Rank 0) t)) z in rw c (Tables.refuses f)
-
--- a rank that stands is some slot's
-tally-some : (k : ℕ) (t : List Slot) → 0 < tally k t → (i : ℕ) × ((i < length t) × (rankAt t i ≡ k))
-unfolding tally
-tally-some k [] h = absurd (omega (arith, h))
-tally-some k (s ∷ t) h = by-b (λ z. tally-some k t z) (eqb (s .rank) k) refl h
-  where
-    by-b : (0 < tally k t → (i : ℕ) × ((i < length t) × (rankAt t i ≡ k))) → (b : Bool) → eqb (s .rank) k ≡ b → 0 < cond b 1 0 + tally k t → (i : ℕ) × ((i < length (s ∷ t)) × (rankAt (s ∷ t) i ≡ k))
-    by-b more true e z = (0, (omega arith, eqb-true (s .rank) k e))
-    by-b more false e z = let m = more (omega (arith, z)) in (suc (m .0), ((let g = m .1 .0 in omega (arith, g)), m .1 .1))
 
 pub place-told : (t : List Slot) (k : ℕ) (r : Place) → r ≡ placeOf (lookAll t 0 (seekOf k (length t))) → PlaceTold t k (placeTold r)
 unfolding placeOf placeTold isAsked

@@ -39,7 +39,8 @@ tally k (s ∷ t) = cond (eqb (s .rank) k) 1 0 + tally k t
 abbrev pub Sized : List Slot → Type 0
 Sized t = (0 < length t) × (length t ≤ 64)
 
--- the waiting slots carry the ranks 1 to their number once each, and no waiting slot's route has its top bit set; each reads (0) or writes (1)
+-- the waiting slots carry the ranks 1 to their number once each, and no waiting slot's route has its top bit set; and, beside document 02's words,
+-- each reads (0) or writes (1), since C can lend any byte (T11)
 pub record Sound (t : List Slot) : Type 0 where
   pub within : (i : ℕ) → i < length t → rankAt t i ≤ waiting t
   pub once : (k : ℕ) → 0 < k → k ≤ waiting t → tally k t ≡ 1

@@ -11,10 +11,11 @@ use crate::hex::put_route;
 use crate::parts::put_number;
 use crate::parts::put_six;
 use crate::parts::put_text;
+use listing_rows::put_refused;
 use slots::Four;
 ghost use Prim.Native.Nat.{_+_, _≤_};
 ghost use lib.ListN.{length};
-ghost use Rattle.listing_rows.specs.Rows.{Put, refusedRow};
+ghost use Rattle.listing_rows.specs.Rows.{Put};
 ghost use Rattle.unanswered_rows.specs.Parts.{Part};
 ghost use Rattle.unanswered_rows.specs.Rows.{rowText, wordRow, answeredRow, waitsRow, whenText, fourText, wayText, totalsText, othersText};
 
@@ -62,7 +63,7 @@ pub fn put_row(out: &mut [u8], line: u64, row: Row) -> usize
         Row::Answered { request, after } => put_answered(out, line, request, b" after ", after),
         Row::Early { request, before } => put_answered(out, line, request, b" before ", before),
         Row::Stray => put_word(out, line, b" stray\n"),
-        Row::Refused(number) => put_refused(out, line, number),
+        Row::Refused(number) => put_refused(out, 0, line, number),
     }
 }
 
@@ -72,15 +73,6 @@ fn put_word(out: &mut [u8], line: u64, word: &[u8]) -> usize
 {
     let a = put_number(out, 0, b"", line);
     put_text(out, a, word)
-}
-
-fn put_refused(out: &mut [u8], line: u64, number: u8) -> usize
-    requires { ⌜ 256 ≤ length (now out) ⌝ }
-    ensures { λ r. ⌜ Put (now (out .entry)) 0 (refusedRow line number) (now (out .exit)) r ⌝ }
-{
-    let a = put_number(out, 0, b"", line);
-    let b = put_number(out, a, b" refused ", number as u64);
-    put_text(out, b, b"\n")
 }
 
 fn put_answered(out: &mut [u8], line: u64, request: u64, word: &[u8], gap: u64) -> usize

@@ -5,6 +5,7 @@ pub mod Stripping
 pub mod OwnParts
 pub mod Texts
 pub mod Numbers
+pub mod Hexes
 pub mod Decimals
 pub mod Told
 pub mod Cases

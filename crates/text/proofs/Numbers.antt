@@ -1,5 +1,5 @@
--- Numbers of any base within any limit: digits only ever raise the value, so a reader that gives up once the limit is passed gives up
--- exactly the numbers that are too large; and the answer is the relation's, for decimal and hex and every width at once. Assumes nothing.
+-- Numbers of any base within any limit: digits only ever raise the value, so once the limit is passed only a bad digit can still be told; each
+-- answer is the relation's, for decimal and hex and every width at once. Assumes nothing.
 use Prim.Native.Nat.{ℕ, zero, suc, _+_, _-_, _*_, _/_, _≤_, _<_}
 use mathlib.Core.Path.{_≡_, refl, sym, _∙_}
 use mathlib.Core.Bool.{Bool, true, false, cond, _&&_}
@@ -7,17 +7,20 @@ use mathlib.Core.List.{List, [], _∷_}
 use native.Mathlib.Numerals.{add-one}
 use native.Mathlib.Omega.{arith}
 use native.Mathlib.Nat.{le-mul-of-pos-right, le-div-iff-mul-le, div-lt-iff-lt-mul, le-trans}
-use lib.Dec.{ltb, leb, eqb}
-use lib.ListN.{length, getD, drop, drop-of-length-le, List·getD-eq-default}
-use lib.Seq.{drop-cons}
-use borrow.Author.Tests.{lt-ltb, le-ltb, le-leb, lt-leb, ltb-true, leb-true, eq-eqb, ne-eqb, eqb-true}
+use lib.Dec.{ltb, leb}
+use lib.ListN.{length, getD, drop, drop-of-length-le, length-drop}
+use lib.Seq.{drop-cons, getD-drop}
+use borrow.Author.Tests.{lt-ltb, le-ltb, le-leb, lt-leb, ltb-true, ltb-false, leb-true, leb-false}
+use Rattle.text.specs.declared.place.Found.{Found}
+use Rattle.text.specs.declared.place.Found.the-variants.{At, Nothing}
 use Rattle.text.specs.declared.number.Number.{Number}
 use Rattle.text.specs.declared.number.Number.the-variants as N
-use Rattle.text.specs.declared.number.HexAnswer.{HexAnswer}
-use Rattle.text.specs.declared.number.HexAnswer.the-variants as H
+use Rattle.text.specs.declared.number.Reading.{Reading}
+use Rattle.text.specs.declared.number.Reading.the-variants as R
 use Rattle.text.specs.Class.{between, isDigit}
-use Rattle.text.specs.Number.{digitOf, value, Reads, HexNumber, allDigits, numberOf, bareOf, asHex, hexOf}
-use Rattle.text.proofs.Places.{by-order}
+use Rattle.text.specs.Place.{Free, First, firstPlace}
+use Rattle.text.specs.Number.{digitOf, value, Reads, allDigits, numberOf, badAt, badFirst, valueWithin, readingOf, readValue}
+use Rattle.text.proofs.Places.{by-order, first-is, first-all, first-none, first-free, place-hit, place-miss, place-end}
 use Rattle.text.proofs.Texts.{both-left, both-right}
 
 -- a value only grows
@@ -32,96 +35,149 @@ pub at-least : (low high : ℕ) {b : ℕ} → between low high b ≡ true → lo
 unfolding between
 at-least low high {b} e = leb-true low b (both-left _ _ e)
 
-module _ (base limit : ℕ) (s : List ℕ) where
-  -- the number so far: i digits read, of value v, with the rest to come
-  pub record Reading (v i : ℕ) : Type 0 where
-    pub some : 0 < length s
-    pub within : i ≤ length s
+-- ---- the reader's loop
+
+-- a digit that was read is of the base, or it is a bad one
+pub is-bad : (base : ℕ) (s : List ℕ) (i : ℕ) {d : ℕ} → d ≡ digitOf (getD s i 0) → base ≤ d → badAt base s i ≡ true
+is-bad base s i {d} e h = le-leb base (digitOf (getD s i 0)) (rw e at h)
+
+pub is-good : (base : ℕ) (s : List ℕ) (i : ℕ) {d : ℕ} → d ≡ digitOf (getD s i 0) → d < base → badAt base s i ≡ false
+is-good base s i {d} e h = lt-leb base (digitOf (getD s i 0)) (rw e at h)
+
+-- the limit divided once: what it says of a value with one digit more
+module _ (base limit : ℕ) (some : 0 < base) where
+  pub within-most : {v : ℕ} → v ≤ limit / base → v * base ≤ limit
+  within-most {v} h = le-div-iff-mul-le {k = base} {x = v} {y = limit} some .0 h
+
+  pub above-most : {v : ℕ} (d : ℕ) → limit / base < v → limit < v * base + d
+  above-most {v} d h = omega (arith, div-lt-iff-lt-mul {k = base} {x = limit} {y = v} some .0 h)
+
+module _ (base from : ℕ) (s : List ℕ) where
+  -- no bad digit was met on the way to i
+  pub record Clean (i : ℕ) : Type 0 where
+    pub same : firstPlace (badAt base s) (length s) from ≡ firstPlace (badAt base s) (length s) i
+
+  pub clean-starts : Clean from
+  clean-starts = record { same = refl }
+
+  pub clean-steps : {i d : ℕ} → Clean i → i < length s → d ≡ digitOf (getD s i 0) → d < base → Clean (i + 1)
+  clean-steps {i} c h e l = record { same = c .same ∙ place-miss (badAt base s) h (is-good base s i e l) }
+
+  -- past the width a bad digit is told still, and without one the width
+  pub bad-past : {i d : ℕ} → Clean i → i < length s → d ≡ digitOf (getD s i 0) → base ≤ d
+      → R.BadDigit i ≡ badFirst (firstPlace (badAt base s) (length s) from) R.TooWide
+  unfolding badFirst
+  bad-past {i} c h e l = rw (c .same, place-hit (badAt base s) h (is-bad base s i e l))
+
+  pub none-past : {i : ℕ} → Clean i → length s ≤ i → R.TooWide ≡ badFirst (firstPlace (badAt base s) (length s) from) R.TooWide
+  unfolding badFirst
+  none-past {i} c h = rw (c .same, place-end (badAt base s) h)
+
+module _ (base limit from : ℕ) (s : List ℕ) where
+  -- the number so far: the bytes up to i are digits, of value v, with the rest to come
+  pub record SoFar (v i : ℕ) : Type 0 where
+    pub some : from < length s
     pub fits : v ≤ limit
-    pub same-digits : allDigits base s ≡ allDigits base (drop i s)
-    pub same-value : value base 0 s ≡ value base v (drop i s)
+    pub clean : Clean base from s i
+    pub same-value : value base 0 (drop from s) ≡ value base v (drop i s)
 
-  pub reading-starts : 0 < length s → Reading 0 0
-  reading-starts h =
-      record { some = h; within = omega arith; fits = omega arith; same-digits = refl; same-value = refl }
+  pub so-far-starts : from < length s → SoFar 0 from
+  so-far-starts h = record { some = h; fits = omega arith; clean = clean-starts base from s; same-value = refl }
 
-  pub reading-steps : {v i : ℕ} → Reading v i → i < length s → digitOf (getD s i 0) < base → v * base + digitOf (getD s i 0) ≤ limit → Reading (v * base + digitOf (getD s i 0)) (i + 1)
-  unfolding allDigits value
-  reading-steps {v} {i} r h d f =
+  pub so-far-steps : {v i d : ℕ} → SoFar v i → i < length s → d ≡ digitOf (getD s i 0) → d < base → v * base + d ≤ limit → SoFar (v * base + d) (i + 1)
+  unfolding value
+  so-far-steps {v} {i} {d} r h e l f =
       record {
         some = r .some;
-        within = omega arith;
         fits = f;
-        same-digits = r .same-digits ∙ rw (add-one, drop-cons s i 0 h, lt-ltb _ _ d);
-        same-value = r .same-value ∙ rw (add-one, drop-cons s i 0 h);
+        clean = clean-steps base from s (r .clean) h e l;
+        same-value = r .same-value ∙ rw (add-one, drop-cons s i 0 h, e);
       }
 
-  pub none-empty : length s ≡ 0 → numberOf base limit s ≡ N.Unreadable
-  unfolding numberOf
-  none-empty h = rw (le-ltb 0 (length s) (omega arith))
+  pub none-there : length s ≤ from → R.Empty ≡ readingOf base limit from s
+  unfolding readingOf
+  none-there h = rw (le-ltb from (length s) h)
 
-  pub none-digit : {v i : ℕ} → Reading v i → i < length s → base ≤ digitOf (getD s i 0) → numberOf base limit s ≡ N.Unreadable
-  unfolding numberOf allDigits
-  none-digit {v} {i} r h d =
-      let e : allDigits base s ≡ false = r .same-digits ∙ rw (drop-cons s i 0 h, le-ltb _ _ d) in
-      rw (e, lt-ltb 0 (length s) (r .some))
+  pub bad-here : {v i d : ℕ} → SoFar v i → i < length s → d ≡ digitOf (getD s i 0) → base ≤ d → R.BadDigit i ≡ readingOf base limit from s
+  unfolding readingOf badFirst
+  bad-here {v} {i} r h e l = rw (lt-ltb from (length s) (r .some), r .clean .same, place-hit (badAt base s) h (is-bad base s i e l))
 
-  pub none-wide : {v i : ℕ} → 0 < base → Reading v i → i < length s → limit < v * base + digitOf (getD s i 0) → numberOf base limit s ≡ N.Unreadable
-  unfolding numberOf value
-  none-wide {v} {i} b r h d =
-      let e : value base 0 s ≡ value base (v * base + digitOf (getD s i 0)) (drop (suc i) s) = r .same-value ∙ rw (drop-cons s i 0 h) in
-      let g : limit < value base 0 s = rw e (le-trans d (value-grows base b (v * base + digitOf (getD s i 0)) (drop (suc i) s))) in
-      rw (lt-leb _ _ g) (no-value (ltb 0 (length s) && allDigits base s))
+  -- a value past the limit stays past it
+  pub wide-here : {v i d : ℕ} → 0 < base → SoFar v i → i < length s → d ≡ digitOf (getD s i 0) → d < base → limit < v * base + d
+      → badFirst (firstPlace (badAt base s) (length s) (i + 1)) R.TooWide ≡ readingOf base limit from s
+  unfolding readingOf valueWithin value
+  wide-here {v} {i} {d} b r h e l f =
+      let q : value base 0 (drop from s) ≡ value base (v * base + d) (drop (suc i) s) = r .same-value ∙ rw (drop-cons s i 0 h, e) in
+      let g : limit < value base 0 (drop from s) = rw q (le-trans f (value-grows base b (v * base + d) (drop (suc i) s))) in
+      rw (lt-ltb from (length s) (r .some), lt-leb _ _ g, r .clean .same, place-miss (badAt base s) h (is-good base s i e l))
+
+  pub whole-value : {v i : ℕ} → SoFar v i → length s ≤ i → R.Value v ≡ readingOf base limit from s
+  unfolding readingOf badFirst valueWithin value
+  whole-value {v} {i} r h =
+      let e : value base 0 (drop from s) ≡ v = r .same-value ∙ rw (drop-of-length-le s h) in
+      rw (lt-ltb from (length s) (r .some), r .clean .same, place-end (badAt base s) h, e, le-leb v limit (r .fits))
+
+-- ---- what each answer says
+
+module _ (base limit from : ℕ) (s : List ℕ) where
+  -- each answer with what holds of the text where it is given
+  pub data Judged : Reading → Type 0 where
+    empty : length s ≤ from → Judged R.Empty
+    bad : {k : ℕ} → First (badAt base s) from (length s) k → Judged (R.BadDigit k)
+    wide : from < length s → Free (badAt base s) from (length s) → limit < value base 0 (drop from s) → Judged R.TooWide
+    fits : {v : ℕ} → from < length s → Free (badAt base s) from (length s) → value base 0 (drop from s) ≡ v → v ≤ limit → Judged (R.Value v)
+
+  pub judged : Judged (readingOf base limit from s)
+  unfolding readingOf badFirst valueWithin
+  judged = by-start (ltb from (length s)) refl
     where
-      no-value : (x : Bool) → cond (x && false) (N.Value (value base 0 s)) N.Unreadable ≡ N.Unreadable
-      no-value true = refl
-      no-value false = refl
+      by-limit : from < length s → Free (badAt base s) from (length s) → (b : Bool) → leb (value base 0 (drop from s)) limit ≡ b
+          → Judged (cond b (R.Value (value base 0 (drop from s))) R.TooWide)
+      by-limit l free true t = fits l free refl (leb-true _ _ t)
+      by-limit l free false t = wide l free (leb-false _ _ t)
 
-  pub whole-number : {v i : ℕ} → Reading v i → length s ≤ i → numberOf base limit s ≡ N.Value v
-  unfolding numberOf allDigits value
-  whole-number {v} {i} r h =
-      let d : drop i s ≡ [] = drop-of-length-le s h in
-      let a : allDigits base s ≡ true = r .same-digits ∙ rw d in
-      let e : value base 0 s ≡ v = r .same-value ∙ rw d in
-      rw (lt-ltb 0 (length s) (r .some), a, e, le-leb v limit (r .fits))
+      by-found : from < length s → (f : Found) → firstPlace (badAt base s) (length s) from ≡ f
+          → Judged (badFirst f (valueWithin limit (value base 0 (drop from s))))
+      by-found l (At k) e = bad (first-is (badAt base s) e)
+      by-found l Nothing e = by-limit l (first-free (badAt base s) e (omega arith)) (leb (value base 0 (drop from s)) limit) refl
 
-  -- the two tests before a digit is taken say that it fits
-  pub passes : {v d : ℕ} → 0 < base → d ≤ limit → v ≤ (limit - d) / base → v * base + d ≤ limit
-  passes {v} {d} b h q = omega (arith, le-div-iff-mul-le {k = base} {x = v} {y = limit - d} b .0 q)
+      by-start : (b : Bool) → ltb from (length s) ≡ b
+          → Judged (cond b (badFirst (firstPlace (badAt base s) (length s) from) (valueWithin limit (value base 0 (drop from s)))) R.Empty)
+      by-start true t = by-found (ltb-true _ _ t) (firstPlace (badAt base s) (length s) from) refl
+      by-start false t = empty (ltb-false _ _ t)
 
-  pub fails : {v d : ℕ} → 0 < base → d ≤ limit → (limit - d) / base < v → limit < v * base + d
-  fails {v} {d} b h q = omega (arith, div-lt-iff-lt-mul {k = base} {x = limit - d} {y = v} b .0 q)
+  pub judged-all : {r : Reading} → Judged r → readingOf base limit from s ≡ r
+  unfolding readingOf badFirst valueWithin
+  judged-all (empty h) = rw (le-ltb from (length s) h)
+  judged-all (bad f) = rw (lt-ltb from (length s) (omega (arith, f .from, f .within)), first-all (badAt base s) f)
+  judged-all (wide l free over) = rw (lt-ltb from (length s) l, first-none (badAt base s) free, lt-leb _ _ over)
+  judged-all (fits {v} l free e within) = rw (lt-ltb from (length s) l, first-none (badAt base s) free, e, le-leb v limit within)
 
--- the ways to a text without its `0x`
-module _ (s : List ℕ) where
-  pub bare-both : getD s 0 0 ≡ 48 → getD s 1 0 ≡ 120 → drop 2 s ≡ bareOf s
-  unfolding bareOf
-  bare-both a b = rw (eq-eqb _ _ a, eq-eqb _ _ b)
+  -- the number is what the digits from the place on read as
+  pub judged-reads : {v : ℕ} → Judged (R.Value v) → Reads base limit (drop from s) v
+  judged-reads (fits l free e within) =
+      record {
+        some = omega (arith, length-drop from s);
+        digits = λ k h. rw (getD-drop from s k 0) (leb-false _ _ (free (from + k) (omega arith) (omega (arith, length-drop from s))));
+        is = e;
+        within = within;
+      }
 
-  pub bare-first : (getD s 0 0 ≡ 48 → ⊥) → s ≡ bareOf s
-  unfolding bareOf
-  bare-first a = rw (ne-eqb _ _ a)
-
-  pub bare-second : (getD s 1 0 ≡ 120 → ⊥) → s ≡ bareOf s
-  unfolding bareOf
-  bare-second b = rw (ne-eqb _ _ b) (go (eqb (getD s 0 0) 48))
+  pub reads-judged : {v : ℕ} → Reads base limit (drop from s) v → Judged (R.Value v)
+  reads-judged {v} r =
+      fits (omega (arith, length-drop from s, r .some)) free (r .is) (r .within)
     where
-      go : (x : Bool) → s ≡ cond (x && false) (drop 2 s) s
-      go true = refl
-      go false = refl
+      free : Free (badAt base s) from (length s)
+      free k a b =
+          let e : from + (k - from) ≡ k = omega arith in
+          let d : digitOf (getD (drop from s) (k - from) 0) < base = r .digits (k - from) (omega (arith, length-drop from s)) in
+          let here : digitOf (getD s (from + (k - from)) 0) < base = rw (← getD-drop from s (k - from) 0) d in
+          lt-leb base (digitOf (getD s k 0)) (rw e at here)
 
-  pub bare-short : length s < 2 → s ≡ bareOf s
-  bare-short h = bare-second (λ e. absurd (let z : getD s 1 0 ≡ 0 = List·getD-eq-default s 0 {n = 1} (omega arith) in omega arith))
-
--- a hex number is the number of the bare digits
-module _ (limit : ℕ) (s d : List ℕ) (bare : d ≡ bareOf s) where
-  pub hex-value : {v : ℕ} → numberOf 16 limit d ≡ N.Value v → H.Value v ≡ hexOf limit s
-  unfolding hexOf asHex
-  hex-value e = rw (← bare, e)
-
-  pub hex-none : numberOf 16 limit d ≡ N.Unreadable → H.Unreadable ≡ hexOf limit s
-  unfolding hexOf asHex
-  hex-none e = rw (← bare, e)
+-- no decimal number is empty
+pub none-empty : (base limit : ℕ) (s : List ℕ) → length s ≡ 0 → numberOf base limit s ≡ N.Unreadable
+unfolding numberOf
+none-empty base limit s h = rw (le-ltb 0 (length s) (omega arith))
 
 -- the answer is the relation's: sound, complete, one value
 module _ (base limit : ℕ) (s : List ℕ) where
@@ -164,45 +220,20 @@ module _ (base limit : ℕ) (s : List ℕ) where
   pub one-number : {v w : ℕ} → Reads base limit s v → Reads base limit s w → v ≡ w
   one-number a b = sym (a .is) ∙ b .is
 
--- hex: `x` is no digit, so a text with `0x` in front reads behind it alone
-x-is-no-digit : digitOf 120 < 16 → ⊥
-unfolding digitOf isDigit between
-x-is-no-digit h = omega arith
+-- a number is the reading from the start, its reasons left out
+pub number-read : (base limit : ℕ) (s : List ℕ) → numberOf base limit s ≡ readValue (readingOf base limit 0 s)
+unfolding readValue
+number-read base limit s = go (readingOf base limit 0 s) (judged base limit 0 s)
+  where
+    none : ((v : ℕ) → Reads base limit s v → ⊥) → (n : Number) → numberOf base limit s ≡ n → n ≡ N.Unreadable
+    none f (N.Value v) e = absurd (f v (number-is base limit s e))
+    none f N.Unreadable e = refl
 
-starts-with : (s : List ℕ) → getD s 0 0 ≡ 48 → getD s 1 0 ≡ 120 → s ≡ 48 ∷ 120 ∷ drop 2 s
-starts-with [] a b = absurd (omega arith)
-starts-with (x ∷ []) a b = absurd (omega arith)
-starts-with (x ∷ y ∷ s) a b = rw (a, b)
+    other : {r : Reading} → Judged base limit 0 s r → ((v : ℕ) → r ≡ R.Value v → ⊥) → numberOf base limit s ≡ N.Unreadable
+    other j f = none (λ v reads. f v (sym (judged-all base limit 0 s j) ∙ judged-all base limit 0 s (reads-judged base limit 0 s reads))) (numberOf base limit s) refl
 
-as-value : (n : Number) {v : ℕ} → asHex n ≡ H.Value v → n ≡ N.Value v
-unfolding asHex
-as-value (N.Value w) e = cc
-as-value N.Unreadable e = absurd (let z : _≡_ {A = ℕ} 0 1 = cc in omega arith)
-
-module _ (limit : ℕ) where
-  plain-bare : (s : List ℕ) {v : ℕ} → Reads 16 limit s v → s ≡ bareOf s
-  plain-bare s r =
-      bare-second s
-      (λ e. by-order 1 (length s) (λ h. let d : digitOf (getD s 1 0) < 16 = r .digits 1 h in x-is-no-digit (rw e at d))
-      (λ h. past-end e (omega arith))
-      (λ h. past-end e (omega arith)))
-    where
-      past-end : getD s 1 0 ≡ 120 → length s ≤ 1 → ⊥
-      past-end e h = let z : getD s 1 0 ≡ 0 = List·getD-eq-default s 0 {n = 1} h in omega arith
-
-  pub hex-all : {s : List ℕ} {v : ℕ} → HexNumber limit s v → hexOf limit s ≡ H.Value v
-  hex-all {s} (HexNumber.plain r) = sym (hex-value limit s s (plain-bare s r) (number-all 16 limit s r))
-  hex-all {s} (HexNumber.prefixed t e r) =
-      sym (hex-value limit s t (rw e (bare-both (48 ∷ 120 ∷ t) refl refl)) (number-all 16 limit t r))
-
-  pub hex-is : {s : List ℕ} {v : ℕ} → hexOf limit s ≡ H.Value v → HexNumber limit s v
-  unfolding hexOf bareOf
-  hex-is {s} {v} e = go (eqb (getD s 0 0) 48 && eqb (getD s 1 0) 120) refl (as-value _ e)
-    where
-      go : (b : Bool) → (eqb (getD s 0 0) 48 && eqb (getD s 1 0) 120) ≡ b → numberOf 16 limit (cond b (drop 2 s) s) ≡ N.Value v → HexNumber limit s v
-      go true t n =
-          HexNumber.prefixed (drop 2 s) (starts-with s (eqb-true _ _ (both-left _ _ t)) (eqb-true _ _ (both-right (eqb (getD s 0 0) 48) _ t))) (number-is 16 limit (drop 2 s) n)
-      go false t n = HexNumber.plain (number-is 16 limit s n)
-
-  pub one-hex : {s : List ℕ} {v w : ℕ} → HexNumber limit s v → HexNumber limit s w → v ≡ w
-  one-hex a b = let x = hex-all a in let y = hex-all b in cc
+    go : (r : Reading) → Judged base limit 0 s r → numberOf base limit s ≡ readValue r
+    go (R.Value v) j = number-all base limit s (judged-reads base limit 0 s j)
+    go R.Empty j = other j (λ v e. let z : _≡_ {A = ℕ} 0 1 = cc in omega arith)
+    go (R.BadDigit k) j = other j (λ v e. let z : _≡_ {A = ℕ} 0 1 = cc in omega arith)
+    go R.TooWide j = other j (λ v e. let z : _≡_ {A = ℕ} 0 1 = cc in omega arith)

@@ -1,16 +1,19 @@
--- Decimal and hex numbers: what is meant, for any base up to 16 and any limit, and the one answer.
+-- Decimal and hex numbers, for any base up to 16 and any limit: what is meant, why a text is no hex number, and the one answer.
 use Prim.Native.Nat.{ℕ, _+_, _*_, _-_, _≤_, _<_}
 use mathlib.Core.Path.{_≡_}
 use mathlib.Core.Bool.{Bool, true, cond, _&&_}
 use mathlib.Core.List.{List, [], _∷_}
 use mathlib.Core.Option.{Option, some, none}
-use lib.Dec.{ltb, leb, eqb}
+use lib.Dec.{ltb, leb}
 use lib.ListN.{length, getD, drop}
 use Rattle.text.specs.Class.{between, isDigit}
+use Rattle.text.specs.Place.{First, firstPlace, isAt}
+use Rattle.text.specs.declared.place.Found.{Found}
+use Rattle.text.specs.declared.place.Found.the-variants.{At, Nothing}
 use Rattle.text.specs.declared.number.Number.{Number}
 use Rattle.text.specs.declared.number.Number.the-variants as N
-use Rattle.text.specs.declared.number.HexAnswer.{HexAnswer}
-use Rattle.text.specs.declared.number.HexAnswer.the-variants as H
+use Rattle.text.specs.declared.number.Reading.{Reading}
+use Rattle.text.specs.declared.number.Reading.the-variants as R
 
 -- the value of a digit of either case, 16 for a byte that is none
 unfoldable pub digitOf : ℕ → ℕ
@@ -37,6 +40,43 @@ pub data HexNumber (limit : ℕ) (s : List ℕ) (v : ℕ) : Type 0 where
   plain : Reads 16 limit s v → HexNumber limit s v
   prefixed : (t : List ℕ) → s ≡ 48 ∷ 120 ∷ t → Reads 16 limit t v → HexNumber limit s v
 
+-- ---- what each answer to a hex text means
+
+-- a byte that is no digit of the base stands at place k
+abbrev pub badAt : ℕ → List ℕ → ℕ → Bool
+badAt base s k = leb base (digitOf (getD s k 0))
+
+-- where the digits of a hex text start: behind a leading `0x`, else at its start
+pub data DigitsFrom (s : List ℕ) (from : ℕ) : Type 0 where
+  behind : (t : List ℕ) → s ≡ 48 ∷ 120 ∷ t → from ≡ 2 → DigitsFrom s from
+  start : ((t : List ℕ) → s ≡ 48 ∷ 120 ∷ t → ⊥) → from ≡ 0 → DigitsFrom s from
+
+-- empty: nothing stands there, or a bare `0x`
+pub data EmptyHex (s : List ℕ) : Type 0 where
+  nothing : s ≡ [] → EmptyHex s
+  bare : s ≡ 48 ∷ 120 ∷ [] → EmptyHex s
+
+-- a bad digit at a place: it is the first byte from the start of the digits on that is no hex digit; a leading `0x` is counted
+pub record BadHex (s : List ℕ) (place : ℕ) : Type 0 where
+  pub from : ℕ
+  pub digits : DigitsFrom s from
+  pub first : First (badAt 16 s) from (length s) place
+
+-- too wide: a hex number but for the width, and its value is past the limit
+pub record WideHex (limit : ℕ) (s : List ℕ) : Type 0 where
+  pub value : ℕ
+  pub number : HexNumber value s value
+  pub over : limit < value
+
+-- what each case of the hex reader's answer means of the text
+abbrev pub Means : ℕ → List ℕ → Reading → Type 0
+Means limit s (R.Value v) = HexNumber limit s v
+Means limit s R.Empty = EmptyHex s
+Means limit s (R.BadDigit place) = BadHex s place
+Means limit s R.TooWide = WideHex limit s
+
+-- ---- the one answer
+
 -- every byte is a digit of the base
 unfoldable pub allDigits : ℕ → List ℕ → Bool
 allDigits base [] = true
@@ -49,18 +89,36 @@ numberOf base limit s =
     (N.Value (value base 0 s))
     N.Unreadable
 
--- what stands behind a leading `0x`, else the whole text
-unfoldable pub bareOf : List ℕ → List ℕ
-bareOf s = cond (eqb (getD s 0 0) 48 && eqb (getD s 1 0) 120) (drop 2 s) s
+-- a bad digit that was found goes before whatever else is told
+unfoldable pub badFirst : Found → Reading → Reading
+badFirst (At k) told = R.BadDigit k
+badFirst Nothing told = told
 
--- a number's value stays, and what was unreadable stays so
-unfoldable pub asHex : Number → HexAnswer
-asHex (N.Value v) = H.Value v
-asHex N.Unreadable = H.Unreadable
+-- a value within the limit, or one past it
+unfoldable pub valueWithin : ℕ → ℕ → Reading
+valueWithin limit v = cond (leb v limit) (R.Value v) R.TooWide
 
--- the hex number that s is
-unfoldable pub hexOf : ℕ → List ℕ → HexAnswer
-hexOf limit s = asHex (numberOf 16 limit (bareOf s))
+-- what the digits of s from a place on come to
+unfoldable pub readingOf : ℕ → ℕ → ℕ → List ℕ → Reading
+readingOf base limit from s =
+    cond (ltb from (length s))
+    (badFirst (firstPlace (badAt base s) (length s) from) (valueWithin limit (value base 0 (drop from s))))
+    R.Empty
+
+-- where the digits of a hex text start
+unfoldable pub digitsFrom : List ℕ → ℕ
+digitsFrom s = cond (isAt 48 s 0 && isAt 120 s 1) 2 0
+
+-- what a hex text is: a number, or why it is none
+unfoldable pub hexOf : ℕ → List ℕ → Reading
+hexOf limit s = readingOf 16 limit (digitsFrom s) s
+
+-- the number alone
+unfoldable pub readValue : Reading → Number
+readValue (R.Value v) = N.Value v
+readValue R.Empty = N.Unreadable
+readValue (R.BadDigit k) = N.Unreadable
+readValue R.TooWide = N.Unreadable
 
 -- a number that may be unreadable, as a value
 unfoldable pub numberValue : Number → Option ℕ
@@ -68,6 +126,5 @@ numberValue (N.Value v) = some v
 numberValue N.Unreadable = none
 
 -- a hex number that may be unreadable, as a value
-unfoldable pub hexValue : HexAnswer → Option ℕ
-hexValue (H.Value v) = some v
-hexValue H.Unreadable = none
+abbrev pub hexValue : Reading → Option ℕ
+hexValue reading = numberValue (readValue reading)

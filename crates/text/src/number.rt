@@ -1,11 +1,13 @@
 // Decimal and hex numbers within a width: one reader over base and limit.
 use crate::class::is_digit;
 use crate::class::lies_between;
+use crate::place::byte_at;
 ghost use mathlib.Core.Path.{_≡_};
-ghost use Prim.Native.Nat.{_≤_, _<_, _-_};
+ghost use Prim.Native.Nat.{_≤_, _<_};
 ghost use lib.ListN.{length};
-ghost use Rattle.text.specs.Part.{OwnBytes};
-ghost use Rattle.text.specs.Number.{digitOf, numberOf, bareOf, hexOf};
+ghost use Rattle.text.specs.declared.number.Reading.the-variants as R;
+ghost use Rattle.text.specs.Place.{firstPlace};
+ghost use Rattle.text.specs.Number.{digitOf, numberOf, badAt, badFirst, readingOf, digitsFrom, hexOf, readValue};
 
 // The largest value of each width.
 pub const MAX_8: u64 = 0xff;
@@ -23,71 +25,94 @@ pub enum Number {
     Unreadable,
 }
 
-// A type of its own, so that a hex number can come to say why it is unreadable while its value stays where it is.
-pub enum HexAnswer {
+// A number, or why there is none: no digit stands there; at this place stands a byte that is no digit; or the value is past the limit.
+pub enum Reading {
     Value(u64),
-    Unreadable,
+    Empty,
+    BadDigit(usize),
+    TooWide,
 }
 
 // Digits only, one or more, of value at most the limit.
 pub fn decimal(s: &[u8], limit: u64) -> Number
     ensures { λ r. ⌜ r ≡ numberOf 10 limit (now (s .entry)) ⌝ }
 {
-    read(s, 10, limit)
+    value_of(read(s, 0, 10, limit))
 }
 
-// `0x` at most once, then one or more digits of either case, of value at most the limit.
-pub fn hex(s: &[u8], limit: u64) -> HexAnswer
+// `0x` at most once, then one or more digits of either case, of value at most the limit. A bad digit's place counts the `0x`.
+pub fn hex(s: &[u8], limit: u64) -> Reading
     ensures { λ r. ⌜ r ≡ hexOf limit (now (s .entry)) ⌝ }
 {
-    let digits = bare(s);
-    match read(digits, 16, limit) {
-        Number::Value(v) => HexAnswer::Value(v),
-        Number::Unreadable => HexAnswer::Unreadable,
-    }
+    read(s, digits_from(s), 16, limit)
 }
 
-// What stands behind a leading `0x`, else the whole text.
-fn bare(s: &[u8]) -> &[u8]
-    ensures { λ r. ⌜ OwnBytes (s .entry) (length (now (s .entry)) - length (bareOf (now (s .entry)))) (bareOf (now (s .entry))) r ⌝ }
+// The number alone, for those who do not ask why there is none.
+pub fn value_of(reading: Reading) -> Number
+    ensures { λ r. ⌜ r ≡ readValue reading ⌝ }
 {
-    if s.len() < 2 {
-        return s;
+    match reading {
+        Reading::Value(v) => Number::Value(v),
+        Reading::Empty => Number::Unreadable,
+        Reading::BadDigit(_) => Number::Unreadable,
+        Reading::TooWide => Number::Unreadable,
     }
-    if s[0] != b'0' {
-        return s;
-    }
-    if s[1] != b'x' {
-        return s;
-    }
-    &s[2..]
 }
 
-// The number is given up as soon as it passes the limit, so no sum wraps however many digits there are.
-fn read(s: &[u8], base: u64, limit: u64) -> Number
+// Behind a leading `0x`, else the start.
+fn digits_from(s: &[u8]) -> usize
+    ensures { λ r. ⌜ r ≡ digitsFrom (now (s .entry)) ⌝ }
+{
+    if byte_at(s, 0) != b'0' {
+        return 0;
+    }
+    if byte_at(s, 1) != b'x' {
+        return 0;
+    }
+    2
+}
+
+// The digits from a place on. The limit is divided once: a value above the quotient has no room for any further digit, and for one that is not,
+// the product stays within the limit, so no sum wraps however many digits there are.
+fn read(s: &[u8], from: usize, base: u64, limit: u64) -> Reading
     requires { ⌜ (0 < base) × (base ≤ 16) ⌝ }
-    ensures { λ r. ⌜ r ≡ numberOf base limit (now (s .entry)) ⌝ }
+    ensures { λ r. ⌜ r ≡ readingOf base limit from (now (s .entry)) ⌝ }
 {
-    if s.len() == 0 {
-        return Number::Unreadable;
+    if s.len() <= from {
+        return Reading::Empty;
     }
+    let most = limit / base;
     let mut v: u64 = 0;
-    let mut i = 0;
+    let mut i = from;
     while i < s.len() {
         let d = digit(s[i]);
         if base <= d {
-            return Number::Unreadable;
+            return Reading::BadDigit(i);
         }
-        if limit < d {
-            return Number::Unreadable;
+        if most < v {
+            return past_width(s, i + 1, base);
         }
-        if (limit - d) / base < v {
-            return Number::Unreadable;
+        if limit - v * base < d {
+            return past_width(s, i + 1, base);
         }
         v = v * base + d;
         i += 1;
     }
-    Number::Value(v)
+    Reading::Value(v)
+}
+
+// The value is past the limit, but the first bad digit goes before width, however late it stands.
+fn past_width(s: &[u8], from: usize, base: u64) -> Reading
+    ensures { λ r. ⌜ r ≡ badFirst (firstPlace (badAt base (now (s .entry))) (length (now (s .entry))) from) R.TooWide ⌝ }
+{
+    let mut i = from;
+    while i < s.len() {
+        if base <= digit(s[i]) {
+            return Reading::BadDigit(i);
+        }
+        i += 1;
+    }
+    Reading::TooWide
 }
 
 // The value of a digit of either case, 16 for any other byte.

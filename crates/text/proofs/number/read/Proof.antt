@@ -1,25 +1,27 @@
--- `number::read` meets its contract: what is read so far is a `Reading`, and each way out is one of its laws. Assumes nothing.
-use Rattle.text.proofs.Numbers.{Reading, reading-starts, reading-steps, none-empty, none-digit, none-wide, whole-number, passes, fails}
+-- `number::read` meets its contract: what is read so far is a `SoFar`, and each way out is one of its laws. Assumes nothing.
+use Rattle.text.proofs.Numbers.{SoFar, so-far-starts, so-far-steps, none-there, bad-here, wide-here, whole-value, within-most, above-most}
 use lib.ListN.{length}
 use Prim.Native.Nat.{_-_}
-use mathlib.Core.Path.{sym}
-use mathlib.Core.List.{[]}
-use borrow.Author.Needs.{needs}
+use mathlib.Core.Path.{_∙_}
 use native.Mathlib.Omega.{arith}
+use borrow.Author.Needs.{needs}
 use Rattle.text.proofs.number.read.Statement.{statement}
 use Rattle.text.proofs.number.read.Tie as tie
 
 abbrev Inv-loop : tie.InvT-loop
-Inv-loop s base limit v₀ i₀ v i = Reading base limit s v i
+Inv-loop s from base limit most v₀ i₀ v i = SoFar base limit from s v i
 
 abbrev μ-loop : tie.MeasureT-loop
-μ-loop s base limit v₀ i₀ v i = length s - i
+μ-loop s from base limit most v₀ i₀ v i = length s - i
 
 returns : tie.Need-returns Inv-loop μ-loop
-returns c = sym (none-empty _ _ _ (c .if1 .taken))
+returns c = none-there _ _ _ _ (c .if1 .taken)
+
+div-most : tie.Need-div-most Inv-loop μ-loop
+div-most c = search needs
 
 loop-holds : tie.Need-loop-holds Inv-loop μ-loop
-loop-holds c = reading-starts _ _ _ (omega (arith, c .if1 .left))
+loop-holds c = so-far-starts _ _ _ _ (c .if1 .left)
 
 shared-slice-read-digit : tie.Need-shared-slice-read-digit Inv-loop μ-loop
 shared-slice-read-digit c = search needs
@@ -28,25 +30,41 @@ digit-requires : tie.Need-digit-requires Inv-loop μ-loop
 digit-requires c κs = search needs
 
 returns-2 : tie.Need-returns-2 Inv-loop μ-loop
-returns-2 c = sym (none-digit _ _ _ (c .before .before .before .before .loop .inv) (c .before .before .before .loop-test .taken) (rw (← c .before .digit .ensures) (c .if2 .taken)))
+returns-2 c = bad-here _ _ _ _ (c .before .before .before .before .loop .inv) (c .before .before .before .loop-test .taken) (c .before .digit .ensures) (c .if2 .taken)
+
+add-past-width : tie.Need-add-past-width Inv-loop μ-loop
+add-past-width c = search needs
+
+past-width-requires : tie.Need-past-width-requires Inv-loop μ-loop
+past-width-requires c κs = search needs
 
 returns-3 : tie.Need-returns-3 Inv-loop μ-loop
-returns-3 c = sym (none-wide _ _ _ (c .before .before .before .before .before .before .before .before .pre .0) (c .before .before .before .before .before .loop .inv) (c .before .before .before .before .loop-test .taken) (rw (← c .before .before .digit .ensures) (omega (arith, c .if3 .taken))))
+returns-3 c =
+    c .past-width .ensures
+    ∙ wide-here _ _ _ _ (c .before .before .before .before .before .before .before .before .before .pre .0) (c .before .before .before .before .before .before .loop .inv) (c .before .before .before .before .before .loop-test .taken) (c .before .before .before .digit .ensures) (c .before .before .if2 .left) (above-most _ _ (c .before .before .before .before .before .before .before .before .before .pre .0) _ (c .before .if3 .taken))
 
-div-if4 : tie.Need-div-if4 Inv-loop μ-loop
-div-if4 c = search needs
+mul-if4 : tie.Need-mul-if4 Inv-loop μ-loop
+mul-if4 c = record { fits = omega (arith, within-most _ _ (c .before .before .before .before .before .before .before .before .pre .0) (c .if3 .left), c .before .before .before .before .before .before .before .before .fits .limit) }
+
+sub-if4 : tie.Need-sub-if4 Inv-loop μ-loop
+sub-if4 c = within-most _ _ (c .before .before .before .before .before .before .before .before .pre .0) (c .if3 .left)
+
+add-past-width-2 : tie.Need-add-past-width-2 Inv-loop μ-loop
+add-past-width-2 c = search needs
+
+past-width-requires-2 : tie.Need-past-width-requires-2 Inv-loop μ-loop
+past-width-requires-2 c κs = search needs
 
 returns-4 : tie.Need-returns-4 Inv-loop μ-loop
 returns-4 c =
-    sym (none-wide _ _ _ (c .before .before .before .before .before .before .before .before .before .pre .0) (c .before .before .before .before .before .before .loop .inv) (c .before .before .before .before .before .loop-test .taken) (rw (← c .before .before .before .digit .ensures) (fails _ _ [] (c .before .before .before .before .before .before .before .before .before .pre .0) (c .before .if3 .left) (c .if4 .taken))))
+    c .past-width2 .ensures
+    ∙ wide-here _ _ _ _ (c .before .before .before .before .before .before .before .before .before .before .pre .0) (c .before .before .before .before .before .before .before .loop .inv) (c .before .before .before .before .before .before .loop-test .taken) (c .before .before .before .before .digit .ensures) (c .before .before .before .if2 .left) (omega (arith, within-most _ _ (c .before .before .before .before .before .before .before .before .before .before .pre .0) (c .before .before .if3 .left), c .before .if4 .taken))
 
 mul-v : tie.Need-mul-v Inv-loop μ-loop
-mul-v c =
-    record { fits = omega (arith, passes (c .before .before .before .before .before .before .before .before .before .args .base) (c .before .before .before .before .before .before .before .before .before .args .limit) [] (c .before .before .before .before .before .before .before .before .before .pre .0) (c .before .if3 .left) (c .if4 .left), c .before .before .before .before .before .before .before .before .before .fits .limit) }
+mul-v c = record { fits = omega (arith, within-most _ _ (c .before .before .before .before .before .before .before .before .before .pre .0) (c .before .if3 .left), c .before .before .before .before .before .before .before .before .before .fits .limit) }
 
 add-v : tie.Need-add-v Inv-loop μ-loop
-add-v c =
-    record { fits = omega (arith, passes (c .before .before .before .before .before .before .before .before .before .args .base) (c .before .before .before .before .before .before .before .before .before .args .limit) [] (c .before .before .before .before .before .before .before .before .before .pre .0) (c .before .if3 .left) (c .if4 .left), c .before .before .before .before .before .before .before .before .before .fits .limit) }
+add-v c = record { fits = omega (arith, within-most _ _ (c .before .before .before .before .before .before .before .before .before .pre .0) (c .before .if3 .left), c .if4 .left, c .before .before .before .before .before .before .before .before .before .fits .limit) }
 
 add-i : tie.Need-add-i Inv-loop μ-loop
 add-i c = search needs
@@ -56,10 +74,10 @@ loop-less c = search needs
 
 loop-again : tie.Need-loop-again Inv-loop μ-loop
 loop-again c =
-    rw (c .before .before .before .digit .ensures) (reading-steps _ _ _ (c .before .before .before .before .before .before .loop .inv) (c .before .before .before .before .before .loop-test .taken) (rw (← c .before .before .before .digit .ensures) (c .before .before .if2 .left)) (rw (← c .before .before .before .digit .ensures) (passes _ _ [] (c .before .before .before .before .before .before .before .before .before .pre .0) (c .before .if3 .left) (c .if4 .left))))
+    so-far-steps _ _ _ _ (c .before .before .before .before .before .before .loop .inv) (c .before .before .before .before .before .loop-test .taken) (c .before .before .before .digit .ensures) (c .before .before .if2 .left) (omega (arith, within-most _ _ (c .before .before .before .before .before .before .before .before .before .pre .0) (c .before .if3 .left), c .if4 .left))
 
 returns-5 : tie.Need-returns-5 Inv-loop μ-loop
-returns-5 c = sym (whole-number _ _ _ (c .before .loop .inv) (c .loop-test .left))
+returns-5 c = whole-value _ _ _ _ (c .before .loop .inv) (c .loop-test .left)
 
 pub read-spec : {M : Type 1} → statement M
 read-spec =
@@ -68,12 +86,18 @@ read-spec =
     Inv-loop
     μ-loop
     returns
+    div-most
     loop-holds
     shared-slice-read-digit
     digit-requires
     returns-2
+    add-past-width
+    past-width-requires
     returns-3
-    div-if4
+    mul-if4
+    sub-if4
+    add-past-width-2
+    past-width-requires-2
     returns-4
     mul-v
     add-v

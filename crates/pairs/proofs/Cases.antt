@@ -4,7 +4,7 @@ use mathlib.Core.List.{[], _∷_}
 use mathlib.Core.Option.{some}
 use Rattle.text.specs.declared.number.Number.the-variants as N
 use Rattle.text.specs.Class.{between, isDigit, isLetter, isWord, inClass}
-use Rattle.text.specs.Number.{digitOf, value, allDigits, numberOf, bareOf, asHex, hexOf}
+use Rattle.text.specs.Number.{digitOf, value, allDigits, numberOf, badFirst, valueWithin, readingOf, digitsFrom, hexOf, readValue}
 use Rattle.text.specs.Place.{firstOf, firstIn, foundBelow, firstPlace}
 use Rattle.text.specs.Quote.{bytes}
 use Rattle.text.specs.Run.{runEnd}
@@ -16,7 +16,7 @@ use Rattle.pairs.proofs.PairLists.{placed}
 
 -- what an example has to compute with
 computes : Unit {0}
-unfolding between isDigit isLetter isWord inClass digitOf value allDigits numberOf bareOf asHex hexOf firstOf firstIn foundBelow firstPlace runEnd sameText bracketEnd valueEnd withValue pairWith pairAt isHit pairFrom nextPair followed pairsWithin pairsFrom newer lastIn lastPair decimalIn decimalOf ahead cut pieceBy pieceOf taken dwordsIn dwordsOf insideOf dataIn dataOf
+unfolding between isDigit isLetter isWord inClass digitOf value allDigits numberOf badFirst valueWithin readingOf digitsFrom hexOf readValue firstOf firstIn foundBelow firstPlace runEnd sameText bracketEnd valueEnd withValue pairWith pairAt isHit pairFrom nextPair followed pairsWithin pairsFrom newer lastIn lastPair decimalIn decimalOf ahead cut pieceBy pieceOf taken dwordsIn dwordsOf insideOf dataIn dataOf
 computes = tt
 
 -- `a=b=c`: one pair, a to b

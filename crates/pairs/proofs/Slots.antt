@@ -12,15 +12,15 @@ use lib.ListN.{length, getD, take, drop, set, length-append, length-drop, drop-o
 use lib.Seq.{drop-cons, drop-drop, set-at, take-at, take-suc, take-length, split-at, getD-append-add, getD-take, getD-drop, length-take-le}
 use borrow.Author.Tests.{lt-ltb, le-ltb, le-leb, lt-leb, eq-eqb, ne-eqb, ltb-true, eqb-true}
 use Rattle.text.specs.declared.class.Class.the-variants.{NotClose}
-use Rattle.text.specs.declared.number.HexAnswer.{HexAnswer}
-use Rattle.text.specs.declared.number.HexAnswer.the-variants as H
+use Rattle.text.specs.declared.number.Number.{Number}
+use Rattle.text.specs.declared.number.Number.the-variants as N
 use Rattle.text.specs.Class.{inClass}
-use Rattle.text.specs.Number.{HexNumber, hexOf}
+use Rattle.text.specs.Number.{HexNumber, hexNumberOf}
 use Rattle.text.specs.Run.{Inside, Run, runEnd}
 use Rattle.text.proofs.Places.{by-order}
 use Rattle.text.proofs.Runs.{run-is, run-all}
 use Rattle.text.proofs.Texts.{both-left, both-right}
-use Rattle.text.proofs.Numbers.{hex-is, hex-all}
+use Rattle.text.proofs.Hexes.{hex-is, hex-all}
 use Rattle.pairs.specs.declared.pair.Span.{Span}
 use Rattle.pairs.specs.declared.pair.Span.the-variants.{At, Nothing}
 use Rattle.pairs.specs.declared.dwords.Piece.{Piece}
@@ -31,7 +31,7 @@ use Rattle.pairs.proofs.Tries.{ends-close}
 use Rattle.pairs.proofs.Cuts.{cut-all, cut-is, cut-last, cut-next}
 
 -- a hex number is within its limit
-pub hex-fits : (limit : ℕ) (s : List ℕ) {v : ℕ} → hexOf limit s ≡ H.Value v → v ≤ limit
+pub hex-fits : (limit : ℕ) (s : List ℕ) {v : ℕ} → hexNumberOf limit s ≡ N.Value v → v ≤ limit
 hex-fits limit s {v} e = go (hex-is limit e)
   where
     go : HexNumber limit s v → v ≤ limit
@@ -40,11 +40,11 @@ hex-fits limit s {v} e = go (hex-is limit e)
 
 -- what becomes of a piece, as its number is read
 module _ (p : List ℕ) where
-  pub piece-dword : {v : ℕ} → hexOf (2 ^ 32 - 1) p ≡ H.Value v → Dword v ≡ pieceOf p
+  pub piece-dword : {v : ℕ} → hexNumberOf (2 ^ 32 - 1) p ≡ N.Value v → Dword v ≡ pieceOf p
   unfolding pieceOf pieceBy
   piece-dword e = rw e
 
-  pub piece-left-out : hexOf (2 ^ 32 - 1) p ≡ H.Unreadable → LeftOut ≡ pieceOf p
+  pub piece-left-out : hexNumberOf (2 ^ 32 - 1) p ≡ N.Unreadable → LeftOut ≡ pieceOf p
   unfolding pieceOf pieceBy
   piece-left-out e = rw e
 
@@ -176,14 +176,14 @@ slots-short ds out h = rw (lt-leb _ _ h)
 pub dwords-in-is : (ps : List (List ℕ)) → Dwords ps (dwordsIn ps)
 unfolding dwordsIn taken
 dwords-in-is [] = Dwords.empty
-dwords-in-is (p ∷ ps) = go (hexOf (2 ^ 32 - 1) p) refl (dwords-in-is ps)
+dwords-in-is (p ∷ ps) = go (hexNumberOf (2 ^ 32 - 1) p) refl (dwords-in-is ps)
   where
-    go : (h : HexAnswer) → hexOf (2 ^ 32 - 1) p ≡ h → Dwords ps (dwordsIn ps) →
+    go : (h : Number) → hexNumberOf (2 ^ 32 - 1) p ≡ h → Dwords ps (dwordsIn ps) →
         Dwords (p ∷ ps) (taken (pieceOf p) (dwordsIn ps))
-    go (H.Value v) e r = rw (← piece-dword p e) (Dwords.dword (hex-is (2 ^ 32 - 1) e) r)
-    go H.Unreadable e r =
+    go (N.Value v) e r = rw (← piece-dword p e) (Dwords.dword (hex-is (2 ^ 32 - 1) e) r)
+    go N.Unreadable e r =
         rw (← piece-left-out p e)
-        (Dwords.left-out (λ v n. let q : hexOf (2 ^ 32 - 1) p ≡ H.Value v = hex-all
+        (Dwords.left-out (λ v n. let q : hexNumberOf (2 ^ 32 - 1) p ≡ N.Value v = hex-all
         (2 ^ 32 - 1) n in let z : _≡_ {A = ℕ} 0 1 = cc in omega arith) r)
 
 pub dwords-in-all : {ps : List (List ℕ)} {ds : List ℕ} → Dwords ps ds → dwordsIn ps ≡ ds
@@ -195,12 +195,12 @@ dwords-in-all (Dwords.dword {p = p} {v = v} {ps = ps} n r) =
 dwords-in-all (Dwords.left-out {p = p} {ps = ps} n r) =
     ap (λ (x : Piece). taken x (dwordsIn ps)) (sym (piece-left-out p unreadable)) ∙ dwords-in-all r
   where
-    go : (h : HexAnswer) → hexOf (2 ^ 32 - 1) p ≡ h → h ≡ H.Unreadable
-    go (H.Value v) e = absurd (n v (hex-is (2 ^ 32 - 1) e))
-    go H.Unreadable e = refl
+    go : (h : Number) → hexNumberOf (2 ^ 32 - 1) p ≡ h → h ≡ N.Unreadable
+    go (N.Value v) e = absurd (n v (hex-is (2 ^ 32 - 1) e))
+    go N.Unreadable e = refl
 
-    unreadable : hexOf (2 ^ 32 - 1) p ≡ H.Unreadable
-    unreadable = go (hexOf (2 ^ 32 - 1) p) refl
+    unreadable : hexNumberOf (2 ^ 32 - 1) p ≡ N.Unreadable
+    unreadable = go (hexNumberOf (2 ^ 32 - 1) p) refl
 
 -- the ways of brackets
 module _ (value : List ℕ) where

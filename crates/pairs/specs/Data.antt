@@ -7,10 +7,10 @@ use mathlib.Core.Option.{Option, some, none}
 use lib.Dec.{ltb, leb, eqb}
 use lib.ListN.{length, getD, drop}
 use Rattle.text.specs.declared.class.Class.the-variants.{NotClose}
-use Rattle.text.specs.declared.number.HexAnswer.{HexAnswer}
-use Rattle.text.specs.declared.number.HexAnswer.the-variants as H
+use Rattle.text.specs.declared.number.Number.{Number}
+use Rattle.text.specs.declared.number.Number.the-variants as N
 use Rattle.text.specs.Class.{inClass}
-use Rattle.text.specs.Number.{HexNumber, hexOf}
+use Rattle.text.specs.Number.{HexNumber, hexNumberOf}
 use Rattle.text.specs.Place.{isAt, firstIn}
 use Rattle.text.specs.Run.{Inside, runEnd}
 use Rattle.pairs.specs.declared.pair.Span.{Span}
@@ -58,13 +58,13 @@ cut (a ∷ []) = (a ∷ []) ∷ []
 cut (a ∷ b ∷ l) = cond (eqb a 44 && eqb b 32) ([] ∷ cut l) (ahead a (cut (b ∷ l)))
 
 -- what becomes of a number's reading: a value is a dword, and what is not 32-bit hex is left out
-unfoldable pub pieceBy : HexAnswer → Piece
-pieceBy (H.Value v) = Dword v
-pieceBy H.Unreadable = LeftOut
+unfoldable pub pieceBy : Number → Piece
+pieceBy (N.Value v) = Dword v
+pieceBy N.Unreadable = LeftOut
 
 -- what becomes of a piece
 unfoldable pub pieceOf : List ℕ → Piece
-pieceOf p = pieceBy (hexOf (2 ^ 32 - 1) p)
+pieceOf p = pieceBy (hexNumberOf (2 ^ 32 - 1) p)
 
 -- what a piece adds to the dwords of those behind it
 unfoldable pub taken : Piece → List ℕ → List ℕ

@@ -8,12 +8,10 @@ use lib.ListN.{length, getD, take, drop}
 use Rattle.text.specs.declared.class.Class.the-variants.{NotClose}
 use Rattle.text.specs.declared.number.Number.{Number}
 use Rattle.text.specs.declared.number.Number.the-variants as N
-use Rattle.text.specs.declared.number.HexAnswer.{HexAnswer}
-use Rattle.text.specs.declared.number.HexAnswer.the-variants as H
 use Rattle.text.specs.declared.place.Found.{Found}
 use Rattle.text.specs.declared.place.Found.the-variants as F
 use Rattle.text.specs.Class.{isWord, inClass}
-use Rattle.text.specs.Number.{numberOf, hexOf}
+use Rattle.text.specs.Number.{numberOf, readValue, hexOf}
 use Rattle.text.specs.Place.{firstPlace, isAt}
 use Rattle.text.specs.Run.{Inside, Run, runEnd}
 use Rattle.text.specs.Same.{sameText}
@@ -21,6 +19,8 @@ use Rattle.pairs.specs.declared.pair.Pair.{Pair}
 use Rattle.pairs.specs.declared.pair.Pair.the-variants.{Hit, Miss}
 use Rattle.pairs.specs.declared.pair.Span.{Span}
 use Rattle.pairs.specs.declared.pair.Span.the-variants.{At, Nothing}
+use Rattle.pairs.specs.declared.key.KeyReading.{KeyReading}
+use Rattle.pairs.specs.declared.key.KeyReading.the-variants.{Read, Absent}
 
 -- the part of s from a up to b
 abbrev pub part : List ℕ → ℕ → ℕ → List ℕ
@@ -177,14 +177,23 @@ decimalIn s limit Nothing = N.Unreadable
 unfoldable pub decimalOf : List ℕ → List ℕ → ℕ → Number
 decimalOf s key limit = decimalIn s limit (lastPair s key)
 
--- the hex number in a part of s
-unfoldable pub hexIn : List ℕ → ℕ → Span → HexAnswer
-hexIn s limit (At a b) = hexOf limit (part s a b)
-hexIn s limit Nothing = H.Unreadable
+-- what a part of s says in hex; where there is no part, the key is absent
+unfoldable pub hexIn : List ℕ → ℕ → Span → KeyReading
+hexIn s limit (At a b) = Read (hexOf limit (part s a b))
+hexIn s limit Nothing = Absent
 
--- the last pair of the key, in hex
-unfoldable pub hexAt : List ℕ → List ℕ → ℕ → HexAnswer
+-- what the last pair of the key says in hex
+unfoldable pub hexAt : List ℕ → List ℕ → ℕ → KeyReading
 hexAt s key limit = hexIn s limit (lastPair s key)
+
+-- the number alone: an absent key has as little of one as an unreadable value
+unfoldable pub keyNumber : KeyReading → Number
+keyNumber (Read reading) = readValue reading
+keyNumber Absent = N.Unreadable
+
+-- the last pair of the key as a hex number
+abbrev pub hexNumberAt : List ℕ → List ℕ → ℕ → Number
+hexNumberAt s key limit = keyNumber (hexAt s key limit)
 
 -- an answer is the next pair; its places rise within the text, which spares callers the argument
 pub record NextPair (s : List ℕ) (from : ℕ) (r : Pair) : Type 0 where

@@ -1,9 +1,10 @@
 // The dwords of a bracketed value.
 use crate::pair::Span;
 use text::class::Class;
-use text::number::HexAnswer;
 use text::number::MAX_32;
+use text::number::Number;
 use text::number::hex;
+use text::number::value_of;
 use text::place::byte_at;
 use text::run::run_end;
 ghost use mathlib.Core.Path.{_≡_};
@@ -89,9 +90,9 @@ fn write_dwords(inner: &[u8], out: &mut [u32])
 fn read_piece(piece: &[u8]) -> Piece
     ensures { λ r. ⌜ r ≡ pieceOf (now (piece .entry)) ⌝ }
 {
-    match hex(piece, MAX_32) {
-        HexAnswer::Value(v) => Piece::Dword(v as u32),
-        HexAnswer::Unreadable => Piece::LeftOut,
+    match value_of(hex(piece, MAX_32)) {
+        Number::Value(v) => Piece::Dword(v as u32),
+        Number::Unreadable => Piece::LeftOut,
     }
 }
 

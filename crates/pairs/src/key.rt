@@ -1,12 +1,19 @@
 // Numbers by key: the last pair's value, read.
 use crate::pair::Span;
 use crate::pair::last_pair;
-use text::number::HexAnswer;
 use text::number::Number;
+use text::number::Reading;
 use text::number::decimal;
 use text::number::hex;
+use text::number::value_of;
 ghost use mathlib.Core.Path.{_≡_};
-ghost use Rattle.pairs.specs.Pair.{decimalOf, hexAt};
+ghost use Rattle.pairs.specs.Pair.{decimalOf, hexIn, hexAt, keyNumber};
+
+// What a key says in hex. A key that is absent gives no reason: there is nothing to read.
+pub enum KeyReading {
+    Read(Reading),
+    Absent,
+}
 
 // The last pair of the key in decimal; unreadable where there is none.
 pub fn decimal_of(s: &[u8], key: &[u8], limit: u64) -> Number
@@ -18,12 +25,22 @@ pub fn decimal_of(s: &[u8], key: &[u8], limit: u64) -> Number
     }
 }
 
-// The last pair of the key in hex; unreadable where there is none.
-pub fn hex_of(s: &[u8], key: &[u8], limit: u64) -> HexAnswer
+// The last pair of the key in hex, with the reason where it is no number.
+pub fn hex_of(s: &[u8], key: &[u8], limit: u64) -> KeyReading
     ensures { λ r. ⌜ r ≡ hexAt (now (s .entry)) (now (key .entry)) limit ⌝ }
 {
     match last_pair(s, key) {
-        Span::At { from, to } => hex(&s[from..to], limit),
-        Span::Nothing => HexAnswer::Unreadable,
+        Span::At { from, to } => KeyReading::Read(hex(&s[from..to], limit)),
+        Span::Nothing => KeyReading::Absent,
+    }
+}
+
+// The number alone, for an entry, which has the same "none" for an absent key and an unreadable one.
+pub fn number_of(said: KeyReading) -> Number
+    ensures { λ r. ⌜ r ≡ keyNumber said ⌝ }
+{
+    match said {
+        KeyReading::Read(reading) => value_of(reading),
+        KeyReading::Absent => Number::Unreadable,
     }
 }

@@ -9,11 +9,12 @@ use native.Mathlib.Omega.{arith}
 use lib.Dec.{leb, eqb}
 use lib.ListN.{length, getD, drop, List·getD-eq-default}
 use borrow.Author.Tests.{eq-eqb, ne-eqb, eqb-true, lt-leb, leb-false}
+use Rattle.text.specs.declared.number.Number.the-variants as N
 use Rattle.text.specs.declared.number.Reading.{Reading}
 use Rattle.text.specs.declared.number.Reading.the-variants as R
 use Rattle.text.specs.Class.{between, isDigit}
 use Rattle.text.specs.Place.{isAt, First}
-use Rattle.text.specs.Number.{digitOf, value, Reads, HexNumber, DigitsFrom, EmptyHex, BadHex, WideHex, Means, badAt, readingOf, digitsFrom, hexOf}
+use Rattle.text.specs.Number.{digitOf, value, Reads, HexNumber, DigitsFrom, EmptyHex, BadHex, WideHex, Means, badAt, digitsFrom, hexOf, readValue, hexNumberOf}
 use Rattle.text.proofs.Places.{by-order}
 use Rattle.text.proofs.Texts.{both-left, both-right}
 use Rattle.text.proofs.Numbers.{Judged, judged, judged-all, judged-reads, reads-judged}
@@ -142,13 +143,21 @@ module _ (limit : ℕ) (s : List ℕ) where
   pub one-meaning : (a b : Reading) → Means limit s a → Means limit s b → a ≡ b
   one-meaning a b m n = sym (means-all a m) ∙ means-all b n
 
--- numbers by themselves
-module _ (limit : ℕ) {s : List ℕ} where
-  pub hex-all : {v : ℕ} → HexNumber limit s v → hexOf limit s ≡ R.Value v
-  hex-all {v} n = means-all limit s (R.Value v) n
+-- the number alone, for those who do not ask why there is none
+value-read : (r : Reading) {v : ℕ} → readValue r ≡ N.Value v → r ≡ R.Value v
+unfolding readValue
+value-read (R.Value w) e = cc
+value-read R.Empty e = absurd (let z : _≡_ {A = ℕ} 0 1 = cc in omega arith)
+value-read (R.BadDigit k) e = absurd (let z : _≡_ {A = ℕ} 0 1 = cc in omega arith)
+value-read R.TooWide e = absurd (let z : _≡_ {A = ℕ} 0 1 = cc in omega arith)
 
-  pub hex-is : {v : ℕ} → hexOf limit s ≡ R.Value v → HexNumber limit s v
-  hex-is {v} e = hex-exactly limit s (R.Value v) .0 e
+module _ (limit : ℕ) {s : List ℕ} where
+  pub hex-all : {v : ℕ} → HexNumber limit s v → hexNumberOf limit s ≡ N.Value v
+  unfolding readValue
+  hex-all {v} n = rw (means-all limit s (R.Value v) n)
+
+  pub hex-is : {v : ℕ} → hexNumberOf limit s ≡ N.Value v → HexNumber limit s v
+  hex-is {v} e = hex-exactly limit s (R.Value v) .0 (value-read (hexOf limit s) e)
 
   pub one-hex : {v w : ℕ} → HexNumber limit s v → HexNumber limit s w → v ≡ w
   one-hex a b = let x = hex-all a in let y = hex-all b in cc

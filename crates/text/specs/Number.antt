@@ -120,11 +120,11 @@ readValue R.Empty = N.Unreadable
 readValue (R.BadDigit k) = N.Unreadable
 readValue R.TooWide = N.Unreadable
 
+-- the hex number that s is
+abbrev pub hexNumberOf : ℕ → List ℕ → Number
+hexNumberOf limit s = readValue (hexOf limit s)
+
 -- a number that may be unreadable, as a value
 unfoldable pub numberValue : Number → Option ℕ
 numberValue (N.Value v) = some v
 numberValue N.Unreadable = none
-
--- a hex number that may be unreadable, as a value
-abbrev pub hexValue : Reading → Option ℕ
-hexValue reading = numberValue (readValue reading)

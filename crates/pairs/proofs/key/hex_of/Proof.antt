@@ -1,5 +1,6 @@
 -- `key::hex_of` meets its contract: the last pair's value, read, or nothing to read. Assumes nothing.
-use mathlib.Core.Path.{sym, _∙_}
+use mathlib.Core.Path.{sym, ap, _∙_}
+use Rattle.pairs.specs.declared.key.KeyReading.the-variants.{Read}
 use Rattle.pairs.proofs.LastPairs.{hex-some, hex-none}
 use native.Mathlib.Omega.{arith}
 use borrow.Author.Needs.{needs}
@@ -28,9 +29,7 @@ enum-told : tie.Need-enum-told
 enum-told c = search needs
 
 returns : tie.Need-returns
-returns c =
-    c .hex .ensures ∙ hex-some _ _ _
-    (sym (c .before .before .before .before .before .last-pair .ensures .is) ∙ c .before .before .before .from .given .1)
+returns c = ap Read (c .hex .ensures) ∙ hex-some _ _ _ (sym (c .before .before .before .before .before .last-pair .ensures .is) ∙ c .before .before .before .from .given .1)
 
 returns-2 : tie.Need-returns-2
 returns-2 c = hex-none _ _ _ (sym (c .before .before .last-pair .ensures .is) ∙ c .enum-told .given .1)

@@ -4,7 +4,7 @@ use mathlib.Core.Path.{_≡_}
 use mathlib.Core.List.{[], _∷_}
 use mathlib.Core.Option.{some}
 use Rattle.text.specs.declared.number.Number.the-variants as N
-use Rattle.text.specs.declared.number.HexAnswer.the-variants as X
+use Rattle.text.specs.declared.number.Reading.the-variants as X
 use Rattle.text.specs.Number.{hexOf}
 use Rattle.text.specs.Quote.{bytes}
 use Rattle.text.proofs.Cases.{case-P9}
@@ -61,7 +61,7 @@ pub record Cases : Type 0 where
   pub P8 : parseOf (bytes "a-1 [002] 1.2: f: type=t size=3 domain=0 route=0 data=[]") 256 ≡ refused 15
   -- P9: hex 16: `ffff` read, `10000` not
   pub P9-read : hexOf 0xffff (bytes "ffff") ≡ X.Value 0xffff
-  pub P9-not : hexOf 0xffff (bytes "10000") ≡ X.Unreadable
+  pub P9-not : hexOf 0xffff (bytes "10000") ≡ X.TooWide
   -- P10: bits 8 to 15 of 0x12345678: 0x56
   pub P10 : rangeOf 0x12345678 8 15 ≡ 0x56
   -- P11: bits 0 to 31: the dword

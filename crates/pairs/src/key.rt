@@ -7,7 +7,7 @@ use text::number::decimal;
 use text::number::hex;
 use text::number::value_of;
 ghost use mathlib.Core.Path.{_≡_};
-ghost use Rattle.pairs.specs.Pair.{decimalOf, hexIn, hexAt, keyNumber};
+ghost use Rattle.pairs.specs.Pair.{decimalOf, hexAt, hexNumberAt};
 
 // What a key says in hex. A key that is absent gives no reason: there is nothing to read.
 pub enum KeyReading {
@@ -35,11 +35,11 @@ pub fn hex_of(s: &[u8], key: &[u8], limit: u64) -> KeyReading
     }
 }
 
-// The number alone, for an entry, which has the same "none" for an absent key and an unreadable one.
-pub fn number_of(said: KeyReading) -> Number
-    ensures { λ r. ⌜ r ≡ keyNumber said ⌝ }
+// The number alone, as an entry has it: none for an absent key as for an unreadable one.
+pub fn hex_number_of(s: &[u8], key: &[u8], limit: u64) -> Number
+    ensures { λ r. ⌜ r ≡ hexNumberAt (now (s .entry)) (now (key .entry)) limit ⌝ }
 {
-    match said {
+    match hex_of(s, key, limit) {
         KeyReading::Read(reading) => value_of(reading),
         KeyReading::Absent => Number::Unreadable,
     }

@@ -12,12 +12,10 @@ use lib.ListN.{length, getD, take, drop}
 use borrow.Author.Tests.{ltb-true, ltb-false, leb-true, le-leb, eqb-true, eq-eqb}
 use Rattle.text.specs.declared.number.Number.{Number}
 use Rattle.text.specs.declared.number.Number.the-variants as N
-use Rattle.text.specs.declared.number.HexAnswer.{HexAnswer}
-use Rattle.text.specs.declared.number.HexAnswer.the-variants as X
 use Rattle.text.specs.declared.place.Found.{Found}
 use Rattle.text.specs.declared.place.Found.the-variants as P
 use Rattle.text.specs.Told as T
-use Rattle.text.specs.Number.{numberValue, hexValue}
+use Rattle.text.specs.Number.{numberValue}
 use Rattle.text.specs.Place.{lastByte}
 use Rattle.text.specs.Quote.{bytes}
 use Rattle.text.proofs.Places.{clash, first-is, first-free}
@@ -34,7 +32,7 @@ use Rattle.header.proofs.Dashes.{task-is, task-all, task-within, pid-is, pid-al
 use Rattle.header.proofs.Cpus.{cpu-is, cpu-all}
 use Rattle.header.proofs.Stamps.{timestamp-is, timestamp-all}
 use Rattle.header.proofs.Functions.{function-is, function-all, function-within}
-use Rattle.pairs.specs.Pair.{lastPair, decimalOf, hexAt, pairWithoutEquals, WithoutEquals}
+use Rattle.pairs.specs.Pair.{lastPair, decimalOf, hexNumberAt, pairWithoutEquals, WithoutEquals}
 use Rattle.pairs.specs.Data.{dataOf}
 use Rattle.pairs.proofs.PairLists.{no-pair-without-equals, never-without-equals}
 use Rattle.pairs.proofs.Slots.{data-is, data-all}
@@ -60,11 +58,6 @@ unfolding numberValue
 number-tells (N.Value w) e = cc
 number-tells N.Unreadable e = absurd (let z : _≡_ {A = ℕ} 0 1 = cc in omega arith)
 
-hex-tells : (n : HexAnswer) {v : ℕ} → hexValue n ≡ some v → n ≡ X.Value v
-unfolding hexValue
-hex-tells (X.Value w) e = cc
-hex-tells X.Unreadable e = absurd (let z : _≡_ {A = ℕ} 0 1 = cc in omega arith)
-
 place-tells : (f : Found) {k : ℕ} → placeValue f ≡ some k → f ≡ P.At k
 unfolding placeValue
 place-tells (P.At j) e = cc
@@ -79,10 +72,6 @@ stamp-tells S.Unreadable e = absurd (let z : _≡_ {A = ℕ} 0 1 = cc in omega a
 decimal-there : (v : ℕ) → numberValue (N.Value v) ≡ some v
 unfolding numberValue
 decimal-there v = refl
-
-hex-there : (v : ℕ) → hexValue (X.Value v) ≡ some v
-unfolding hexValue
-hex-there v = refl
 
 place-there : (k : ℕ) → placeValue (P.At k) ≡ some k
 unfolding placeValue
@@ -185,7 +174,7 @@ module _ (t : List ℕ) {k : ℕ} (framed : frameOf t ≡ T.is k) where
       → textAt (payloadOf t k) (lastPair (payloadOf t k) (bytes "type")) ≡ some name
       → decimalOf (payloadOf t k) (bytes "size") (2 ^ 16 - 1) ≡ N.Value size
       → decimalOf (payloadOf t k) (bytes "domain") (2 ^ 32 - 1) ≡ N.Value domain
-      → hexAt (payloadOf t k) (bytes "route") (2 ^ 64 - 1) ≡ X.Value route
+      → hexNumberAt (payloadOf t k) (bytes "route") (2 ^ 64 - 1) ≡ N.Value route
       → payloadData (payloadOf t k) ≡ some ds
       → length ds ≤ 256
       → Says t
@@ -277,7 +266,7 @@ module _ (t : List ℕ) (room : ℕ) where
         → textAt (payloadOf t k) (lastPair (payloadOf t k) (bytes "type")) ≡ some name
         → decimalOf (payloadOf t k) (bytes "size") (2 ^ 16 - 1) ≡ N.Value size
         → decimalOf (payloadOf t k) (bytes "domain") (2 ^ 32 - 1) ≡ N.Value domain
-        → hexAt (payloadOf t k) (bytes "route") (2 ^ 64 - 1) ≡ X.Value route
+        → hexNumberAt (payloadOf t k) (bytes "route") (2 ^ 64 - 1) ≡ N.Value route
         → payloadData (payloadOf t k) ≡ some ds
         → length ds ≤ 256
         → Says t
@@ -307,14 +296,14 @@ module _ (t : List ℕ) (room : ℕ) where
                           (λ domain o. (
                             having t room colon (λ (x y : List ℕ) (v : ℕ). KeyDecimal y (bytes "domain") (2 ^ 32 - 1) v) domain (key-decimal-is (payloadOf t k) (bytes "domain") (2 ^ 32 - 1) (number-tells _ o)),
                             λ c14.
-                                check t room (Says t) (withBody (headerOf t k) (startOf t k) head (payloadOf t k) room) 14 (hexValue (hexAt (payloadOf t k) (bytes "route") (2 ^ 64 - 1))) (T.refused 14)
+                                check t room (Says t) (withBody (headerOf t k) (startOf t k) head (payloadOf t k) room) 14 (numberValue (hexNumberAt (payloadOf t k) (bytes "route") (2 ^ 64 - 1))) (T.refused 14)
                                 (λ route. T.is (record { kind = kindOf name (drop (head .function) (headerOf t k)); size = size; dropped = droppedOf (payloadOf t k); domain = domain; route = route; optionals = optionalsOf (payloadOf t k) })) refl c14
                                 (λ r. lacking t room colon (λ (x y : List ℕ) (v : ℕ). KeyHex y (bytes "route") (2 ^ 64 - 1) v) (λ v q. no-hex (bytes "route") (2 ^ 64 - 1) r q))
                                 (λ route r. (
-                                  having t room colon (λ (x y : List ℕ) (v : ℕ). KeyHex y (bytes "route") (2 ^ 64 - 1) v) route (key-hex-is (payloadOf t k) (bytes "route") (2 ^ 64 - 1) (hex-tells _ r)),
+                                  having t room colon (λ (x y : List ℕ) (v : ℕ). KeyHex y (bytes "route") (2 ^ 64 - 1) v) route (key-hex-is (payloadOf t k) (bytes "route") (2 ^ 64 - 1) (number-tells _ r)),
                                   λ c15.
                                       judge-data head (record { kind = kindOf name (drop (head .function) (headerOf t k)); size = size; dropped = droppedOf (payloadOf t k); domain = domain; route = route; optionals = optionalsOf (payloadOf t k) }) c15
-                                      (λ ds d few. done name size domain route ds n (number-tells _ s) (number-tells _ o) (hex-tells _ r) d few),
+                                      (λ ds d few. done name size domain route ds n (number-tells _ s) (number-tells _ o) (number-tells _ r) d few),
                                 )),
                           )),
                     )),
@@ -324,8 +313,8 @@ module _ (t : List ℕ) (room : ℕ) where
         no-decimal : (key : List ℕ) (limit : ℕ) → numberValue (decimalOf (payloadOf t k) key limit) ≡ none → {v : ℕ} → KeyDecimal (payloadOf t k) key limit v → ⊥
         no-decimal key limit e {v} r = nothing e (ap numberValue (key-decimal-all (payloadOf t k) key limit r) ∙ decimal-there v)
 
-        no-hex : (key : List ℕ) (limit : ℕ) → hexValue (hexAt (payloadOf t k) key limit) ≡ none → {v : ℕ} → KeyHex (payloadOf t k) key limit v → ⊥
-        no-hex key limit e {v} r = nothing e (ap hexValue (key-hex-all (payloadOf t k) key limit r) ∙ hex-there v)
+        no-hex : (key : List ℕ) (limit : ℕ) → numberValue (hexNumberAt (payloadOf t k) key limit) ≡ none → {v : ℕ} → KeyHex (payloadOf t k) key limit v → ⊥
+        no-hex key limit e {v} r = nothing e (ap numberValue (key-hex-all (payloadOf t k) key limit r) ∙ decimal-there v)
 
     -- 5 to 9
     judge-head : Clear t room 5 → Ok (partedAnswer t k room)

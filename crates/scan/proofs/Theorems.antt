@@ -14,7 +14,8 @@ use Rattle.text.specs.Quote.{bytes}
 use Rattle.text.specs.Told as T
 use Rattle.text.proofs.Told.{by-cases, fixed-by-told}
 use Rattle.text.proofs.Places.{by-order}
-use Rattle.text.proofs.Numbers.{one-number, one-hex}
+use Rattle.text.proofs.Numbers.{one-number}
+use Rattle.text.proofs.Hexes.{one-hex}
 use Rattle.entry.specs.declared.Entry.{Entry}
 use Rattle.entry.specs.Entry.{EntryValue, partOf, valueOf}
 use Rattle.header.proofs.Dashes.{one-task, one-pid}

@@ -12,16 +12,14 @@ use lib.Seq.{drop-drop, drop-append-le, take-append-le, take-all, take-at}
 use borrow.Author.Tests.{eqb-true, eqb-false}
 use Rattle.text.specs.declared.number.Number.{Number}
 use Rattle.text.specs.declared.number.Number.the-variants as N
-use Rattle.text.specs.declared.number.HexAnswer.{HexAnswer}
-use Rattle.text.specs.declared.number.HexAnswer.the-variants as X
 use Rattle.text.specs.Class.{isBlank}
-use Rattle.text.specs.Number.{numberValue, hexValue}
+use Rattle.text.specs.Number.{numberValue}
 use Rattle.text.specs.Run.{runEnd, runStart, stripped}
 use Rattle.text.proofs.Runs.{run-within}
 use Rattle.text.proofs.Stripping.{rest-is, strip-size}
 use Rattle.entry.specs.Entry.{partOf, byteValue, wordValue}
 use Rattle.entry.proofs.Parts.{part-in}
-use Rattle.pairs.specs.Pair.{decimalOf, hexAt}
+use Rattle.pairs.specs.Pair.{decimalOf, hexNumberAt}
 use Rattle.pairs.specs.Data.{filled}
 use Rattle.scan.specs.Body.{asByte, asWord, isOne}
 use Rattle.scan.specs.Line.{KeyDecimal, KeyHex, Optional, Dropped}
@@ -93,13 +91,13 @@ module _ (p key : List ℕ) (limit : ℕ) where
       go (N.Value v) e = key-decimal-is p key limit e
       go N.Unreadable e = λ v r. let q = key-decimal-all p key limit r in absurd (let z : _≡_ {A = ℕ} 0 1 = cc in omega arith)
 
-  pub optional-hex : Optional (KeyHex p key limit) (hexValue (hexAt p key limit))
-  unfolding hexValue
-  optional-hex = go (hexAt p key limit) refl
+  pub optional-hex : Optional (KeyHex p key limit) (numberValue (hexNumberAt p key limit))
+  unfolding numberValue
+  optional-hex = go (hexNumberAt p key limit) refl
     where
-      go : (n : HexAnswer) → hexAt p key limit ≡ n → Optional (KeyHex p key limit) (hexValue n)
-      go (X.Value v) e = key-hex-is p key limit e
-      go X.Unreadable e = λ v r. let q = key-hex-all p key limit r in absurd (let z : _≡_ {A = ℕ} 0 1 = cc in omega arith)
+      go : (n : Number) → hexNumberAt p key limit ≡ n → Optional (KeyHex p key limit) (numberValue n)
+      go (N.Value v) e = key-hex-is p key limit e
+      go N.Unreadable e = λ v r. let q = key-hex-all p key limit r in absurd (let z : _≡_ {A = ℕ} 0 1 = cc in omega arith)
 
 -- dropped, as it is read
 pub dropped-is : (p : List ℕ) → Dropped p (isOne (decimalOf p (bytes "dropped") (2 ^ 8 - 1)))

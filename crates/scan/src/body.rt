@@ -3,7 +3,7 @@ use entry::kind::kind_of;
 use entry::optional::MaybeByte;
 use entry::optional::MaybeWord;
 use pairs::key::decimal_of;
-use pairs::key::hex_of;
+use pairs::key::hex_number_of;
 use pairs::pair::Span;
 use pairs::pair::last_pair;
 use pairs::pair::pair_without_equals;
@@ -12,7 +12,6 @@ use refusal::NO_EQUALS;
 use refusal::NO_ROUTE;
 use refusal::NO_SIZE;
 use refusal::NO_TYPE;
-use text::number::HexAnswer;
 use text::number::MAX_8;
 use text::number::MAX_16;
 use text::number::MAX_32;
@@ -62,7 +61,7 @@ pub fn read_body(p: &[u8], function: &[u8]) -> BodyAnswer
     let Number::Value(domain) = decimal_of(p, b"domain", MAX_32) else {
         return BodyAnswer::Refused(NO_DOMAIN);
     };
-    let HexAnswer::Value(route) = hex_of(p, b"route", MAX_64) else {
+    let Number::Value(route) = hex_number_of(p, b"route", MAX_64) else {
         return BodyAnswer::Refused(NO_ROUTE);
     };
     let dropped = is_dropped(p);
@@ -111,18 +110,18 @@ fn read_optionals(p: &[u8]) -> Optionals
 fn hex_byte(p: &[u8], key: &[u8]) -> MaybeByte
     ensures { λ r. ⌜ r ≡ hexByte (now (p .entry)) (now (key .entry)) ⌝ }
 {
-    match hex_of(p, key, MAX_8) {
-        HexAnswer::Value(v) => MaybeByte::Is(v as u8),
-        HexAnswer::Unreadable => MaybeByte::Absent,
+    match hex_number_of(p, key, MAX_8) {
+        Number::Value(v) => MaybeByte::Is(v as u8),
+        Number::Unreadable => MaybeByte::Absent,
     }
 }
 
 fn hex_word(p: &[u8], key: &[u8]) -> MaybeWord
     ensures { λ r. ⌜ r ≡ hexWord (now (p .entry)) (now (key .entry)) ⌝ }
 {
-    match hex_of(p, key, MAX_16) {
-        HexAnswer::Value(v) => MaybeWord::Is(v as u16),
-        HexAnswer::Unreadable => MaybeWord::Absent,
+    match hex_number_of(p, key, MAX_16) {
+        Number::Value(v) => MaybeWord::Is(v as u16),
+        Number::Unreadable => MaybeWord::Absent,
     }
 }
 

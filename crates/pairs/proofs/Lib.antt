@@ -5,4 +5,5 @@ pub mod PairLists
 pub mod LastPairs
 pub mod Cuts
 pub mod Slots
+pub mod Pieces
 pub mod Cases

@@ -1,5 +1,5 @@
 -- The dwords of a bracketed value.
-use Prim.Native.Nat.{ℕ, _+_, _-_, _≤_, _<_, _^_}
+use Prim.Native.Nat.{ℕ, zero, suc, _+_, _-_, _≤_, _<_, _^_}
 use mathlib.Core.Path.{_≡_}
 use mathlib.Core.Bool.{Bool, cond, _&&_}
 use mathlib.Core.List.{List, [], _∷_, _++_}
@@ -88,6 +88,11 @@ commaSpace l k = isAt 44 l k && isAt 32 l (k + 1)
 unfoldable pub pieceEnd : List ℕ → ℕ → ℕ
 pieceEnd l from = firstIn (commaSpace l) (length l) from
 
+-- the i-th of the pieces from a place on: the next ones start behind the comma-space that ends the one before
+unfoldable pub nthPiece : ℕ → List ℕ → ℕ → Span
+nthPiece zero l from = At from (pieceEnd l from)
+nthPiece (suc i) l from = cond (ltb (pieceEnd l from) (length l)) (nthPiece i l (pieceEnd l from + 2)) Nothing
+
 -- what stands between the brackets of a value
 unfoldable pub insideOf : List ℕ → Span
 insideOf value =
@@ -118,6 +123,11 @@ pub record EndsPiece (l : List ℕ) (from e : ℕ) : Type 0 where
   pub up : from ≤ e
   pub within : e ≤ length l
   pub more : e < length l → e + 2 ≤ length l
+
+-- an answer is the i-th piece, and lies within the text
+pub record NthPiece (l : List ℕ) (i : ℕ) (r : Span) : Type 0 where
+  pub is : r ≡ nthPiece i l 0
+  pub within : (a b : ℕ) → r ≡ At a b → (a ≤ b) × (b ≤ length l)
 
 -- the slots after a call: filled where the dwords fit, else as found
 unfoldable pub slotsAfter : List ℕ → List ℕ → List ℕ

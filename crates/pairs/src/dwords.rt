@@ -10,7 +10,7 @@ use text::run::run_end;
 ghost use mathlib.Core.Path.{_≡_};
 ghost use Prim.Native.Nat.{_≤_};
 ghost use lib.ListN.{length};
-ghost use Rattle.pairs.specs.Data.{Bracketed, commaSpace, EndsPiece, dwordsOf, pieceOf, filled, Filled};
+ghost use Rattle.pairs.specs.Data.{Bracketed, commaSpace, EndsPiece, dwordsOf, pieceOf, filled, Filled, NthPiece};
 
 // What becomes of a piece.
 pub enum Piece {
@@ -67,6 +67,25 @@ pub fn fill_dwords(inner: &[u8], out: &mut [u32]) -> usize
     n
 }
 
+// The piece of that number, from 0.
+pub fn nth_piece(inner: &[u8], i: usize) -> Span
+    ensures { λ r. ⌜ NthPiece (now (inner .entry)) i r ⌝ }
+{
+    let mut left = i;
+    let mut at = 0;
+    loop {
+        let to = piece_end(inner, at);
+        if left == 0 {
+            return Span::At { from: at, to: to };
+        }
+        if to == inner.len() {
+            return Span::Nothing;
+        }
+        left -= 1;
+        at = to + 2;
+    }
+}
+
 fn write_dwords(inner: &[u8], out: &mut [u32])
     requires { ⌜ length (dwordsOf (now inner)) ≤ length (now out) ⌝ }
     ensures { λ r. ⌜ now (out .exit) ≡ filled (dwordsOf (now (inner .entry))) (now (out .entry)) ⌝ }
@@ -97,7 +116,7 @@ fn read_piece(piece: &[u8]) -> Piece
 }
 
 // Where the piece from a place on ends: at the next comma-space, else with the text.
-fn piece_end(inner: &[u8], from: usize) -> usize
+pub fn piece_end(inner: &[u8], from: usize) -> usize
     requires { ⌜ from ≤ length (now inner) ⌝ }
     ensures { λ r. ⌜ EndsPiece (now (inner .entry)) from r ⌝ }
 {

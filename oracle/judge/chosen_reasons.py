@@ -1,4 +1,4 @@
-"""Lines of the frozen reasons that were chosen one by one: the page's own examples and the edges."""
+"""Lines of the frozen reasons that were chosen one by one: the smallest that tell two readings of document 02 apart, and the edges."""
 
 from judge.chosen import GOOD, HEAD
 

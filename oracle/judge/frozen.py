@@ -1,18 +1,19 @@
-"""The frozen sample: chosen lines, books, packets, records and histories with their answers, made again from a seed."""
+"""The frozen sample: chosen lines, books, packets, records, histories and reasons with their answers, made again from a seed."""
 
 import struct
 from collections import Counter
 from itertools import islice
 
-from generate import books, histories, lines as line_generator, packets as packet_generator, records as record_generator, short
+from generate import books, histories, lines as line_generator, packets as packet_generator, reasons as reason_generator, records as record_generator
+from generate import short
 from generate.broken import RULES
 from generate.seed import Seed, frame
 from generate.tree import encoded
-from judge import chosen, chosen_books, chosen_records
+from judge import chosen, chosen_books, chosen_reasons, chosen_records
 from judge.differ import group
 from judge.lines import beyond
 from judge.tally import ask
-from reading import book as book_reading, line as line_reading, packet as packet_reading, pending, record as record_reading
+from reading import book as book_reading, line as line_reading, packet as packet_reading, pending, reasons, record as record_reading
 
 SEED = 2024
 SLOTS = 256
@@ -270,3 +271,29 @@ def freeze_histories(origin):
     answers = [pending.answer(data) for data in cases]
     origin["the reading"] = len(answers)
     return {"histories.bin": b"".join(map(frame, cases)), "histories.txt": text(answers)}, answers
+
+
+# Reasons
+
+EACH_REASON = 3
+LONGEST_REASON = 250
+# Of these one is taken, however long.
+LONG_REASONS = "many pieces", "too long"
+
+
+def reason_cases():
+    """The chosen lines, and some of each class, long ones only where it has no others."""
+    taken = Counter()
+    yield from chosen_reasons.lines()
+    for name, line in islice(reason_generator.generate(SEED), 20 * len(reason_generator.CLASSES)):
+        if taken[name] < EACH_REASON and len(line) <= LONGEST_REASON or taken[name] < 1 and name in LONG_REASONS:
+            taken[name] += 1
+            yield line
+
+
+def freeze_reasons(origin):
+    """The Rust gives no reasons, so the reading answers all."""
+    cases = list(dict.fromkeys(reason_cases()))
+    answers = [reasons.answer(line) for line in cases]
+    origin["the reading"] = len(answers)
+    return {"reasons.bin": b"".join(map(frame, cases)), "reasons.txt": text(answers)}, answers

@@ -55,6 +55,12 @@ class PlaceAnswer(ctypes.Structure):
     _fields_ = [("number", ctypes.c_uint8), ("present", ctypes.c_uint8), ("place", ctypes.c_size_t)]
 
 
+class HexAnswer(ctypes.Structure):
+    _fields_ = [
+        ("number", ctypes.c_uint8), ("what", ctypes.c_uint8), ("value", ctypes.c_uint64), ("bad", ctypes.c_size_t),
+        ("at", ctypes.c_size_t), ("len", ctypes.c_size_t)]
+
+
 class Lent:
     """Memory for writing between two guards, all of it marked."""
 

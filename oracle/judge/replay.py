@@ -1,6 +1,6 @@
-"""Replays the frozen sample: python3 replay.py FOLDER_OF_READING FROZEN lines|packets|records|histories
+"""Replays the frozen sample: python3 replay.py FOLDER_OF_READING FROZEN lines|packets|records|histories|reasons
 
-Prints how many answers differ, of lines, of packets and books, of records, or of histories. A crash counts as another answer.
+Prints how many answers differ, of lines, of packets and books, of records, of histories, or of reasons. A crash counts as another answer.
 """
 
 import os
@@ -83,14 +83,19 @@ def replay_records(folder):
     return differing(record_cases(load(folder, "records.bin")), answers(folder, "records.txt"), record.answer)
 
 
+def in_groups(rows, is_last):
+    """The rows of each case, which end with one that is known as its last."""
+    found = [[]]
+    for row in rows:
+        found[-1].append(row)
+        if is_last(row):
+            found.append([])
+    return ["\n".join(group) for group in found[:-1]]
+
+
 def history_answers(folder):
     """The rows of each history: the last one is its table."""
-    found = [[]]
-    for row in answers(folder, "histories.txt"):
-        found[-1].append(row)
-        if row.startswith("table "):
-            found.append([])
-    return ["\n".join(rows) for rows in found[:-1]]
+    return in_groups(answers(folder, "histories.txt"), lambda row: row.startswith("table "))
 
 
 def replay_histories(folder):
@@ -99,7 +104,18 @@ def replay_histories(folder):
     return differing(cases, history_answers(folder), pending.answer)
 
 
-REPLAYS = {"lines": replay_lines, "packets": replay_packets, "records": replay_records, "histories": replay_histories}
+def reason_answers(folder):
+    """The rows of each line: the last one is of a piece that has no text."""
+    return in_groups(answers(folder, "reasons.txt"), lambda row: row.startswith("piece ") and " at " not in row)
+
+
+def replay_reasons(folder):
+    from reading import reasons
+    cases = [(line,) for line in frames(load(folder, "reasons.bin"))]
+    return differing(cases, reason_answers(folder), reasons.answer)
+
+
+REPLAYS = {"lines": replay_lines, "packets": replay_packets, "records": replay_records, "histories": replay_histories, "reasons": replay_reasons}
 
 
 def main():

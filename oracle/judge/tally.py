@@ -55,6 +55,12 @@ class Tally:
         self.answers[answer] += 1
         self.compared += 1
 
+    def all_same(self, name, answers):
+        """One case that gave several answers."""
+        self.classes[name] += 1
+        self.answers.update(answers)
+        self.compared += 1
+
     def beyond(self, name, reason):
         self.classes[name] += 1
         self.outside[reason] += 1

@@ -289,13 +289,21 @@ module _ (inner : List ℕ) (some : 0 < length inner) (no-close : Inside (inClas
   unfolding closed
   inner-part = take-at inner (93 ∷ []) (length inner + 1 - 1) (omega arith)
 
+-- where the brackets of a value stand
+module _ {value ds : List ℕ} (r : Data value ds) where
+  pub data-stands : insideOf value ≡ At 1 (length (r .inner) + 1)
+  unfolding closed
+  data-stands = rw (r .brackets) (inside-closed (r .inner) (r .some) (r .no-close))
+
+  pub data-inner : part value 1 (length (r .inner) + 1) ≡ r .inner
+  unfolding closed
+  data-inner = rw (r .brackets) (inner-part (r .inner) (r .some) (r .no-close))
+
 pub data-all : {value ds : List ℕ} → Data value ds → dataOf value ≡ some ds
-unfolding dataOf dataIn dwordsOf closed
+unfolding dataOf dataIn dwordsOf
 data-all {value} {ds} r =
-    let found : insideOf value ≡ At 1 (length (r .inner) + 1) =
-    rw (r .brackets) (inside-closed (r .inner) (r .some) (r .no-close)) in
-    let inner : part value 1 (length (r .inner) + 1) ≡ r .inner =
-    rw (r .brackets) (inner-part (r .inner) (r .some) (r .no-close)) in
+    let found : insideOf value ≡ At 1 (length (r .inner) + 1) = data-stands r in
+    let inner : part value 1 (length (r .inner) + 1) ≡ r .inner = data-inner r in
     rw found (ap some (ap dwordsOf inner ∙ ap dwordsIn (cut-all (r .cut-at)) ∙ dwords-in-all (r .dwords)))
 
 -- a value between brackets is what stands there

@@ -28,6 +28,20 @@ pub data Cut : List ℕ → List (List ℕ) → Type 0 where
   last : {l : List ℕ} → Whole l → Cut l (l ∷ [])
   more : {l p r : List ℕ} {ps : List (List ℕ)} → Whole p → l ≡ p ++ (44 ∷ 32 ∷ r) → Cut r ps → Cut l (p ∷ ps)
 
+-- pieces, each with the comma-space behind it
+unfoldable pub joined : List (List ℕ) → List ℕ
+joined [] = []
+joined (p ∷ ps) = p ++ (44 ∷ 32 ∷ joined ps)
+
+-- the piece of that number, from 0, and where it stands: from a up to b, behind the pieces before it
+pub record PieceIn (pieces : List (List ℕ)) (i : ℕ) (piece : List ℕ) (a b : ℕ) : Type 0 where
+  pub before : List (List ℕ)
+  pub after : List (List ℕ)
+  pub are : pieces ≡ before ++ (piece ∷ after)
+  pub count : length before ≡ i
+  pub starts : a ≡ length (joined before)
+  pub ends : b ≡ a + length piece
+
 -- the dwords of the pieces, in order: those that are not 32-bit hex are left out
 pub data Dwords : List (List ℕ) → List ℕ → Type 0 where
   empty : Dwords [] []

@@ -1,2 +1,3 @@
--- Why a hex number of a line is unreadable: the one answer, and what it means.
+-- Why a hex number of a line is unreadable: what an answer means, and the one answer.
 pub mod Reasons
+pub mod Meaning

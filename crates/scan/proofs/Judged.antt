@@ -115,7 +115,7 @@ module _ (t : List ℕ) (room : ℕ) {k : ℕ} (colon : lastByte 58 t ≡ P.At k
   payload-not R n h = n (rw (← one-payload t colon (h .split)) (h .there))
 
 -- numbers 1 to 3, as tests and as sentences
-idle-all : (t : List ℕ) → Idle t → idle t ≡ true
+pub idle-all : (t : List ℕ) → Idle t → idle t ≡ true
 idle-all t (Idle.empty e) = idle-empty t (ap length e)
 idle-all t (Idle.newline e) =
     idle-one t (λ z. absurd (omega (arith, ap length e))) (λ z. absurd (omega (arith, ap (λ (l : List ℕ). getD l 0 0) e))) (ap length e)
@@ -142,7 +142,7 @@ idle-is (x ∷ l) e = go (eqb x 35) refl
     go true q = Idle.comment l (ap (λ (y : ℕ). y ∷ l) (eqb-true x 35 q))
     go false q = longer (eqb (length (x ∷ l)) 1) refl (λ z. clash (eq-eqb x 35 z) q)
 
-high-none : (t : List ℕ) → firstHigh t ≡ P.Nothing → High t → ⊥
+pub high-none : (t : List ℕ) → firstHigh t ≡ P.Nothing → High t → ⊥
 unfolding firstHigh
 high-none t e h =
     clash (le-leb 128 (getD t (h .place) 0) (h .high))

@@ -7,4 +7,5 @@ pub mod Values
 pub mod Chain
 pub mod Judged
 pub mod Theorems
+pub mod Framed
 pub mod Cases

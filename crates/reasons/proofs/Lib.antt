@@ -3,3 +3,4 @@ pub mod Said
 pub mod Spots
 pub mod Pieces
 pub mod Told
+pub mod Entries

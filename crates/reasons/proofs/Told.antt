@@ -47,10 +47,10 @@ payload-is-part t colon =
     ∙ take-front (runStart isBlank (drop (runEnd isBlank (drop (colon + 1) t) 0) (drop (colon + 1) t))) (drop (runEnd isBlank (drop (colon + 1) t) 0) (drop (colon + 1) t)))
 
 module _ (t : List ℕ) {colon : ℕ} (f : frameOf t ≡ is colon) where
-  last-colon : lastByte 58 t ≡ P.At colon
+  pub last-colon : lastByte 58 t ≡ P.At colon
   last-colon = frame-passed t f .3
 
-  split-here : Split t (headerOf t colon) (payloadOf t colon)
+  pub split-here : Split t (headerOf t colon) (payloadOf t colon)
   split-here = split-is t last-colon
 
   -- whichever split: its payload has a byte, so it starts at one place
@@ -72,7 +72,7 @@ module _ (At : Spot) (limit : ℕ) (tell : List ℕ → ℕ → Told HexText) (a
   toldOf = andThen (payloadPlace t) (λ p. tell (part t (p .from) (p .to)) (p .from))
 
   -- of a line that is parted, its payload is asked
-  asks : {colon : ℕ} → frameOf t ≡ is colon → toldOf ≡ tell (payloadOf t colon) (startAt t colon)
+  pub asks : {colon : ℕ} → frameOf t ≡ is colon → toldOf ≡ tell (payloadOf t colon) (startAt t colon)
   unfolding payloadPlace payloadFrom
   asks {colon} f = rw f (ap (λ (p : List ℕ). tell p (startAt t colon)) (payload-is-part t colon))
 

@@ -39,7 +39,7 @@ use Rattle.reasons.specs.declared.HexText.{HexText}
 use Rattle.reasons.specs.Reasons.{nameOf, limitOf, saidAt, keyIn, keyAnswer, pieceIn, pieceAt, pieceAnswer, dataSpan}
 use Rattle.reasons.specs.Meaning.{KeyAt, PieceAt, numberTold, NoNumber, Number, fieldOf, kept, pieceNumbers, InOrder}
 use Rattle.reasons.proofs.Spots.{key-answers}
-use Rattle.reasons.proofs.Pieces.{data-found, inner-is, piece-answers}
+use Rattle.reasons.proofs.Pieces.{one-piece, data-found, inner-is, piece-answers}
 use Rattle.reasons.proofs.Told.{startAt, last-colon, split-here, asks}
 
 -- ---- the number that is told
@@ -168,3 +168,84 @@ no-route t room r = go (frameOf t) refl (framed t)
     go : (x : Told ℕ) → frameOf t ≡ x → Framed x → NoNumber (keyAnswer t K.Route)
     go x f (Framed.colon k) = none-there (keyAnswer t K.Route) (key-never t f K.Route) (none-read f (numberTold (keyAnswer t K.Route)) refl)
     go x f (Framed.number k h) = absurd (r .first k (omega arith) (frame-applies t room f .holds))
+
+-- ---- the pieces, in order
+
+-- a number in front is what a piece adds
+kept-taken : (n : NumberModule.Number) (ds : List ℕ) → kept (numberValue n) ds ≡ taken (pieceBy n) ds
+unfolding numberValue pieceBy taken
+kept-taken (N.Value v) ds = refl
+kept-taken N.Unreadable ds = refl
+
+module _ (t : List ℕ) {colon : ℕ} (f : frameOf t ≡ is colon) {c d : ℕ} (found : dataSpan (payloadOf t colon) ≡ At c d) where
+  inner : List ℕ
+  inner = part (payloadOf t colon) c d
+
+  piece-asks : (i : ℕ) → pieceAnswer t i ≡ saidAt (2 ^ 32 - 1) (startAt t colon + c) inner (nthPiece i inner 0)
+  unfolding pieceAnswer pieceIn pieceAt inner
+  piece-asks i = asks (PieceAt i) (2 ^ 32 - 1) (λ p start. pieceIn p start i) (piece-answers i) t f ∙ rw found
+
+  -- a piece that is there is told of, with its number
+  piece-told : (before after : List (List ℕ)) (piece : List ℕ) → cut inner ≡ before ++ (piece ∷ after)
+      → (said : HexText) × (pieceAnswer t (length before) ≡ is said) × (numberTold (pieceAnswer t (length before)) ≡ numberValue (hexNumberOf (2 ^ 32 - 1) piece))
+  unfolding saidAt
+  piece-told before after piece e =
+      let here : PieceIn (cut inner) (length before) piece (length (joined before)) (length (joined before) + length piece) =
+      record { before = before; after = after; are = e; count = refl; starts = refl; ends = refl } in
+      let n = nth-all inner here in
+      let told = piece-asks (length before) ∙ ap (saidAt (2 ^ 32 - 1) (startAt t colon + c) inner) n in
+      let same : part inner (length (joined before)) (length (joined before) + length piece) ≡ piece = one-piece (nth-is inner (length before) n) here in
+      (
+        _,
+        told,
+        ap numberTold told ∙ ap (λ (x : List ℕ). numberValue (hexNumberOf (2 ^ 32 - 1) x)) same,
+      )
+
+  numbers-are : (before after : List (List ℕ)) → cut inner ≡ before ++ after → pieceNumbers t (length after) (length before) ≡ dwordsIn after
+  unfolding pieceNumbers dwordsIn pieceOf
+  numbers-are before [] e = refl
+  numbers-are before (piece ∷ after) e =
+      let w = piece-told before after piece e in
+      let next : length (before ++ (piece ∷ [])) ≡ suc (length before) = omega (arith, length-append before (piece ∷ [])) in
+      let rest : cut inner ≡ (before ++ (piece ∷ [])) ++ after = e ∙ sym (append-assoc before (piece ∷ []) after) in
+      ap (λ (o : Option ℕ). kept o (pieceNumbers t (length after) (suc (length before)))) (w .2)
+      ∙ ap (kept (numberValue (hexNumberOf (2 ^ 32 - 1) piece))) (ap (pieceNumbers t (length after)) (sym next) ∙ numbers-are (before ++ (piece ∷ [])) after rest)
+      ∙ kept-taken (hexNumberOf (2 ^ 32 - 1) piece) (dwordsIn after)
+
+  told-of : (i : ℕ) → i < length (cut inner) → (said : HexText) × (pieceAnswer t i ≡ is said)
+  told-of i h =
+      let w = piece-told (take i (cut inner)) (drop (suc i) (cut inner)) (getD (cut inner) i []) (split-at (cut inner) i [] h) in
+      let size : length (take i (cut inner)) ≡ i = length-take-le i (cut inner) (omega arith) in
+      (w .0, ap (pieceAnswer t) (sym size) ∙ w .1)
+
+  none-behind : (i : ℕ) → length (cut inner) ≤ i → pieceAnswer t i ≡ absent
+  unfolding saidAt
+  none-behind i h = piece-asks i ∙ go (nthPiece i inner 0) refl
+    where
+      go : (s : Span) → nthPiece i inner 0 ≡ s → saidAt (2 ^ 32 - 1) (startAt t colon + c) inner s ≡ absent
+      go (At a b) e =
+          let r = nth-is inner i e in
+          absurd (omega (arith, h, r .count, ap length (r .are), length-append (r .before) (part inner a b ∷ r .after)))
+      go Nothing e = refl
+
+pub in-order : (t : List ℕ) {v : EntryValue} → Line t v → InOrder t (v .dwords)
+unfolding inner
+in-order t {v} l =
+    let w = line-framed t l in
+    let f = w .1 in
+    let same : l .payload ≡ payloadOf t (w .0) = one-payload t (last-colon t f) (l .split) in
+    let value = l .dwords .found in
+    let held : Data (part (l .payload) (value .from) (value .to)) (v .dwords) = rw (← value .is) (l .dwords .brackets) in
+    let found = data-found (l .payload) (value .last) held in
+    let inner-so = inner-is (l .payload) (value .last) held in
+    go (w .0) f (rw same at found) held (rw same at inner-so)
+  where
+    go : (colon : ℕ) (f : frameOf t ≡ is colon) {c d : ℕ} (found : dataSpan (payloadOf t colon) ≡ At c d) {value : List ℕ} (held : Data value (v .dwords)) → part (payloadOf t colon) c d ≡ held .inner → InOrder t (v .dwords)
+    go colon f {c} {d} found held e =
+        let all : cut (part (payloadOf t colon) c d) ≡ held .pieces = ap cut e ∙ cut-all (held .cut-at) in
+        record {
+          count = length (held .pieces);
+          there = λ i h. told-of t f found i (rw all h);
+          behind = λ i h. none-behind t f found i (rw all h);
+          are = sym (dwords-in-all (held .dwords)) ∙ sym (numbers-are t f found [] (held .pieces) all);
+        }

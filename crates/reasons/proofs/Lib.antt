@@ -4,3 +4,4 @@ pub mod Spots
 pub mod Pieces
 pub mod Told
 pub mod Entries
+pub mod Theorems

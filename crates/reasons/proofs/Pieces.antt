@@ -102,7 +102,7 @@ same-place [] (y ∷ ys) zs ws e h = absurd (omega arith)
 same-place (x ∷ xs) [] zs ws e h = absurd (omega arith)
 same-place (x ∷ xs) (y ∷ ys) zs ws {u} {v} e h = same-place xs ys zs ws (let tail : xs ++ (u ∷ zs) ≡ ys ++ (v ∷ ws) = cc in tail) (omega arith)
 
-one-piece : {ps : List (List ℕ)} {i : ℕ} {u v : List ℕ} {a b c d : ℕ} → PieceIn ps i u a b → PieceIn ps i v c d → u ≡ v
+pub one-piece : {ps : List (List ℕ)} {i : ℕ} {u v : List ℕ} {a b c d : ℕ} → PieceIn ps i u a b → PieceIn ps i v c d → u ≡ v
 one-piece x y = same-place (x .before) (y .before) (x .after) (y .after) (sym (x .are) ∙ y .are) (x .count ∙ sym (y .count))
 
 module _ (i : ℕ) where

@@ -143,7 +143,7 @@ module _ (l : List ℕ) where
       (λ m. absurd (omega (arith, e .within)))
     where
       further : (pieceEnd l from < length l → cut (drop (pieceEnd l from + 2) l) ≡ before ++ (piece ∷ after)
-            → nthPiece (length before) l (pieceEnd l from + 2) ≡ At (pieceEnd l from + 2 + length (joined before)) (pieceEnd l from + 2 + length (joined before) + length piece))
+          → nthPiece (length before) l (pieceEnd l from + 2) ≡ At (pieceEnd l from + 2 + length (joined before)) (pieceEnd l from + 2 + length (joined before) + length piece))
           → pieceEnd l from < length l → nthPiece (suc (length before)) l from ≡ At (from + length (joined (p ∷ before))) (from + length (joined (p ∷ before)) + length piece)
       further next m =
           let e = ends-piece l h refl in

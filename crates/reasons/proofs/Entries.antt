@@ -146,11 +146,10 @@ number-exactly t l key n =
     (λ r. sym (number-of-field t l key) ∙ there-number (keyAnswer t key) r, λ e. number-there (keyAnswer t key) (number-of-field t l key ∙ e))
 
 pub none-exactly : (t : List ℕ) {v : EntryValue} → Line t v → (key : Key) → NoNumber (keyAnswer t key) ↔ (fieldOf key v ≡ none)
-none-exactly t l key =
-    (
-      λ r. sym (number-of-field t l key) ∙ there-none r,
-      λ e. none-there (keyAnswer t key) (key-never t (line-framed t l .1) key) (number-of-field t l key ∙ e),
-    )
+none-exactly t l key = (
+  λ r. sym (number-of-field t l key) ∙ there-none r,
+  λ e. none-there (keyAnswer t key) (key-never t (line-framed t l .1) key) (number-of-field t l key ∙ e),
+)
 
 -- ---- a line refused with 14
 
@@ -194,8 +193,7 @@ module _ (t : List ℕ) {colon : ℕ} (f : frameOf t ≡ is colon) {c d : ℕ} (
       record { before = before; after = after; are = e; count = refl; starts = refl; ends = refl } in
       let n = nth-all inner here in
       let told = piece-asks (length before) ∙ ap (saidAt (2 ^ 32 - 1) (startAt t colon + c) inner) n in
-      let same : part inner (length (joined before)) (length (joined before) + length piece) ≡ piece = one-piece (nth-is inner (length before) n) here in
-      (
+      let same : part inner (length (joined before)) (length (joined before) + length piece) ≡ piece = one-piece (nth-is inner (length before) n) here in (
         _,
         told,
         ap numberTold told ∙ ap (λ (x : List ℕ). numberValue (hexNumberOf (2 ^ 32 - 1) x)) same,

@@ -5,3 +5,4 @@ pub mod Pieces
 pub mod Told
 pub mod Entries
 pub mod Theorems
+pub mod Cases

@@ -2,17 +2,14 @@
 -- one spot that the answer gives. Assumes nothing.
 use Prim.Native.Nat.{ℕ, suc, _+_, _-_, _≤_, _<_}
 use mathlib.Core.Path.{_≡_, refl, sym, ap, _∙_}
-use mathlib.Core.List.{List, _++_}
+use mathlib.Core.List.{List}
 use native.Mathlib.Omega.{arith}
-use lib.ListN.{length, getD, take, drop, length-append, List·getD-append}
-use lib.Seq.{drop-drop, take-take, getD-append-add}
+use lib.ListN.{length, take, drop}
+use lib.Seq.{drop-drop, take-take}
 use Rattle.tlv.proofs.Places.{drop-take}
 use Rattle.text.specs.Told.{Told, is, absent, refused}
-use Rattle.text.specs.Class.{isBlank}
 use Rattle.text.specs.Number.{Means, hexOf}
 use Rattle.text.specs.declared.number.Reading.{Reading}
-use Rattle.text.specs.Run.{Run, Stripped, runEnd}
-use Rattle.text.proofs.Runs.{run-all}
 use Rattle.text.proofs.Hexes.{hex-means, means-all}
 use Rattle.pairs.specs.declared.pair.Span.{Span}
 use Rattle.pairs.specs.declared.pair.Span.the-variants.{At, Nothing}
@@ -36,23 +33,6 @@ part-in-part l s e a b h =
   where
     shorter : (k : ℕ) (r : List ℕ) → b ≤ e - s → take (b - a) (take (e - s - a) r) ≡ take (b - a) r
     shorter k r h = take-take (b - a) (e - s - a) r (omega arith)
-
--- the blanks in front of a text that has a byte are as many as the run of blanks is long
-pub front-size : {s t : List ℕ} (r : Stripped s t) → 0 < length t → length (r .front) ≡ runEnd isBlank s 0
-front-size {s} {t} r some =
-    sym (run-all isBlank s
-    (record {
-      from = omega arith;
-      within = omega (arith, size);
-      inside = λ k a b. rw (r .whole, List·getD-append (r .front) (t ++ r .back) 0 k b) (r .front-blank k a b);
-      stops = λ h. rw (r .whole, ← zero, getD-append-add (r .front) (t ++ r .back) 0 0, List·getD-append t (r .back) 0 0 some) (r .starts some);
-    }))
-  where
-    size : length s ≡ length (r .front) + length (t ++ r .back)
-    size = ap length (r .whole) ∙ length-append (r .front) (t ++ r .back)
-
-    zero : length (r .front) + 0 ≡ length (r .front)
-    zero = omega arith
 
 -- ---- what a reading of the payload must give
 

@@ -12,7 +12,7 @@ use Rattle.text.specs.Class.{isBlank}
 use Rattle.text.specs.Run.{runEnd, runStart, stripped}
 use Rattle.text.specs.declared.place.Found.the-variants as P
 use Rattle.text.specs.Place.{lastByte}
-use Rattle.text.proofs.Stripping.{strip-size}
+use Rattle.text.proofs.Stripping.{front-size}
 use Rattle.pairs.specs.Pair.{part}
 use Rattle.scan.specs.Frame.{Split, frameOf}
 use Rattle.scan.specs.Line.{Condition, Applies}
@@ -25,7 +25,7 @@ use Rattle.reasons.specs.declared.HexText.{HexText}
 use Rattle.reasons.specs.declared.payload.Place.{Place}
 use Rattle.reasons.specs.Reasons.{payloadFrom, payloadPlace}
 use Rattle.reasons.specs.Meaning.{Spot, startIn, Says, Lacks, Asked, Tells}
-use Rattle.reasons.proofs.Spots.{part-in-part, front-size, Sits, Stands, Answers}
+use Rattle.reasons.proofs.Spots.{part-in-part, Sits, Stands, Answers}
 
 -- ---- the payload as a part of the line
 
@@ -58,7 +58,7 @@ module _ (t : List ℕ) {colon : ℕ} (f : frameOf t ≡ is colon) where
   start-is {header} {payload} s some =
       let c = split-colon t header payload s in
       let same : length (s .before) ≡ colon = place-same (sym c ∙ last-colon) in
-      let blanks = front-size (s .payload-stripped) some in
+      let blanks = front-size (s .after) (s .payload-stripped) some in
       let rest : drop (colon + 1) t ≡ s .after = rw (← same, s .whole) (drop-append-add (s .before) (58 ∷ s .after) 1) in
       rw (same, blanks, rest)
     where

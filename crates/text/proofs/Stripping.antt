@@ -58,6 +58,23 @@ module _ (s : List ℕ) where
           let z : a + 0 ≡ a = omega arith in
           rw (getD-take e t 0 0 m, d, getD-drop a s 0 0, z) (r .stops (omega (arith, q .within)))
 
+  -- the blanks in front of a text that has a byte are as many as the run of blanks is long
+  pub front-size : {t : List ℕ} (r : Stripped s t) → 0 < length t → length (r .front) ≡ runEnd isBlank s 0
+  front-size {t} r some =
+      sym (run-all isBlank s
+      (record {
+        from = omega arith;
+        within = omega (arith, size);
+        inside = λ k a b. rw (r .whole, List·getD-append (r .front) (t ++ r .back) 0 k b) (r .front-blank k a b);
+        stops = λ h. rw (r .whole, ← zero, getD-append-add (r .front) (t ++ r .back) 0 0, List·getD-append t (r .back) 0 0 some) (r .starts some);
+      }))
+    where
+      size : length s ≡ length (r .front) + length (t ++ r .back)
+      size = ap length (r .whole) ∙ length-append (r .front) (t ++ r .back)
+
+      zero : length (r .front) + 0 ≡ length (r .front)
+      zero = omega arith
+
   -- what is stripped is one text
   pub strip-all : {t : List ℕ} → Stripped s t → stripped s ≡ t
   unfolding stripped
@@ -74,20 +91,11 @@ module _ (s : List ℕ) where
 
       some : 0 < length t → take (runStart isBlank (drop (runEnd isBlank s 0) s)) (drop (runEnd isBlank s 0) s) ≡ t
       some h =
-          let e : runEnd isBlank s 0 ≡ length (w .front) = run-all isBlank s front-run in
+          let e : runEnd isBlank s 0 ≡ length (w .front) = sym (front-size w h) in
           let d : drop (runEnd isBlank s 0) s ≡ t ++ w .back = rw (e, w .whole) (drop-at (w .front) (t ++ w .back) (length (w .front)) refl) in
           let b : runStart isBlank (t ++ w .back) ≡ length t = back-all isBlank (t ++ w .back) (length t) back-run in
           rw (d, b) (take-at t (w .back) (length t) refl)
         where
-          front-run : Run isBlank s 0 (length (w .front))
-          front-run =
-              record {
-                from = omega arith;
-                within = omega (arith, whole-length);
-                inside = λ k a b. rw (in-front k b) (w .front-blank k a b);
-                stops = λ l. let z : length (w .front) + 0 ≡ length (w .front) = omega arith in rw (← z, behind-front 0, List·getD-append t (w .back) 0 0 h) (w .starts h);
-              }
-
           back-run : RunBack isBlank (t ++ w .back) (length t)
           back-run =
               record {

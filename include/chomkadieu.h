@@ -433,10 +433,10 @@ ck_place_answer ck_pending_oldest(const ck_slot *slots, size_t count, uint32_t k
 
 /* ---- why a hex number was unreadable
  *
- * An entry says CK_NONE for an offset that is absent and for one that is no number, 14 refuses a line for either route, and a piece of `data` that is
- * no dword is left out. These calls tell them apart, on every line that has a payload: also on one that is refused with 5 to 17. A line without a
- * payload answers its number, 1 to 4. A text is empty if it is nothing or a bare `0x`. Its first bad digit goes before its width, however late it
- * stands, and its place counts from the text's own start, a leading `0x` counted. Zeros in front are never too wide. */
+ * An entry says CK_NONE for an offset that is absent and for one that is no number, 14 refuses a line for either route, and a piece of `data`
+ * that is no dword is left out. These calls tell them apart, on every line that has a payload, accepted or not. A line without a payload answers
+ * its number, 1 to 4. A text is empty if it is nothing or a bare `0x`. Its first bad digit goes before its width, however late it stands, and
+ * its place counts from the text's own start, a leading `0x` counted. Zeros in front are never too wide. */
 
 /* The keys of a line that are read as hex. */
 enum {

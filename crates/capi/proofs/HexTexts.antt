@@ -1,7 +1,7 @@
 -- Where a text that is told stands: a pair's value, and a piece between brackets, lies within its payload, and the payload within the line. So its
 -- length is the difference of its ends. Assumes nothing.
 use Prim.Native.Nat.{ℕ, zero, suc, _+_, _-_, _^_, _≤_, _<_}
-use mathlib.Core.Path.{_≡_, refl, sym, ap, _∙_}
+use mathlib.Core.Path.{_≡_, refl}
 use mathlib.Core.Bool.{Bool, true, false, cond}
 use mathlib.Core.List.{List}
 use native.Mathlib.Omega.{arith}
@@ -23,7 +23,7 @@ use Rattle.scan.proofs.Frames.{frame-colon-within}
 use Rattle.reasons.specs.declared.Key.{Key}
 use Rattle.reasons.specs.declared.HexText.{HexText}
 use Rattle.reasons.specs.declared.payload.Place.{Place}
-use Rattle.reasons.specs.Reasons.{nameOf, limitOf, payloadFrom, payloadPlace, saidAt, moved, bracketsAt, dataSpan, keyIn, pieceAt, pieceIn, keyAnswer, pieceAnswer, SpanWithin, PlacedAt}
+use Rattle.reasons.specs.Reasons.{nameOf, limitOf, payloadFrom, payloadPlace, saidAt, moved, bracketsAt, dataSpan, keyIn, pieceAt, pieceIn, keyAnswer, pieceAnswer, SpanWithin}
 use Rattle.reasons.proofs.Said.{placed}
 
 -- the text that is told lies before a place, and starts where it ends or before

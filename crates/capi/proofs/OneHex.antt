@@ -25,7 +25,7 @@ use Rattle.reasons.specs.Reasons.{nameOf, limitOf, payloadFrom, payloadPlace, s
 use Rattle.capi.specs.declared.hexes.HexAnswer.{HexAnswer}
 use Rattle.capi.specs.declared.hexes.MaybeKey.{MaybeKey}
 use Rattle.capi.specs.declared.hexes.MaybeKey.the-variants as M
-use Rattle.capi.specs.Hexes.{hexBy, textBy, bareBy, keyNumbered, keyTold, otherKey, Upright}
+use Rattle.capi.specs.Hexes.{hexBy, textBy, keyNumbered, keyTold, otherKey, Upright}
 use Rattle.capi.proofs.HexTexts.{key-in-line, piece-in-line}
 
 -- ---- what the fields say

@@ -1,5 +1,5 @@
 -- Why a hex number of a line could not be read, as a plain struct.
-use Prim.Native.Nat.{ℕ, _-_, _≤_, _<_}
+use Prim.Native.Nat.{ℕ, _-_, _≤_}
 use mathlib.Core.Path.{_≡_}
 use mathlib.Core.Bool.{cond}
 use mathlib.Core.List.{List}
@@ -7,7 +7,6 @@ use lib.Dec.{eqb}
 use Rattle.text.specs.Told.{Told, is, absent, refused, andThen}
 use Rattle.text.specs.declared.number.Reading.{Reading}
 use Rattle.text.specs.declared.number.Reading.the-variants as R
-use Rattle.reasons.specs.declared.Key.{Key}
 use Rattle.reasons.specs.declared.Key.the-variants as K
 use Rattle.reasons.specs.declared.HexText.{HexText}
 use Rattle.reasons.specs.Reasons.{payloadPlace, keyAnswer}

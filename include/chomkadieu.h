@@ -1,5 +1,5 @@
-/* Chomkadieu: USB4 trace lines and records as entries, entries as records, packets described by a book of fields, and requests matched to their
- * responses.
+/* Chomkadieu: USB4 trace lines and records as entries, entries as records, packets described by a book of fields, requests matched to their
+ * responses, and why a hex number of a line was unreadable.
  *
  * Build the archive with `rt staticlib capi` (target/staticlib/libcapi.a, x86-64 Linux) and link it; of its surroundings it asks for memcpy and
  * memset alone.
@@ -430,6 +430,48 @@ ck_count_answer ck_pending_waiting(const ck_slot *slots, size_t count);
 
 /* Where the k-th oldest of those that wait lies, for k from 1 to their number. Numbers 50, 51. */
 ck_place_answer ck_pending_oldest(const ck_slot *slots, size_t count, uint32_t k);
+
+/* ---- why a hex number was unreadable
+ *
+ * An entry says CK_NONE for an offset that is absent and for one that is no number, 14 refuses a line for either route, and a piece of `data`
+ * that is no dword is left out. These calls tell them apart, on every line that has a payload, accepted or not. A line without a payload answers
+ * its number, 1 to 4. A text is empty if it is nothing or a bare `0x`. Its first bad digit goes before its width, however late it stands, and
+ * its place counts from the text's own start, a leading `0x` counted. Zeros in front are never too wide. */
+
+/* The keys of a line that are read as hex. */
+enum {
+    CK_KEY_ROUTE = 1,      /* `route`, 64 bits */
+    CK_KEY_OFFSET = 2,     /* `offset`, 16 bits */
+    CK_KEY_ERROR = 3,      /* `error`, 8 bits */
+    CK_KEY_CONFIG = 4,     /* `config`, 8 bits */
+    CK_KEY_UNPLUG = 5      /* `unplug`, 8 bits */
+};
+
+/* What a text reads as. */
+enum {
+    CK_HEX_ABSENT = 0,     /* there is no such text */
+    CK_HEX_VALUE = 1,      /* a number */
+    CK_HEX_EMPTY = 2,      /* it has no digit */
+    CK_HEX_BAD_DIGIT = 3,  /* it has a byte that is no hex digit */
+    CK_HEX_TOO_WIDE = 4    /* its digits are a number past the width */
+};
+
+/* What a key's value or a piece of the data reads as, and where it stands. */
+typedef struct ck_hex_answer {
+    uint8_t number;        /* 0, or 1 to 4: the line has no payload to ask */
+    uint8_t what;          /* CK_HEX_..; CK_HEX_ABSENT where number is not 0 */
+    uint64_t value;        /* the number, 0 if there is none */
+    size_t bad;            /* the place of the first bad digit in the text, 0 unless CK_HEX_BAD_DIGIT */
+    size_t at;             /* where the text starts in the line, 0 if there is none */
+    size_t len;            /* how many bytes it has, 0 if there is none */
+} ck_hex_answer;
+
+/* The line's last pair of a key, CK_KEY_... Absent if there is none, and for a key number that is none of the five. Numbers 1 to 4. */
+ck_hex_answer ck_hex_key(const uint8_t *line, size_t length, uint8_t key);
+
+/* A piece of the line's last `data`, of 32 bits, by its number from 0: the pieces stand between comma-spaces. Absent behind the last, and if `data`
+ * is missing or not in brackets, so whoever asks from 0 up to the first that is absent has them all. Numbers 1 to 4. */
+ck_hex_answer ck_hex_piece(const uint8_t *line, size_t length, size_t piece);
 
 #ifdef __cplusplus
 }

@@ -432,6 +432,7 @@ int main(int count, char **words) {
     crossing();
     every_field(book, book_len);
     every_request();
+    every_reason();
     printf("%u passed, %u failed\n", passed, failed);
     return failed != 0;
 }

@@ -79,8 +79,20 @@ static void answers(const uint8_t *book, size_t book_len) {
     see(r.present == 1 && r.low == 25 && r.high == 26 && r.value == 2 && r.place > places[2], "each field of ck_range_answer");
 }
 
+/* A value and a bad digit, each with fields that differ. */
+static void hex_texts(void) {
+    static const char text[] = "a-1 [002] 1.2: f: route=123 offset=0x0q1234";
+    const uint8_t *line = (const uint8_t *)text;
+    ck_hex_answer v = ck_hex_key(line, sizeof text - 1, CK_KEY_ROUTE), b = ck_hex_key(line, sizeof text - 1, CK_KEY_OFFSET);
+    see(v.number == CK_OK && v.what == CK_HEX_VALUE && v.value == 0x123 && v.bad == 0 && v.at == 24 && v.len == 3, "each field of ck_hex_answer");
+    see(b.number == CK_OK && b.what == CK_HEX_BAD_DIGIT && b.value == 0 && b.bad == 3 && b.at == 35 && b.len == 8, "and of a bad digit");
+    ck_hex_answer none = ck_hex_key(line, 10, CK_KEY_ROUTE);
+    see(none.number == CK_NO_COLON && none.what == CK_HEX_ABSENT && none.value == 0 && none.bad == 0 && none.at == 0 && none.len == 0, "and of its refusal");
+}
+
 void every_field(const uint8_t *book, size_t book_len) {
     entries();
     packets(book, book_len);
     answers(book, book_len);
+    hex_texts();
 }

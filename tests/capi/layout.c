@@ -116,6 +116,16 @@ static void table_rows(void) {
     FIELD(ck_place_answer, place);
 }
 
+static void hex_rows(void) {
+    STRUCT(ck_hex_answer);
+    FIELD(ck_hex_answer, number);
+    FIELD(ck_hex_answer, what);
+    FIELD(ck_hex_answer, value);
+    FIELD(ck_hex_answer, bad);
+    FIELD(ck_hex_answer, at);
+    FIELD(ck_hex_answer, len);
+}
+
 void every_offset(const char *path) {
     static char promised[sizeof rows];
     FILE *file = fopen(path, "rb");
@@ -124,6 +134,7 @@ void every_offset(const char *path) {
     entry_rows();
     packet_rows();
     table_rows();
+    hex_rows();
     int same = size == used && !memcmp(rows, promised, used);
     see(same, "each field lies where layout.txt says");
     if (!same) fputs(rows, stdout);

@@ -14,6 +14,9 @@ void every_field(const uint8_t *book, size_t book_len);
 /* pending.c: the table of requests. */
 void every_request(void);
 
+/* hexes.c: why a hex number was unreadable. */
+void every_reason(void);
+
 /* layout.c: where each field of each struct lies, beside the file of that name. */
 void every_offset(const char *path);
 

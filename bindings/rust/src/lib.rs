@@ -1,4 +1,5 @@
-//! Trace lines of USB4 control packets, and the records made of them, as entries; requests matched to their responses.
+//! Trace lines of USB4 control packets, and the records made of them, as entries; requests matched to their responses; why a hex number
+//! was unreadable.
 //!
 //! The work is done by proved code behind C calls (`include/chomkadieu.h`); this crate is the thin, safe side of it. Nothing is copied and
 //! nothing allocated: an [`Entry`] borrows the text that it was read from and the slots that its dwords went to. Names follow the `trace`
@@ -20,6 +21,7 @@
 mod book;
 mod entry;
 mod event;
+mod hex;
 mod packet;
 mod pdf;
 mod pending;
@@ -30,6 +32,7 @@ mod what;
 pub use book::Book;
 pub use entry::{Entry, Timestamp};
 pub use event::Event;
+pub use hex::{Hex, HexKey, HexPieces, HexText, hex_key, hex_piece, hex_pieces};
 pub use packet::{ControlPacket, Field, Range, Source};
 pub use pdf::Pdf;
 pub use pending::{OldestFirst, Pending, Report};

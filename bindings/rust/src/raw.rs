@@ -169,6 +169,17 @@ pub struct PlaceAnswer {
     place: usize,
 }
 
+/// `ck_hex_answer`.
+#[repr(C)]
+pub struct HexAnswer {
+    number: u8,
+    pub what: u8,
+    pub value: u64,
+    pub bad: usize,
+    pub at: usize,
+    pub len: usize,
+}
+
 /// One row a call, as the header has it: a slice stands in brackets, and C takes it as a pointer and a length. Each row makes the declaration and
 /// a safe function of the same name over it.
 macro_rules! calls {
@@ -227,6 +238,8 @@ calls! {
     ck_pending_step(entry: RawEntry, [mut slots: Slot]) -> StepAnswer;
     ck_pending_waiting([slots: Slot]) -> CountAnswer;
     ck_pending_oldest([slots: Slot], k: u32) -> PlaceAnswer;
+    ck_hex_key([line: u8], key: u8) -> HexAnswer;
+    ck_hex_piece([line: u8], piece: usize) -> HexAnswer;
 }
 
 /// A number other than 0 is the refusal's.
@@ -296,7 +309,7 @@ pub fn word(n: u32) -> Option<u16> {
 }
 
 /// What a question is told: a value, none, or a refusal's number.
-type Told<T> = Result<Option<T>, u8>;
+pub type Told<T> = Result<Option<T>, u8>;
 
 fn told<T>(number: u8, present: u8, answer: T) -> Told<T> {
     accepted(number, (present == 1).then_some(answer))
@@ -442,6 +455,20 @@ pub fn pending_oldest(slots: &[Slot], k: u32) -> Told<usize> {
     told(answer.number, answer.present, answer.place)
 }
 
+pub fn hex_key(line: &[u8], key: u8) -> Told<HexAnswer> {
+    hex(ck_hex_key(line, key))
+}
+
+pub fn hex_piece(line: &[u8], piece: usize) -> Told<HexAnswer> {
+    hex(ck_hex_piece(line, piece))
+}
+
+fn hex(answer: HexAnswer) -> Told<HexAnswer> {
+    /// `CK_HEX_ABSENT`.
+    const ABSENT: u8 = 0;
+    accepted(answer.number, (answer.what != ABSENT).then_some(answer))
+}
+
 #[cfg(test)]
 mod layout {
     extern crate std;
@@ -494,6 +521,7 @@ mod layout {
             ck_step_answer StepAnswer { number, report, place }
             ck_count_answer CountAnswer { number, count }
             ck_place_answer PlaceAnswer { number, present, place }
+            ck_hex_answer HexAnswer { number, what, value, bad, at, len }
         };
         let promised: String = include_str!("../../../tests/capi/layout.txt")
             .split_inclusive('\n')

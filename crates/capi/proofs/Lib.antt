@@ -2,3 +2,5 @@
 pub mod Calling
 pub mod RoundTrip
 pub mod OneAnswer
+pub mod HexTexts
+pub mod OneHex

@@ -3,3 +3,4 @@ pub mod Calls
 pub mod Packets
 pub mod Told
 pub mod Requests
+pub mod Hexes

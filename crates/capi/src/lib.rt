@@ -8,11 +8,13 @@
 //     ck_event_name, ck_adapter_num, ck_unplug what an entry is asked
 //     packets, asked, described                packets over a book, and what they are asked
 //     fields                                   what the book says of a field; names
+//     hexes                                    why a hex number was unreadable
 //     requests                                 the table of requests
 //     told                                     the answers as plain structs
 pub mod asked;
 pub mod described;
 pub mod fields;
+pub mod hexes;
 pub mod packets;
 pub mod requests;
 pub mod told;

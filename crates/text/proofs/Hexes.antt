@@ -17,7 +17,7 @@ use Rattle.text.specs.Place.{isAt, First}
 use Rattle.text.specs.Number.{digitOf, value, Reads, HexNumber, DigitsFrom, EmptyHex, BadHex, WideHex, Means, badAt, digitsFrom, hexOf, readValue, hexNumberOf}
 use Rattle.text.proofs.Places.{by-order}
 use Rattle.text.proofs.Texts.{both-left, both-right}
-use Rattle.text.proofs.Numbers.{Judged, judged, judged-all, judged-reads, reads-judged}
+use Rattle.text.proofs.Numbers.{Judged, judged, judged-all, judged-reads, reads-judged, value-read}
 
 -- ---- where the digits start
 
@@ -144,13 +144,6 @@ module _ (limit : ℕ) (s : List ℕ) where
   one-meaning a b m n = sym (means-all a m) ∙ means-all b n
 
 -- the number alone, for those who do not ask why there is none
-value-read : (r : Reading) {v : ℕ} → readValue r ≡ N.Value v → r ≡ R.Value v
-unfolding readValue
-value-read (R.Value w) e = cc
-value-read R.Empty e = absurd (let z : _≡_ {A = ℕ} 0 1 = cc in omega arith)
-value-read (R.BadDigit k) e = absurd (let z : _≡_ {A = ℕ} 0 1 = cc in omega arith)
-value-read R.TooWide e = absurd (let z : _≡_ {A = ℕ} 0 1 = cc in omega arith)
-
 module _ (limit : ℕ) {s : List ℕ} where
   pub hex-all : {v : ℕ} → HexNumber limit s v → hexNumberOf limit s ≡ N.Value v
   unfolding readValue

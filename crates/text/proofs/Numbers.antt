@@ -19,7 +19,7 @@ use Rattle.text.specs.declared.number.Reading.{Reading}
 use Rattle.text.specs.declared.number.Reading.the-variants as R
 use Rattle.text.specs.Class.{between, isDigit}
 use Rattle.text.specs.Place.{Free, First, firstPlace}
-use Rattle.text.specs.Number.{digitOf, value, Reads, allDigits, numberOf, badAt, badFirst, valueWithin, readingOf, readValue}
+use Rattle.text.specs.Number.{digitOf, value, Reads, allDigits, numberOf, badAt, badFirst, reasonOf, valueWithin, readingOf, readValue}
 use Rattle.text.proofs.Places.{by-order, first-is, first-all, first-none, first-free, place-hit, place-miss, place-end}
 use Rattle.text.proofs.Texts.{both-left, both-right}
 
@@ -63,15 +63,18 @@ module _ (base from : ℕ) (s : List ℕ) where
   pub clean-steps : {i d : ℕ} → Clean i → i < length s → d ≡ digitOf (getD s i 0) → d < base → Clean (i + 1)
   clean-steps {i} c h e l = record { same = c .same ∙ place-miss (badAt base s) h (is-good base s i e l) }
 
-  -- past the width a bad digit is told still, and without one the width
-  pub bad-past : {i d : ℕ} → Clean i → i < length s → d ≡ digitOf (getD s i 0) → base ≤ d
-      → R.BadDigit i ≡ badFirst (firstPlace (badAt base s) (length s) from) R.TooWide
-  unfolding badFirst
-  bad-past {i} c h e l = rw (c .same, place-hit (badAt base s) h (is-bad base s i e l))
+  -- a reason: no digit, the first bad one, or the width
+  pub reason-empty : length s ≤ from → R.Empty ≡ reasonOf base from s
+  unfolding reasonOf
+  reason-empty h = rw (le-ltb from (length s) h)
 
-  pub none-past : {i : ℕ} → Clean i → length s ≤ i → R.TooWide ≡ badFirst (firstPlace (badAt base s) (length s) from) R.TooWide
-  unfolding badFirst
-  none-past {i} c h = rw (c .same, place-end (badAt base s) h)
+  pub reason-bad : {i d : ℕ} → from < length s → Clean i → i < length s → d ≡ digitOf (getD s i 0) → base ≤ d → R.BadDigit i ≡ reasonOf base from s
+  unfolding reasonOf badFirst
+  reason-bad {i} l c h e b = rw (lt-ltb from (length s) l, c .same, place-hit (badAt base s) h (is-bad base s i e b))
+
+  pub reason-wide : {i : ℕ} → from < length s → Clean i → length s ≤ i → R.TooWide ≡ reasonOf base from s
+  unfolding reasonOf badFirst
+  reason-wide {i} l c h = rw (lt-ltb from (length s) l, c .same, place-end (badAt base s) h)
 
 module _ (base limit from : ℕ) (s : List ℕ) where
   -- the number so far: the bytes up to i are digits, of value v, with the rest to come
@@ -94,25 +97,29 @@ module _ (base limit from : ℕ) (s : List ℕ) where
         same-value = r .same-value ∙ rw (add-one, drop-cons s i 0 h, e);
       }
 
-  pub none-there : length s ≤ from → R.Empty ≡ readingOf base limit from s
-  unfolding readingOf
+  pub none-there : length s ≤ from → N.Unreadable ≡ readValue (readingOf base limit from s)
+  unfolding readingOf readValue
   none-there h = rw (le-ltb from (length s) h)
 
-  pub bad-here : {v i d : ℕ} → SoFar v i → i < length s → d ≡ digitOf (getD s i 0) → base ≤ d → R.BadDigit i ≡ readingOf base limit from s
-  unfolding readingOf badFirst
-  bad-here {v} {i} r h e l = rw (lt-ltb from (length s) (r .some), r .clean .same, place-hit (badAt base s) h (is-bad base s i e l))
+  pub none-bad : {v i d : ℕ} → SoFar v i → i < length s → d ≡ digitOf (getD s i 0) → base ≤ d → N.Unreadable ≡ readValue (readingOf base limit from s)
+  unfolding readingOf badFirst readValue
+  none-bad {v} {i} r h e l = rw (lt-ltb from (length s) (r .some), r .clean .same, place-hit (badAt base s) h (is-bad base s i e l))
 
   -- a value past the limit stays past it
-  pub wide-here : {v i d : ℕ} → 0 < base → SoFar v i → i < length s → d ≡ digitOf (getD s i 0) → d < base → limit < v * base + d
-      → badFirst (firstPlace (badAt base s) (length s) (i + 1)) R.TooWide ≡ readingOf base limit from s
-  unfolding readingOf valueWithin value
-  wide-here {v} {i} {d} b r h e l f =
+  pub none-wide : {v i d : ℕ} → 0 < base → SoFar v i → i < length s → d ≡ digitOf (getD s i 0) → limit < v * base + d
+      → N.Unreadable ≡ readValue (readingOf base limit from s)
+  unfolding readingOf valueWithin value badFirst readValue
+  none-wide {v} {i} {d} b r h e f =
       let q : value base 0 (drop from s) ≡ value base (v * base + d) (drop (suc i) s) = r .same-value ∙ rw (drop-cons s i 0 h, e) in
       let g : limit < value base 0 (drop from s) = rw q (le-trans f (value-grows base b (v * base + d) (drop (suc i) s))) in
-      rw (lt-ltb from (length s) (r .some), lt-leb _ _ g, r .clean .same, place-miss (badAt base s) h (is-good base s i e l))
+      rw (lt-ltb from (length s) (r .some), lt-leb _ _ g) (either (firstPlace (badAt base s) (length s) from))
+    where
+      either : (f : Found) → N.Unreadable ≡ readValue (badFirst f R.TooWide)
+      either (At k) = refl
+      either Nothing = refl
 
-  pub whole-value : {v i : ℕ} → SoFar v i → length s ≤ i → R.Value v ≡ readingOf base limit from s
-  unfolding readingOf badFirst valueWithin value
+  pub whole-value : {v i : ℕ} → SoFar v i → length s ≤ i → N.Value v ≡ readValue (readingOf base limit from s)
+  unfolding readingOf badFirst valueWithin value readValue
   whole-value {v} {i} r h =
       let e : value base 0 (drop from s) ≡ v = r .same-value ∙ rw (drop-of-length-le s h) in
       rw (lt-ltb from (length s) (r .some), r .clean .same, place-end (badAt base s) h, e, le-leb v limit (r .fits))
@@ -237,3 +244,23 @@ number-read base limit s = go (readingOf base limit 0 s) (judged base limit 0 s)
     go R.Empty j = other j (λ v e. let z : _≡_ {A = ℕ} 0 1 = cc in omega arith)
     go (R.BadDigit k) j = other j (λ v e. let z : _≡_ {A = ℕ} 0 1 = cc in omega arith)
     go R.TooWide j = other j (λ v e. let z : _≡_ {A = ℕ} 0 1 = cc in omega arith)
+
+-- ---- a number, or why there is none
+
+pub value-read : (r : Reading) {v : ℕ} → readValue r ≡ N.Value v → r ≡ R.Value v
+unfolding readValue
+value-read (R.Value w) e = cc
+value-read R.Empty e = absurd (let z : _≡_ {A = ℕ} 0 1 = cc in omega arith)
+value-read (R.BadDigit k) e = absurd (let z : _≡_ {A = ℕ} 0 1 = cc in omega arith)
+value-read R.TooWide e = absurd (let z : _≡_ {A = ℕ} 0 1 = cc in omega arith)
+
+-- where there is no number the reading is the reason
+pub reason-read : (base limit from : ℕ) (s : List ℕ) → readValue (readingOf base limit from s) ≡ N.Unreadable → reasonOf base from s ≡ readingOf base limit from s
+unfolding readValue reasonOf badFirst
+reason-read base limit from s q = go (readingOf base limit from s) (judged base limit from s) q
+  where
+    go : (r : Reading) → Judged base limit from s r → readValue r ≡ N.Unreadable → reasonOf base from s ≡ r
+    go r (Judged.empty h) q = rw (le-ltb from (length s) h)
+    go r (Judged.bad f) q = rw (lt-ltb from (length s) (omega (arith, f .from, f .within)), first-all (badAt base s) f)
+    go r (Judged.wide l free over) q = rw (lt-ltb from (length s) l, first-none (badAt base s) free)
+    go r (Judged.fits l free e within) q = absurd (let z : _≡_ {A = ℕ} 0 1 = cc in omega arith)

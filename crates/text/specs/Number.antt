@@ -94,6 +94,10 @@ unfoldable pub badFirst : Found → Reading → Reading
 badFirst (At k) told = R.BadDigit k
 badFirst Nothing told = told
 
+-- why digits from a place on are no number: there are none, or the first bad one, else their width
+unfoldable pub reasonOf : ℕ → ℕ → List ℕ → Reading
+reasonOf base from s = cond (ltb from (length s)) (badFirst (firstPlace (badAt base s) (length s) from) R.TooWide) R.Empty
+
 -- a value within the limit, or one past it
 unfoldable pub valueWithin : ℕ → ℕ → Reading
 valueWithin limit v = cond (leb v limit) (R.Value v) R.TooWide

@@ -4,10 +4,7 @@ use crate::class::lies_between;
 use crate::place::byte_at;
 ghost use mathlib.Core.Path.{_≡_};
 ghost use Prim.Native.Nat.{_≤_, _<_};
-ghost use lib.ListN.{length};
-ghost use Rattle.text.specs.declared.number.Reading.the-variants as R;
-ghost use Rattle.text.specs.Place.{firstPlace};
-ghost use Rattle.text.specs.Number.{digitOf, numberOf, badAt, badFirst, readingOf, digitsFrom, hexOf, readValue};
+ghost use Rattle.text.specs.Number.{digitOf, numberOf, readingOf, reasonOf, digitsFrom, hexOf, readValue};
 
 // The largest value of each width.
 pub const MAX_8: u64 = 0xff;
@@ -37,14 +34,18 @@ pub enum Reading {
 pub fn decimal(s: &[u8], limit: u64) -> Number
     ensures { λ r. ⌜ r ≡ numberOf 10 limit (now (s .entry)) ⌝ }
 {
-    value_of(read(s, 0, 10, limit))
+    read(s, 0, 10, limit)
 }
 
 // `0x` at most once, then one or more digits of either case, of value at most the limit. A bad digit's place counts the `0x`.
 pub fn hex(s: &[u8], limit: u64) -> Reading
     ensures { λ r. ⌜ r ≡ hexOf limit (now (s .entry)) ⌝ }
 {
-    read(s, digits_from(s), 16, limit)
+    let from = digits_from(s);
+    match read(s, from, 16, limit) {
+        Number::Value(v) => Reading::Value(v),
+        Number::Unreadable => reason(s, from, 16),
+    }
 }
 
 // The number alone, for those who do not ask why there is none.
@@ -73,13 +74,13 @@ fn digits_from(s: &[u8]) -> usize
 }
 
 // The digits from a place on. The limit is divided once: a value above the quotient has no room for any further digit, and for one that is not,
-// the product stays within the limit, so no sum wraps however many digits there are.
-fn read(s: &[u8], from: usize, base: u64, limit: u64) -> Reading
+// the product stays within the limit, so no sum wraps however many digits there are. What is no number is given up at once; why, `reason` says.
+fn read(s: &[u8], from: usize, base: u64, limit: u64) -> Number
     requires { ⌜ (0 < base) × (base ≤ 16) ⌝ }
-    ensures { λ r. ⌜ r ≡ readingOf base limit from (now (s .entry)) ⌝ }
+    ensures { λ r. ⌜ r ≡ readValue (readingOf base limit from (now (s .entry))) ⌝ }
 {
     if s.len() <= from {
-        return Reading::Empty;
+        return Number::Unreadable;
     }
     let most = limit / base;
     let mut v: u64 = 0;
@@ -87,24 +88,27 @@ fn read(s: &[u8], from: usize, base: u64, limit: u64) -> Reading
     while i < s.len() {
         let d = digit(s[i]);
         if base <= d {
-            return Reading::BadDigit(i);
+            return Number::Unreadable;
         }
         if most < v {
-            return past_width(s, i + 1, base);
+            return Number::Unreadable;
         }
         if limit - v * base < d {
-            return past_width(s, i + 1, base);
+            return Number::Unreadable;
         }
         v = v * base + d;
         i += 1;
     }
-    Reading::Value(v)
+    Number::Value(v)
 }
 
-// The value is past the limit, but the first bad digit goes before width, however late it stands.
-fn past_width(s: &[u8], from: usize, base: u64) -> Reading
-    ensures { λ r. ⌜ r ≡ badFirst (firstPlace (badAt base (now (s .entry))) (length (now (s .entry))) from) R.TooWide ⌝ }
+// Why the digits from a place on are no number: there are none; or the first bad one, which goes before width however late it stands; or else width.
+fn reason(s: &[u8], from: usize, base: u64) -> Reading
+    ensures { λ r. ⌜ r ≡ reasonOf base from (now (s .entry)) ⌝ }
 {
+    if s.len() <= from {
+        return Reading::Empty;
+    }
     let mut i = from;
     while i < s.len() {
         if base <= digit(s[i]) {

@@ -1,7 +1,6 @@
 -- `number::decimal` meets its contract: a number is the reading from the start, its reasons left out. Assumes nothing.
 use Rattle.text.proofs.Numbers.{number-read}
-use Rattle.text.specs.Number.{readValue}
-use mathlib.Core.Path.{sym, ap, _∙_}
+use mathlib.Core.Path.{sym, _∙_}
 use borrow.Author.Needs.{needs}
 use Rattle.text.proofs.number.decimal.Statement.{statement}
 use Rattle.text.proofs.number.decimal.Tie as tie
@@ -9,11 +8,8 @@ use Rattle.text.proofs.number.decimal.Tie as tie
 read-requires : tie.Need-read-requires
 read-requires c κs = search needs
 
-value-of-requires : tie.Need-value-of-requires
-value-of-requires c κs = search needs
-
 returns : tie.Need-returns
-returns c = c .value-of .ensures ∙ ap readValue (c .before .read .ensures) ∙ sym (number-read 10 _ _)
+returns c = c .read .ensures ∙ sym (number-read 10 _ _)
 
 pub decimal-spec : {M : Type 1} → statement M
-decimal-spec = tie.close (tie.spec read-requires value-of-requires returns)
+decimal-spec = tie.close (tie.spec read-requires returns)

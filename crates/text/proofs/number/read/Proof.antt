@@ -1,8 +1,7 @@
 -- `number::read` meets its contract: what is read so far is a `SoFar`, and each way out is one of its laws. Assumes nothing.
-use Rattle.text.proofs.Numbers.{SoFar, so-far-starts, so-far-steps, none-there, bad-here, wide-here, whole-value, within-most, above-most}
+use Rattle.text.proofs.Numbers.{SoFar, so-far-starts, so-far-steps, none-there, none-bad, none-wide, whole-value, within-most, above-most}
 use lib.ListN.{length}
 use Prim.Native.Nat.{_-_}
-use mathlib.Core.Path.{_∙_}
 use native.Mathlib.Omega.{arith}
 use borrow.Author.Needs.{needs}
 use Rattle.text.proofs.number.read.Statement.{statement}
@@ -30,18 +29,10 @@ digit-requires : tie.Need-digit-requires Inv-loop μ-loop
 digit-requires c κs = search needs
 
 returns-2 : tie.Need-returns-2 Inv-loop μ-loop
-returns-2 c = bad-here _ _ _ _ (c .before .before .before .before .loop .inv) (c .before .before .before .loop-test .taken) (c .before .digit .ensures) (c .if2 .taken)
-
-add-past-width : tie.Need-add-past-width Inv-loop μ-loop
-add-past-width c = search needs
-
-past-width-requires : tie.Need-past-width-requires Inv-loop μ-loop
-past-width-requires c κs = search needs
+returns-2 c = none-bad _ _ _ _ (c .before .before .before .before .loop .inv) (c .before .before .before .loop-test .taken) (c .before .digit .ensures) (c .if2 .taken)
 
 returns-3 : tie.Need-returns-3 Inv-loop μ-loop
-returns-3 c =
-    c .past-width .ensures
-    ∙ wide-here _ _ _ _ (c .before .before .before .before .before .before .before .before .before .pre .0) (c .before .before .before .before .before .before .loop .inv) (c .before .before .before .before .before .loop-test .taken) (c .before .before .before .digit .ensures) (c .before .before .if2 .left) (above-most _ _ (c .before .before .before .before .before .before .before .before .before .pre .0) _ (c .before .if3 .taken))
+returns-3 c = none-wide _ _ _ _ (c .before .before .before .before .before .before .before .before .pre .0) (c .before .before .before .before .before .loop .inv) (c .before .before .before .before .loop-test .taken) (c .before .before .digit .ensures) (above-most _ _ (c .before .before .before .before .before .before .before .before .pre .0) _ (c .if3 .taken))
 
 mul-if4 : tie.Need-mul-if4 Inv-loop μ-loop
 mul-if4 c = record { fits = omega (arith, within-most _ _ (c .before .before .before .before .before .before .before .before .pre .0) (c .if3 .left), c .before .before .before .before .before .before .before .before .fits .limit) }
@@ -49,16 +40,8 @@ mul-if4 c = record { fits = omega (arith, within-most _ _ (c .before .before .be
 sub-if4 : tie.Need-sub-if4 Inv-loop μ-loop
 sub-if4 c = within-most _ _ (c .before .before .before .before .before .before .before .before .pre .0) (c .if3 .left)
 
-add-past-width-2 : tie.Need-add-past-width-2 Inv-loop μ-loop
-add-past-width-2 c = search needs
-
-past-width-requires-2 : tie.Need-past-width-requires-2 Inv-loop μ-loop
-past-width-requires-2 c κs = search needs
-
 returns-4 : tie.Need-returns-4 Inv-loop μ-loop
-returns-4 c =
-    c .past-width2 .ensures
-    ∙ wide-here _ _ _ _ (c .before .before .before .before .before .before .before .before .before .before .pre .0) (c .before .before .before .before .before .before .before .loop .inv) (c .before .before .before .before .before .before .loop-test .taken) (c .before .before .before .before .digit .ensures) (c .before .before .before .if2 .left) (omega (arith, within-most _ _ (c .before .before .before .before .before .before .before .before .before .before .pre .0) (c .before .before .if3 .left), c .before .if4 .taken))
+returns-4 c = none-wide _ _ _ _ (c .before .before .before .before .before .before .before .before .before .pre .0) (c .before .before .before .before .before .before .loop .inv) (c .before .before .before .before .before .loop-test .taken) (c .before .before .before .digit .ensures) (omega (arith, within-most _ _ (c .before .before .before .before .before .before .before .before .before .pre .0) (c .before .if3 .left), c .if4 .taken))
 
 mul-v : tie.Need-mul-v Inv-loop μ-loop
 mul-v c = record { fits = omega (arith, within-most _ _ (c .before .before .before .before .before .before .before .before .before .pre .0) (c .before .if3 .left), c .before .before .before .before .before .before .before .before .before .fits .limit) }
@@ -73,8 +56,7 @@ loop-less : tie.Need-loop-less Inv-loop μ-loop
 loop-less c = search needs
 
 loop-again : tie.Need-loop-again Inv-loop μ-loop
-loop-again c =
-    so-far-steps _ _ _ _ (c .before .before .before .before .before .before .loop .inv) (c .before .before .before .before .before .loop-test .taken) (c .before .before .before .digit .ensures) (c .before .before .if2 .left) (omega (arith, within-most _ _ (c .before .before .before .before .before .before .before .before .before .pre .0) (c .before .if3 .left), c .if4 .left))
+loop-again c = so-far-steps _ _ _ _ (c .before .before .before .before .before .before .loop .inv) (c .before .before .before .before .before .loop-test .taken) (c .before .before .before .digit .ensures) (c .before .before .if2 .left) (omega (arith, within-most _ _ (c .before .before .before .before .before .before .before .before .before .pre .0) (c .before .if3 .left), c .if4 .left))
 
 returns-5 : tie.Need-returns-5 Inv-loop μ-loop
 returns-5 c = whole-value _ _ _ _ (c .before .loop .inv) (c .loop-test .left)
@@ -91,13 +73,9 @@ read-spec =
     shared-slice-read-digit
     digit-requires
     returns-2
-    add-past-width
-    past-width-requires
     returns-3
     mul-if4
     sub-if4
-    add-past-width-2
-    past-width-requires-2
     returns-4
     mul-v
     add-v

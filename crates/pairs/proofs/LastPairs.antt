@@ -7,15 +7,14 @@ use mathlib.Core.List.{List, [], _∷_, _++_}
 use native.Mathlib.Omega.{arith}
 use lib.ListN.{length}
 use Rattle.text.specs.declared.number.Number.the-variants as N
-use Rattle.text.specs.Number.{numberOf, hexOf, hexNumberOf}
+use Rattle.text.specs.Number.{numberOf, hexNumberOf}
 use Rattle.text.specs.Same.{sameText}
 use Rattle.text.proofs.Places.{clash}
 use Rattle.text.proofs.Texts.{same-refl, same-true}
 use Rattle.pairs.specs.declared.pair.Pair.the-variants.{Hit, Miss}
 use Rattle.pairs.specs.declared.pair.Span.{Span}
 use Rattle.pairs.specs.declared.pair.Span.the-variants.{At, Nothing}
-use Rattle.pairs.specs.Pair.{Match, Lacks, LastPair, KeyMissing, ValueAt, keyOf, nextPair, pairsFrom, newer, lastIn, lastPair, part, decimalIn, decimalOf, hexIn, hexAt, keyNumber, hexNumberAt}
-use Rattle.pairs.specs.declared.key.KeyReading.the-variants.{Read, Absent}
+use Rattle.pairs.specs.Pair.{Match, Lacks, LastPair, KeyMissing, ValueAt, keyOf, nextPair, pairsFrom, newer, lastIn, lastPair, part, decimalIn, decimalOf, hexIn, hexAt}
 use Rattle.pairs.proofs.Tries.{value-up, value-within}
 use Rattle.pairs.proofs.PairLists.{placed, pairs-are, pairs-all, pairs-next, pairs-end, pairs-each}
 
@@ -171,19 +170,10 @@ module _ (s key : List ℕ) (limit : ℕ) where
   unfolding decimalOf decimalIn
   decimal-none q = rw q
 
-  pub hex-some : {a b : ℕ} → lastPair s key ≡ At a b → Read (hexOf limit (part s a b)) ≡ hexAt s key limit
+  pub hex-some : {a b : ℕ} → lastPair s key ≡ At a b → hexNumberOf limit (part s a b) ≡ hexAt s key limit
   unfolding hexAt hexIn
   hex-some q = rw q
 
-  pub hex-none : lastPair s key ≡ Nothing → Absent ≡ hexAt s key limit
+  pub hex-none : lastPair s key ≡ Nothing → N.Unreadable ≡ hexAt s key limit
   unfolding hexAt hexIn
   hex-none q = rw q
-
-  -- as a number alone
-  pub hex-number-some : {a b : ℕ} → lastPair s key ≡ At a b → hexNumberOf limit (part s a b) ≡ hexNumberAt s key limit
-  unfolding keyNumber
-  hex-number-some q = rw (← hex-some q)
-
-  pub hex-number-none : lastPair s key ≡ Nothing → N.Unreadable ≡ hexNumberAt s key limit
-  unfolding keyNumber
-  hex-number-none q = rw (← hex-none q)

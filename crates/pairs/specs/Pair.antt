@@ -11,7 +11,7 @@ use Rattle.text.specs.declared.number.Number.the-variants as N
 use Rattle.text.specs.declared.place.Found.{Found}
 use Rattle.text.specs.declared.place.Found.the-variants as F
 use Rattle.text.specs.Class.{isWord, inClass}
-use Rattle.text.specs.Number.{numberOf, readValue, hexOf}
+use Rattle.text.specs.Number.{numberOf, hexNumberOf}
 use Rattle.text.specs.Place.{firstPlace, isAt}
 use Rattle.text.specs.Run.{Inside, Run, runEnd}
 use Rattle.text.specs.Same.{sameText}
@@ -19,8 +19,6 @@ use Rattle.pairs.specs.declared.pair.Pair.{Pair}
 use Rattle.pairs.specs.declared.pair.Pair.the-variants.{Hit, Miss}
 use Rattle.pairs.specs.declared.pair.Span.{Span}
 use Rattle.pairs.specs.declared.pair.Span.the-variants.{At, Nothing}
-use Rattle.pairs.specs.declared.key.KeyReading.{KeyReading}
-use Rattle.pairs.specs.declared.key.KeyReading.the-variants.{Read, Absent}
 
 -- the part of s from a up to b
 abbrev pub part : List ℕ → ℕ → ℕ → List ℕ
@@ -177,23 +175,14 @@ decimalIn s limit Nothing = N.Unreadable
 unfoldable pub decimalOf : List ℕ → List ℕ → ℕ → Number
 decimalOf s key limit = decimalIn s limit (lastPair s key)
 
--- what a part of s says in hex; where there is no part, the key is absent
-unfoldable pub hexIn : List ℕ → ℕ → Span → KeyReading
-hexIn s limit (At a b) = Read (hexOf limit (part s a b))
-hexIn s limit Nothing = Absent
+-- the hex number in a part of s
+unfoldable pub hexIn : List ℕ → ℕ → Span → Number
+hexIn s limit (At a b) = hexNumberOf limit (part s a b)
+hexIn s limit Nothing = N.Unreadable
 
--- what the last pair of the key says in hex
-unfoldable pub hexAt : List ℕ → List ℕ → ℕ → KeyReading
+-- the last pair of the key, in hex
+unfoldable pub hexAt : List ℕ → List ℕ → ℕ → Number
 hexAt s key limit = hexIn s limit (lastPair s key)
-
--- the number alone: an absent key has as little of one as an unreadable value
-unfoldable pub keyNumber : KeyReading → Number
-keyNumber (Read reading) = readValue reading
-keyNumber Absent = N.Unreadable
-
--- the last pair of the key as a hex number
-abbrev pub hexNumberAt : List ℕ → List ℕ → ℕ → Number
-hexNumberAt s key limit = keyNumber (hexAt s key limit)
 
 -- an answer is the next pair; its places rise within the text, which spares callers the argument
 pub record NextPair (s : List ℕ) (from : ℕ) (r : Pair) : Type 0 where

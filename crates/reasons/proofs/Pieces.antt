@@ -22,7 +22,7 @@ use Rattle.pairs.proofs.Pieces.{nth-is, nth-within, nth-all}
 use Rattle.reasons.specs.declared.HexText.{HexText}
 use Rattle.reasons.specs.Reasons.{saidAt, moved, bracketsAt, dataSpan, pieceAt, pieceIn}
 use Rattle.reasons.specs.Meaning.{Spot, PieceAt}
-use Rattle.reasons.proofs.Spots.{part-in-part, Sits, Stands, Answers, one-text}
+use Rattle.reasons.proofs.Spots.{part-in-part, Sits, Stands, Answers, one-text, told-same}
 
 -- ---- the brackets
 
@@ -121,15 +121,15 @@ module _ (i : ℕ) where
 
   -- a piece that is there is found
   piece-found : {p text : List ℕ} {a b : ℕ} (r : PieceAt i p text a b)
-      → nthPiece i (part p (r .from + 1) (r .from + (length (r .in-brackets .inner) + 1))) 0 ≡ At (r .x) (r .y)
+      → nthPiece i (part p (r .from + 1) (r .from + (length (r .in-brackets .inner) + 1))) 0 ≡ At (r .first) (r .behind)
   piece-found {p} {text} r =
       let same : cut (r .in-brackets .inner) ≡ r .in-brackets .pieces = cut-all (r .in-brackets .cut-at) in
       rw (inner-is p (r .last) (r .in-brackets)) (nth-all (r .in-brackets .inner) {piece = text} (rw same (r .piece)))
 
   piece-part : {p text : List ℕ} {a b : ℕ} (r : PieceAt i p text a b)
-      → part (part p (r .from + 1) (r .from + (length (r .in-brackets .inner) + 1))) (r .x) (r .y) ≡ text
+      → part (part p (r .from + 1) (r .from + (length (r .in-brackets .inner) + 1))) (r .first) (r .behind) ≡ text
   piece-part {p} {text} r =
-      one-piece {c = r .x} {d = r .y} (nth-is (part p (r .from + 1) (r .from + (length (r .in-brackets .inner) + 1))) i (piece-found r))
+      one-piece {c = r .first} {d = r .behind} (nth-is (part p (r .from + 1) (r .from + (length (r .in-brackets .inner) + 1))) i (piece-found r))
       (let same : cut (part p (r .from + 1) (r .from + (length (r .in-brackets .inner) + 1))) ≡ r .in-brackets .pieces = ap cut (inner-is p (r .last) (r .in-brackets)) ∙ cut-all (r .in-brackets .cut-at) in rw same (r .piece))
 
   -- its text stands there
@@ -141,12 +141,12 @@ module _ (i : ℕ) where
       let inside = inner-within p (r .last) (r .in-brackets) in
       let size : length (part p (r .from + 1) (r .from + (length (r .in-brackets .inner) + 1))) ≡ length (r .in-brackets .inner) = ap length (inner-is p (r .last) (r .in-brackets)) in
       let pair = last-within p (bytes "data") (last-pair-all p (bytes "data") (r .last)) in
-      let low : r .from + 1 + r .x ≡ a = sym (r .starts) in
-      let high : r .from + 1 + r .y ≡ b = sym (r .ends) in
+      let low : r .from + 1 + r .first ≡ a = sym (r .starts) in
+      let high : r .from + 1 + r .behind ≡ b = sym (r .ends) in
       record {
         some = omega (arith, pair .0, pair .1);
         within = omega (arith, w .1, size, inside, high);
-        is = rw (← low, ← high) (sym (part-in-part p (r .from + 1) (r .from + (length (r .in-brackets .inner) + 1)) (r .x) (r .y) (omega (arith, w .1, size))) ∙ piece-part r);
+        is = rw (← low, ← high) (sym (part-in-part p (r .from + 1) (r .from + (length (r .in-brackets .inner) + 1)) (r .first) (r .behind) (omega (arith, w .1, size))) ∙ piece-part r);
       }
 
   -- what is told of a piece, and what is there
@@ -166,8 +166,8 @@ module _ (i : ℕ) where
               last = r .last;
               dwords = r .dwords;
               in-brackets = r .in-brackets;
-              x = x;
-              y = y;
+              first = x;
+              behind = y;
               piece = rw cut-so at (nth-is (part p c d) i n);
               starts = omega (arith, r .starts);
               ends = omega (arith, r .starts);
@@ -189,9 +189,9 @@ module _ (i : ℕ) where
     where
       found-of : (p : List ℕ) (start : ℕ) {text : List ℕ} {a b : ℕ} (r : PieceAt i p text a b)
           → pieceIn p start i ≡ is (record {
-            from = start + (r .from + 1) + r .x;
-            to = start + (r .from + 1) + r .y;
-            reading = hexOf (2 ^ 32 - 1) (part (part p (r .from + 1) (r .from + (length (r .in-brackets .inner) + 1))) (r .x) (r .y));
+            from = start + (r .from + 1) + r .first;
+            to = start + (r .from + 1) + r .behind;
+            reading = hexOf (2 ^ 32 - 1) (part (part p (r .from + 1) (r .from + (length (r .in-brackets .inner) + 1))) (r .first) (r .behind));
           })
       found-of p start r = piece-some p start (data-found p (r .last) (r .in-brackets)) (piece-found r)
 
@@ -202,9 +202,6 @@ module _ (i : ℕ) where
       never : (p : List ℕ) (start k : ℕ) → pieceIn p start i ≡ refused k → (s : Span) → dataSpan p ≡ s → ⊥
       never p start k q (At c d) e = never-in p start k q e (nthPiece i (part p c d) 0) refl
       never p start k q Nothing e = let r = piece-none p start e in let z : _≡_ {A = ℕ} 0 1 = cc in omega arith
-
-      told-same : {x y : HexText} → is x ≡ is y → x ≡ y
-      told-same z = cc
 
       sits-in : (p : List ℕ) (start : ℕ) (said : HexText) {c d : ℕ} → pieceIn p start i ≡ is said → dataSpan p ≡ At c d → (s : Span) → nthPiece i (part p c d) 0 ≡ s
           → Sits (PieceAt i) (2 ^ 32 - 1) p start said

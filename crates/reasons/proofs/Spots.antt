@@ -64,6 +64,9 @@ pub record Answers (At : Spot) (limit : ℕ) (tell : List ℕ → ℕ → Told H
 pub one-text : {a b : ℕ} {r : Reading} (said : HexText) → a ≡ said .from → b ≡ said .to → r ≡ said .reading → record { from = a; to = b; reading = r } ≡ said
 one-text said x y z = rw (x, y, z)
 
+pub told-same : {x y : HexText} → is x ≡ is y → x ≡ y
+told-same e = cc
+
 -- ---- keys
 
 module _ (key : Key) where
@@ -103,9 +106,6 @@ module _ (key : Key) where
             to = refl;
             reads = hex-means (limitOf key) (part p a b);
           })
-        where
-          told-same : {x y : HexText} → is x ≡ is y → x ≡ y
-          told-same z = cc
       sits p start said q Nothing e = absurd (let r = key-none p start e in let z : _≡_ {A = ℕ} 0 1 = cc in omega arith)
 
       all : (p : List ℕ) (start : ℕ) (said : HexText) → Sits (KeyAt key) (limitOf key) p start said → keyIn p start key ≡ is said

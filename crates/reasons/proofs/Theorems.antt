@@ -5,6 +5,7 @@ use mathlib.Core.List.{List}
 use mathlib.Core.Logic.{_↔_}
 use native.Mathlib.Omega.{arith}
 use Rattle.text.specs.Told.{Told, is, absent, refused}
+use Rattle.text.proofs.Hexes.{hex-exactly, one-meaning}
 use Rattle.text.proofs.Told.{by-cases, fixed-by-told}
 use Rattle.reasons.specs.declared.Key.{Key}
 use Rattle.reasons.specs.declared.HexText.{HexText}
@@ -25,17 +26,6 @@ pub piece-exactly : (t : List ℕ) (i : ℕ) (told : Told HexText) → (pieceAns
 unfolding pieceAnswer
 piece-exactly t i told = told-exactly (PieceAt i) (2 ^ 32 - 1) (λ p start. pieceIn p start i) (piece-answers i) t told
 
-pub why-unreadable : WhyUnreadable
-why-unreadable =
-    record {
-      key-exactly = key-exactly;
-      piece-exactly = piece-exactly;
-      number-exactly = number-exactly;
-      none-exactly = none-exactly;
-      no-route = no-route;
-      in-order = in-order;
-    }
-
 -- an answer is fixed by what it tells, so a call that meets its contract has one answer
 pub one-answer : (a b : Answer) → answerTold a ≡ answerTold b → a ≡ b
 one-answer = fixed-by-told answerTold (by-cases A.Found A.Absent A.Refused) back
@@ -50,3 +40,17 @@ no-second-key t key a b x y = one-answer a b (x ∙ sym y)
 
 pub no-second-piece : (t : List ℕ) (i : ℕ) (a b : Answer) → answerTold a ≡ pieceAnswer t i → answerTold b ≡ pieceAnswer t i → a ≡ b
 no-second-piece t i a b x y = one-answer a b (x ∙ sym y)
+
+pub why-unreadable : WhyUnreadable
+why-unreadable =
+    record {
+      hex-exactly = hex-exactly;
+      one-case = one-meaning;
+      key-exactly = key-exactly;
+      piece-exactly = piece-exactly;
+      number-exactly = number-exactly;
+      none-exactly = none-exactly;
+      no-route = no-route;
+      one-answer = one-answer;
+      in-order = in-order;
+    }

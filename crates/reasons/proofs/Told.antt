@@ -24,7 +24,7 @@ use Rattle.scan.proofs.Theorems.{line-number-exactly}
 use Rattle.reasons.specs.declared.HexText.{HexText}
 use Rattle.reasons.specs.declared.payload.Place.{Place}
 use Rattle.reasons.specs.Reasons.{payloadFrom, payloadPlace}
-use Rattle.reasons.specs.Meaning.{Spot, startIn, Says, Lacks, Asked, Tells}
+use Rattle.reasons.specs.Meaning.{Spot, startIn, Says, NoText, Asked, Tells}
 use Rattle.reasons.proofs.Spots.{part-in-part, Sits, Stands, Answers}
 
 -- ---- the payload as a part of the line
@@ -127,7 +127,7 @@ module _ (At : Spot) (limit : ℕ) (tell : List ℕ → ℕ → Told HexText) (a
         (asked f, λ header payload text a b s r. answers .lacks (payloadOf t colon) (startAt t colon) q text a b (rw (← one-payload t (last-colon t f) s) r))
     payload-tells (refused k) q = absurd (answers .never (payloadOf t colon) (startAt t colon) k q)
 
-    told-absent : (told : Told HexText) → tell (payloadOf t colon) (startAt t colon) ≡ told → Lacks At t → told ≡ absent
+    told-absent : (told : Told HexText) → tell (payloadOf t colon) (startAt t colon) ≡ told → NoText At t → told ≡ absent
     told-absent (is said) q lacks =
         let r = answers .sits (payloadOf t colon) (startAt t colon) said q in
         absurd (lacks (headerOf t colon) (payloadOf t colon) (r .text) (r .a) (r .b) (split-here t f) (r .there))

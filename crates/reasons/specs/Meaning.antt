@@ -6,8 +6,9 @@ use mathlib.Core.List.{List, [], _∷_}
 use mathlib.Core.Option.{Option, some, none}
 use lib.ListN.{length}
 use Rattle.text.specs.Told.{Told, is, absent, refused}
-use Rattle.text.specs.Number.{Means, numberValue, readValue}
+use Rattle.text.specs.Number.{Means, hexOf, numberValue, readValue}
 use Rattle.text.specs.Quote.{bytes}
+use Rattle.text.specs.declared.number.Reading.{Reading}
 use Rattle.text.specs.declared.number.Reading.the-variants as R
 use Rattle.entry.specs.Entry.{EntryValue}
 use Rattle.pairs.specs.Pair.{part, LastPair}
@@ -17,7 +18,8 @@ use Rattle.scan.specs.Line.{Line, Condition, Applies}
 use Rattle.reasons.specs.declared.Key.{Key}
 use Rattle.reasons.specs.declared.Key.the-variants as K
 use Rattle.reasons.specs.declared.HexText.{HexText}
-use Rattle.reasons.specs.Reasons.{nameOf, limitOf, keyAnswer, pieceAnswer}
+use Rattle.reasons.specs.declared.Answer.{Answer}
+use Rattle.reasons.specs.Reasons.{nameOf, limitOf, answerTold, keyAnswer, pieceAnswer}
 
 -- a text of the payload, from a place of it up to another
 abbrev pub Spot : Type 1
@@ -35,11 +37,11 @@ pub record PieceAt (i : ℕ) (p text : List ℕ) (a b : ℕ) : Type 0 where
   pub last : LastPair p (bytes "data") from to
   pub dwords : List ℕ
   pub in-brackets : Data (part p from to) dwords
-  pub x : ℕ
-  pub y : ℕ
-  pub piece : PieceIn (in-brackets .pieces) i text x y
-  pub starts : a ≡ from + 1 + x
-  pub ends : b ≡ from + 1 + y
+  pub first : ℕ
+  pub behind : ℕ
+  pub piece : PieceIn (in-brackets .pieces) i text first behind
+  pub starts : a ≡ from + 1 + first
+  pub ends : b ≡ from + 1 + behind
 
 -- where the payload starts in the line: behind what stands before the last colon, behind that colon, and behind the blanks
 abbrev pub startIn : {t header payload : List ℕ} → Split t header payload → ℕ
@@ -60,17 +62,17 @@ pub record Says (At : Spot) (limit : ℕ) (t : List ℕ) (said : HexText) : Type
   pub reads : Means limit text (said .reading)
 
 -- the line has no such text
-abbrev pub Lacks : Spot → List ℕ → Type 0
-Lacks At t = (header payload text : List ℕ) (a b : ℕ) → Split t header payload → At payload text a b → ⊥
+abbrev pub NoText : Spot → List ℕ → Type 0
+NoText At t = (header payload text : List ℕ) (a b : ℕ) → Split t header payload → At payload text a b → ⊥
 
--- none of the numbers 1 to 4 applies, so there is a payload to ask
+-- none of the numbers 1 to 4 applies, so there is a payload to ask; they do not ask for slots, so 0 stands for any number of them
 abbrev pub Asked : List ℕ → Type 0
 Asked t = (k : ℕ) → k ≤ 4 → Condition t 0 k → ⊥
 
 -- what is told of a line, and what it means
 abbrev pub Tells : Spot → ℕ → List ℕ → Told HexText → Type 0
 Tells At limit t (is said) = Asked t × Says At limit t said
-Tells At limit t absent = Asked t × Lacks At t
+Tells At limit t absent = Asked t × NoText At t
 Tells At limit t (refused k) = (k ≤ 4) × Applies t 0 k
 
 -- ---- beside the entry
@@ -89,7 +91,7 @@ pub data NoNumber : Told HexText → Type 0 where
   wide : {said : HexText} → said .reading ≡ R.TooWide → NoNumber (is said)
 
 -- a number
-pub record Number (told : Told HexText) (v : ℕ) : Type 0 where
+pub record SaysNumber (told : Told HexText) (v : ℕ) : Type 0 where
   pub said : HexText
   pub found : told ≡ is said
   pub reads : said .reading ≡ R.Value v
@@ -121,16 +123,22 @@ pub record InOrder (t ds : List ℕ) : Type 0 where
 
 -- ---- the promise, in one place
 
+-- `Answer` is what the calls `ask_key` and `ask_piece` hand out; their contracts are `answerTold r ≡ keyAnswer t key` and `≡ pieceAnswer t i`
 pub record WhyUnreadable : Type 0 where
+  -- of every text and within every limit exactly one case holds, and it is the hex reader's answer
+  pub hex-exactly : (limit : ℕ) (s : List ℕ) (r : Reading) → (hexOf limit s ≡ r) ↔ Means limit s r
+  pub one-case : (limit : ℕ) (s : List ℕ) (r q : Reading) → Means limit s r → Means limit s q → r ≡ q
   -- for every line and hex key the answer is what it means, and what is meant is the answer
   pub key-exactly : (t : List ℕ) (key : Key) (told : Told HexText) → (keyAnswer t key ≡ told) ↔ Tells (KeyAt key) (limitOf key) t told
   -- likewise for every line and number of a piece
   pub piece-exactly : (t : List ℕ) (i : ℕ) (told : Told HexText) → (pieceAnswer t i ≡ told) ↔ Tells (PieceAt i) (2 ^ 32 - 1) t told
   -- of an accepted line a key says a number exactly when the entry's field is that number
-  pub number-exactly : (t : List ℕ) {v : EntryValue} → Line t v → (key : Key) (n : ℕ) → Number (keyAnswer t key) n ↔ (fieldOf key v ≡ some n)
+  pub number-exactly : (t : List ℕ) {v : EntryValue} → Line t v → (key : Key) (n : ℕ) → SaysNumber (keyAnswer t key) n ↔ (fieldOf key v ≡ some n)
   -- and it is absent or gives a reason exactly when the field is none
   pub none-exactly : (t : List ℕ) {v : EntryValue} → Line t v → (key : Key) → NoNumber (keyAnswer t key) ↔ (fieldOf key v ≡ none)
   -- of a line refused with 14 the route is absent or gives a reason
   pub no-route : (t : List ℕ) (room : ℕ) → Applies t room 14 → NoNumber (keyAnswer t K.Route)
+  -- no second answer meets either contract
+  pub one-answer : (a b : Answer) → answerTold a ≡ answerTold b → a ≡ b
   -- the dwords of an accepted line are the numbers that its pieces say, in order
   pub in-order : (t : List ℕ) {v : EntryValue} → Line t v → InOrder t (v .dwords)

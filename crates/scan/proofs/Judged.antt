@@ -32,7 +32,7 @@ use Rattle.header.proofs.Dashes.{task-is, task-all, task-within, pid-is, pid-al
 use Rattle.header.proofs.Cpus.{cpu-is, cpu-all}
 use Rattle.header.proofs.Stamps.{timestamp-is, timestamp-all}
 use Rattle.header.proofs.Functions.{function-is, function-all, function-within}
-use Rattle.pairs.specs.Pair.{lastPair, decimalOf, hexNumberAt, pairWithoutEquals, WithoutEquals}
+use Rattle.pairs.specs.Pair.{lastPair, decimalOf, hexAt, pairWithoutEquals, WithoutEquals}
 use Rattle.pairs.specs.Data.{dataOf}
 use Rattle.pairs.proofs.PairLists.{no-pair-without-equals, never-without-equals}
 use Rattle.pairs.proofs.Slots.{data-is, data-all}
@@ -53,7 +53,7 @@ use Rattle.scan.proofs.Values.{task-part, function-part, dwords-whole, 
 use Rattle.scan.proofs.Chain.{Clear, clear-starts, clear-next, Answered, refuse, check}
 
 -- what stands behind an answer, as a value
-number-tells : (n : Number) {v : ℕ} → numberValue n ≡ some v → n ≡ N.Value v
+pub number-tells : (n : Number) {v : ℕ} → numberValue n ≡ some v → n ≡ N.Value v
 unfolding numberValue
 number-tells (N.Value w) e = cc
 number-tells N.Unreadable e = absurd (let z : _≡_ {A = ℕ} 0 1 = cc in omega arith)
@@ -174,7 +174,7 @@ module _ (t : List ℕ) {k : ℕ} (framed : frameOf t ≡ T.is k) where
       → textAt (payloadOf t k) (lastPair (payloadOf t k) (bytes "type")) ≡ some name
       → decimalOf (payloadOf t k) (bytes "size") (2 ^ 16 - 1) ≡ N.Value size
       → decimalOf (payloadOf t k) (bytes "domain") (2 ^ 32 - 1) ≡ N.Value domain
-      → hexNumberAt (payloadOf t k) (bytes "route") (2 ^ 64 - 1) ≡ N.Value route
+      → hexAt (payloadOf t k) (bytes "route") (2 ^ 64 - 1) ≡ N.Value route
       → payloadData (payloadOf t k) ≡ some ds
       → length ds ≤ 256
       → Says t
@@ -266,7 +266,7 @@ module _ (t : List ℕ) (room : ℕ) where
         → textAt (payloadOf t k) (lastPair (payloadOf t k) (bytes "type")) ≡ some name
         → decimalOf (payloadOf t k) (bytes "size") (2 ^ 16 - 1) ≡ N.Value size
         → decimalOf (payloadOf t k) (bytes "domain") (2 ^ 32 - 1) ≡ N.Value domain
-        → hexNumberAt (payloadOf t k) (bytes "route") (2 ^ 64 - 1) ≡ N.Value route
+        → hexAt (payloadOf t k) (bytes "route") (2 ^ 64 - 1) ≡ N.Value route
         → payloadData (payloadOf t k) ≡ some ds
         → length ds ≤ 256
         → Says t
@@ -296,7 +296,7 @@ module _ (t : List ℕ) (room : ℕ) where
                           (λ domain o. (
                             having t room colon (λ (x y : List ℕ) (v : ℕ). KeyDecimal y (bytes "domain") (2 ^ 32 - 1) v) domain (key-decimal-is (payloadOf t k) (bytes "domain") (2 ^ 32 - 1) (number-tells _ o)),
                             λ c14.
-                                check t room (Says t) (withBody (headerOf t k) (startOf t k) head (payloadOf t k) room) 14 (numberValue (hexNumberAt (payloadOf t k) (bytes "route") (2 ^ 64 - 1))) (T.refused 14)
+                                check t room (Says t) (withBody (headerOf t k) (startOf t k) head (payloadOf t k) room) 14 (numberValue (hexAt (payloadOf t k) (bytes "route") (2 ^ 64 - 1))) (T.refused 14)
                                 (λ route. T.is (record { kind = kindOf name (drop (head .function) (headerOf t k)); size = size; dropped = droppedOf (payloadOf t k); domain = domain; route = route; optionals = optionalsOf (payloadOf t k) })) refl c14
                                 (λ r. lacking t room colon (λ (x y : List ℕ) (v : ℕ). KeyHex y (bytes "route") (2 ^ 64 - 1) v) (λ v q. no-hex (bytes "route") (2 ^ 64 - 1) r q))
                                 (λ route r. (
@@ -313,7 +313,7 @@ module _ (t : List ℕ) (room : ℕ) where
         no-decimal : (key : List ℕ) (limit : ℕ) → numberValue (decimalOf (payloadOf t k) key limit) ≡ none → {v : ℕ} → KeyDecimal (payloadOf t k) key limit v → ⊥
         no-decimal key limit e {v} r = nothing e (ap numberValue (key-decimal-all (payloadOf t k) key limit r) ∙ decimal-there v)
 
-        no-hex : (key : List ℕ) (limit : ℕ) → numberValue (hexNumberAt (payloadOf t k) key limit) ≡ none → {v : ℕ} → KeyHex (payloadOf t k) key limit v → ⊥
+        no-hex : (key : List ℕ) (limit : ℕ) → numberValue (hexAt (payloadOf t k) key limit) ≡ none → {v : ℕ} → KeyHex (payloadOf t k) key limit v → ⊥
         no-hex key limit e {v} r = nothing e (ap numberValue (key-hex-all (payloadOf t k) key limit r) ∙ decimal-there v)
 
     -- 5 to 9

@@ -9,8 +9,8 @@ use Rattle.text.proofs.Numbers.{number-is, number-all}
 use Rattle.text.proofs.Hexes.{hex-is, hex-all}
 use Rattle.pairs.specs.declared.pair.Span.{Span}
 use Rattle.pairs.specs.declared.pair.Span.the-variants.{At, Nothing}
-use Rattle.pairs.specs.Pair.{part, lastPair, decimalIn, decimalOf, hexNumberAt}
-use Rattle.pairs.proofs.LastPairs.{last-pair-is, last-pair-all, decimal-some, hex-number-some, hex-number-none}
+use Rattle.pairs.specs.Pair.{part, lastPair, decimalIn, decimalOf, hexAt}
+use Rattle.pairs.proofs.LastPairs.{last-pair-is, last-pair-all, decimal-some, hex-some, hex-none}
 use Rattle.pairs.proofs.Slots.{hex-fits}
 use Rattle.scan.specs.Body.{textAt}
 use Rattle.scan.specs.Line.{KeyText, KeyDecimal, KeyHex}
@@ -47,7 +47,7 @@ module _ (p key : List ℕ) where
         sym (decimal-some p key limit (last-pair-all p key (r .found .last)))
         ∙ number-all 10 limit _ (rw (← r .found .is) (r .reads))
 
-    pub key-hex-is : {v : ℕ} → hexNumberAt p key limit ≡ N.Value v → KeyHex p key limit v
+    pub key-hex-is : {v : ℕ} → hexAt p key limit ≡ N.Value v → KeyHex p key limit v
     key-hex-is {v} e = go (lastPair p key) refl
       where
         go : (s : Span) → lastPair p key ≡ s → KeyHex p key limit v
@@ -55,20 +55,20 @@ module _ (p key : List ℕ) where
             record {
               text = part p a b;
               found = record { from = a; to = b; last = last-pair-is p key q; is = refl };
-              reads = hex-is limit (hex-number-some p key limit q ∙ e);
+              reads = hex-is limit (hex-some p key limit q ∙ e);
             }
         go Nothing q =
-            let none : N.Unreadable ≡ N.Value v = hex-number-none p key limit q ∙ e in
+            let none : N.Unreadable ≡ N.Value v = hex-none p key limit q ∙ e in
             absurd (let z : _≡_ {A = ℕ} 0 1 = cc in omega arith)
 
-    pub key-hex-all : {v : ℕ} → KeyHex p key limit v → hexNumberAt p key limit ≡ N.Value v
+    pub key-hex-all : {v : ℕ} → KeyHex p key limit v → hexAt p key limit ≡ N.Value v
     key-hex-all {v} r =
-        sym (hex-number-some p key limit (last-pair-all p key (r .found .last)))
+        sym (hex-some p key limit (last-pair-all p key (r .found .last)))
         ∙ hex-all limit (rw (← r .found .is) (r .reads))
 
     -- a number that was read is within the width
     pub decimal-fits : {v : ℕ} → decimalOf p key limit ≡ N.Value v → v ≤ limit
     decimal-fits e = key-decimal-is e .reads .within
 
-    pub hex-key-fits : {v : ℕ} → hexNumberAt p key limit ≡ N.Value v → v ≤ limit
+    pub hex-key-fits : {v : ℕ} → hexAt p key limit ≡ N.Value v → v ≤ limit
     hex-key-fits {v} e = let r = key-hex-is e in hex-fits limit (r .text) (hex-all limit (r .reads))

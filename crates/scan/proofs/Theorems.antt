@@ -58,13 +58,13 @@ one-decimal p key limit a b =
     let e = one-text p key (a .found) (b .found) in
     one-number 10 limit (b .text) (rw e at (a .reads)) (b .reads)
 
-one-key-hex : (p key : List ℕ) (limit : ℕ) {v w : ℕ} → KeyHex p key limit v → KeyHex p key limit w → v ≡ w
+pub one-key-hex : (p key : List ℕ) (limit : ℕ) {v w : ℕ} → KeyHex p key limit v → KeyHex p key limit w → v ≡ w
 one-key-hex p key limit a b =
     let e = one-text p key (a .found) (b .found) in
     one-hex limit (rw e at (a .reads)) (b .reads)
 
 -- an optional field of one value is one
-one-optional : (Reads : ℕ → Type 0) → ((v w : ℕ) → Reads v → Reads w → v ≡ w) → (a b : Option ℕ) → Optional Reads a → Optional Reads b → a ≡ b
+pub one-optional : (Reads : ℕ → Type 0) → ((v w : ℕ) → Reads v → Reads w → v ≡ w) → (a b : Option ℕ) → Optional Reads a → Optional Reads b → a ≡ b
 one-optional R one (some v) (some w) x y = ap some (one v w x y)
 one-optional R one (some v) none x y = absurd (y v x)
 one-optional R one none (some w) x y = absurd (x w y)

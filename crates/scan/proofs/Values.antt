@@ -19,7 +19,7 @@ use Rattle.text.proofs.Runs.{run-within}
 use Rattle.text.proofs.Stripping.{rest-is, strip-size}
 use Rattle.entry.specs.Entry.{partOf, byteValue, wordValue}
 use Rattle.entry.proofs.Parts.{part-in}
-use Rattle.pairs.specs.Pair.{decimalOf, hexNumberAt}
+use Rattle.pairs.specs.Pair.{decimalOf, hexAt}
 use Rattle.pairs.specs.Data.{filled}
 use Rattle.scan.specs.Body.{asByte, asWord, isOne}
 use Rattle.scan.specs.Line.{KeyDecimal, KeyHex, Optional, Dropped}
@@ -91,11 +91,11 @@ module _ (p key : List ℕ) (limit : ℕ) where
       go (N.Value v) e = key-decimal-is p key limit e
       go N.Unreadable e = λ v r. let q = key-decimal-all p key limit r in absurd (let z : _≡_ {A = ℕ} 0 1 = cc in omega arith)
 
-  pub optional-hex : Optional (KeyHex p key limit) (numberValue (hexNumberAt p key limit))
+  pub optional-hex : Optional (KeyHex p key limit) (numberValue (hexAt p key limit))
   unfolding numberValue
-  optional-hex = go (hexNumberAt p key limit) refl
+  optional-hex = go (hexAt p key limit) refl
     where
-      go : (n : Number) → hexNumberAt p key limit ≡ n → Optional (KeyHex p key limit) (numberValue n)
+      go : (n : Number) → hexAt p key limit ≡ n → Optional (KeyHex p key limit) (numberValue n)
       go (N.Value v) e = key-hex-is p key limit e
       go N.Unreadable e = λ v r. let q = key-hex-all p key limit r in absurd (let z : _≡_ {A = ℕ} 0 1 = cc in omega arith)
 

@@ -16,7 +16,7 @@ use Rattle.entry.specs.declared.optional.MaybeWord.the-variants as W
 use Rattle.entry.specs.Kind.{kindOf}
 use Rattle.pairs.specs.declared.pair.Span.{Span}
 use Rattle.pairs.specs.declared.pair.Span.the-variants.{At, Nothing}
-use Rattle.pairs.specs.Pair.{part, lastPair, pairWithoutEquals, decimalOf, hexNumberAt}
+use Rattle.pairs.specs.Pair.{part, lastPair, pairWithoutEquals, decimalOf, hexAt}
 use Rattle.scan.specs.declared.body.Optionals.{Optionals}
 use Rattle.scan.specs.declared.body.Body.{Body}
 use Rattle.scan.specs.declared.body.BodyAnswer.{BodyAnswer}
@@ -40,11 +40,11 @@ asWord none = W.Absent
 
 -- the key's last pair as hex of 8 bits
 unfoldable pub hexByte : List ℕ → List ℕ → MaybeByte
-hexByte p key = asByte (numberValue (hexNumberAt p key (2 ^ 8 - 1)))
+hexByte p key = asByte (numberValue (hexAt p key (2 ^ 8 - 1)))
 
 -- the key's last pair as hex of 16 bits
 unfoldable pub hexWord : List ℕ → List ℕ → MaybeWord
-hexWord p key = asWord (numberValue (hexNumberAt p key (2 ^ 16 - 1)))
+hexWord p key = asWord (numberValue (hexAt p key (2 ^ 16 - 1)))
 
 -- the key's last pair as decimal of 8 bits
 unfoldable pub decimalByte : List ℕ → List ℕ → MaybeByte
@@ -84,7 +84,7 @@ bodyTold (Refused k) = refused k
 -- from each number on
 abbrev pub body14 : List ℕ → ℕ → ℕ → ℕ → Told Body
 body14 p kind size domain =
-    need (refused 14) (numberValue (hexNumberAt p (bytes "route") (2 ^ 64 - 1)))
+    need (refused 14) (numberValue (hexAt p (bytes "route") (2 ^ 64 - 1)))
     (λ route. is (record { kind = kind; size = size; dropped = droppedOf p; domain = domain; route = route; optionals = optionalsOf p }))
 
 abbrev pub body13 : List ℕ → ℕ → ℕ → Told Body

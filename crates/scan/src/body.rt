@@ -3,7 +3,7 @@ use entry::kind::kind_of;
 use entry::optional::MaybeByte;
 use entry::optional::MaybeWord;
 use pairs::key::decimal_of;
-use pairs::key::hex_number_of;
+use pairs::key::hex_of;
 use pairs::pair::Span;
 use pairs::pair::last_pair;
 use pairs::pair::pair_without_equals;
@@ -61,7 +61,7 @@ pub fn read_body(p: &[u8], function: &[u8]) -> BodyAnswer
     let Number::Value(domain) = decimal_of(p, b"domain", MAX_32) else {
         return BodyAnswer::Refused(NO_DOMAIN);
     };
-    let Number::Value(route) = hex_number_of(p, b"route", MAX_64) else {
+    let Number::Value(route) = hex_of(p, b"route", MAX_64) else {
         return BodyAnswer::Refused(NO_ROUTE);
     };
     let dropped = is_dropped(p);
@@ -110,7 +110,7 @@ fn read_optionals(p: &[u8]) -> Optionals
 fn hex_byte(p: &[u8], key: &[u8]) -> MaybeByte
     ensures { λ r. ⌜ r ≡ hexByte (now (p .entry)) (now (key .entry)) ⌝ }
 {
-    match hex_number_of(p, key, MAX_8) {
+    match hex_of(p, key, MAX_8) {
         Number::Value(v) => MaybeByte::Is(v as u8),
         Number::Unreadable => MaybeByte::Absent,
     }
@@ -119,7 +119,7 @@ fn hex_byte(p: &[u8], key: &[u8]) -> MaybeByte
 fn hex_word(p: &[u8], key: &[u8]) -> MaybeWord
     ensures { λ r. ⌜ r ≡ hexWord (now (p .entry)) (now (key .entry)) ⌝ }
 {
-    match hex_number_of(p, key, MAX_16) {
+    match hex_of(p, key, MAX_16) {
         Number::Value(v) => MaybeWord::Is(v as u16),
         Number::Unreadable => MaybeWord::Absent,
     }

@@ -1,6 +1,6 @@
 -- `key::hex_of` meets its contract: the last pair's value, read, or nothing to read. Assumes nothing.
 use mathlib.Core.Path.{sym, ap, _∙_}
-use Rattle.pairs.specs.declared.key.KeyReading.the-variants.{Read}
+use Rattle.text.specs.Number.{readValue}
 use Rattle.pairs.proofs.LastPairs.{hex-some, hex-none}
 use native.Mathlib.Omega.{arith}
 use borrow.Author.Needs.{needs}
@@ -25,11 +25,14 @@ part-hex-end c = omega (arith, c .before .before .before .last-pair .ensures .wi
 hex-requires : tie.Need-hex-requires
 hex-requires c κs = search needs
 
+value-of-requires : tie.Need-value-of-requires
+value-of-requires c κs = search needs
+
 enum-told : tie.Need-enum-told
 enum-told c = search needs
 
 returns : tie.Need-returns
-returns c = ap Read (c .hex .ensures) ∙ hex-some _ _ _ (sym (c .before .before .before .before .before .last-pair .ensures .is) ∙ c .before .before .before .from .given .1)
+returns c = c .value-of .ensures ∙ ap readValue (c .before .hex .ensures) ∙ hex-some _ _ _ (sym (c .before .before .before .before .before .before .last-pair .ensures .is) ∙ c .before .before .before .before .from .given .1)
 
 returns-2 : tie.Need-returns-2
 returns-2 c = hex-none _ _ _ (sym (c .before .before .last-pair .ensures .is) ∙ c .enum-told .given .1)
@@ -44,6 +47,7 @@ hex-of-spec =
     part-hex-start
     part-hex-end
     hex-requires
+    value-of-requires
     enum-told
     returns
     returns-2)

@@ -9,26 +9,26 @@ use borrow.Author.Needs.{needs}
 use Rattle.scan.proofs.body.hex_word.Statement.{statement}
 use Rattle.scan.proofs.body.hex_word.Tie as tie
 
-hex-number-of-requires : tie.Need-hex-number-of-requires
-hex-number-of-requires c κs = search needs
+hex-of-requires : tie.Need-hex-of-requires
+hex-of-requires c κs = search needs
 
 enum-known-v : tie.Need-enum-known-v
 enum-known-v c = search needs
 
 cast-t6 : tie.Need-cast-t6
-cast-t6 c = record { fits = omega (arith, hex-key-fits _ _ (2 ^ 16 - 1) (sym (c .before .before .before .hex-number-of .ensures) ∙ c .before .v .given .1)) }
+cast-t6 c = record { fits = omega (arith, hex-key-fits _ _ (2 ^ 16 - 1) (sym (c .before .before .before .hex-of .ensures) ∙ c .before .v .given .1)) }
 
 enum-told : tie.Need-enum-told
 enum-told c = search needs
 
 returns : tie.Need-returns
 unfolding hexWord asWord numberValue
-returns c = rw (sym (c .before .before .before .hex-number-of .ensures) ∙ c .before .v .given .1)
+returns c = rw (sym (c .before .before .before .hex-of .ensures) ∙ c .before .v .given .1)
 
 returns-2 : tie.Need-returns-2
 unfolding hexWord asWord numberValue
-returns-2 c = rw (sym (c .before .before .hex-number-of .ensures) ∙ c .enum-told .given .1)
+returns-2 c = rw (sym (c .before .before .hex-of .ensures) ∙ c .enum-told .given .1)
 
 pub hex-word-spec : {M : Type 1} → statement M
 hex-word-spec =
-    tie.close (tie.spec hex-number-of-requires enum-known-v cast-t6 enum-told returns returns-2)
+    tie.close (tie.spec hex-of-requires enum-known-v cast-t6 enum-told returns returns-2)

@@ -78,11 +78,11 @@ unfolding bodyOf textAt numberValue
 returns-4 c =
     rw (sym (c .before .before .before .before .before .before .before .before .before .before .before .before .before .before .before .before .before .pair-without-equals .ensures) ∙ c .before .before .before .before .before .before .before .before .before .before .before .before .before .before .before .before .if1 .left, sym (c .before .before .before .before .before .before .before .before .before .before .before .before .before .before .last-pair .ensures .is) ∙ c .before .before .before .before .before .before .before .before .before .before .before .before .from .given .1, sym (c .before .before .before .before .before .before .before .decimal-of .ensures) ∙ c .before .before .before .before .before .size .given .1, sym (c .before .before .decimal-of2 .ensures) ∙ c .enum-told3 .given .1)
 
-slice-aggregate-hex-number-of : tie.Need-slice-aggregate-hex-number-of
-slice-aggregate-hex-number-of c = search needs
+slice-aggregate-hex-of : tie.Need-slice-aggregate-hex-of
+slice-aggregate-hex-of c = search needs
 
-hex-number-of-requires : tie.Need-hex-number-of-requires
-hex-number-of-requires c κs = search needs
+hex-of-requires : tie.Need-hex-of-requires
+hex-of-requires c κs = search needs
 
 enum-known-route : tie.Need-enum-known-route
 enum-known-route c = search needs
@@ -93,7 +93,7 @@ enum-told-4 c = search needs
 returns-5 : tie.Need-returns-5
 unfolding bodyOf textAt numberValue
 returns-5 c =
-    rw (sym (c .before .before .before .before .before .before .before .before .before .before .before .before .before .before .before .before .before .before .before .before .before .before .pair-without-equals .ensures) ∙ c .before .before .before .before .before .before .before .before .before .before .before .before .before .before .before .before .before .before .before .before .before .if1 .left, sym (c .before .before .before .before .before .before .before .before .before .before .before .before .before .before .before .before .before .before .before .last-pair .ensures .is) ∙ c .before .before .before .before .before .before .before .before .before .before .before .before .before .before .before .before .before .from .given .1, sym (c .before .before .before .before .before .before .before .before .before .before .before .before .decimal-of .ensures) ∙ c .before .before .before .before .before .before .before .before .before .before .size .given .1, sym (c .before .before .before .before .before .before .before .decimal-of2 .ensures) ∙ c .before .before .before .before .before .domain .given .1, sym (c .before .before .hex-number-of .ensures) ∙ c .enum-told4 .given .1)
+    rw (sym (c .before .before .before .before .before .before .before .before .before .before .before .before .before .before .before .before .before .before .before .before .before .before .pair-without-equals .ensures) ∙ c .before .before .before .before .before .before .before .before .before .before .before .before .before .before .before .before .before .before .before .before .before .if1 .left, sym (c .before .before .before .before .before .before .before .before .before .before .before .before .before .before .before .before .before .before .before .last-pair .ensures .is) ∙ c .before .before .before .before .before .before .before .before .before .before .before .before .before .before .before .before .before .from .given .1, sym (c .before .before .before .before .before .before .before .before .before .before .before .before .decimal-of .ensures) ∙ c .before .before .before .before .before .before .before .before .before .before .size .given .1, sym (c .before .before .before .before .before .before .before .decimal-of2 .ensures) ∙ c .before .before .before .before .before .domain .given .1, sym (c .before .before .hex-of .ensures) ∙ c .enum-told4 .given .1)
 
 is-dropped-requires : tie.Need-is-dropped-requires
 is-dropped-requires c κs = search needs
@@ -110,7 +110,7 @@ cast-t33 c = record { fits = omega (arith, decimal-fits _ _ (2 ^ 32 - 1) (sym (c
 returns-6 : tie.Need-returns-6
 unfolding bodyOf textAt numberValue
 returns-6 c =
-    rw (sym (c .before .before .before .before .before .before .before .before .before .before .before .before .before .before .before .before .before .before .before .before .before .before .before .before .before .pair-without-equals .ensures) ∙ c .before .before .before .before .before .before .before .before .before .before .before .before .before .before .before .before .before .before .before .before .before .before .before .before .if1 .left, sym (c .before .before .before .before .before .before .before .before .before .before .before .before .before .before .before .before .before .before .before .before .before .before .last-pair .ensures .is) ∙ c .before .before .before .before .before .before .before .before .before .before .before .before .before .before .before .before .before .before .before .before .from .given .1, sym (c .before .before .before .before .before .before .before .before .before .before .before .before .before .before .before .decimal-of .ensures) ∙ c .before .before .before .before .before .before .before .before .before .before .before .before .before .size .given .1, sym (c .before .before .before .before .before .before .before .before .before .before .decimal-of2 .ensures) ∙ c .before .before .before .before .before .before .before .before .domain .given .1, sym (c .before .before .before .before .before .hex-number-of .ensures) ∙ c .before .before .before .route .given .1, c .before .before .before .before .before .before .before .before .before .before .before .before .before .before .before .before .before .kind-of .ensures, c .before .is-dropped .ensures, c .read-optionals .ensures)
+    rw (sym (c .before .before .before .before .before .before .before .before .before .before .before .before .before .before .before .before .before .before .before .before .before .before .before .before .before .pair-without-equals .ensures) ∙ c .before .before .before .before .before .before .before .before .before .before .before .before .before .before .before .before .before .before .before .before .before .before .before .before .if1 .left, sym (c .before .before .before .before .before .before .before .before .before .before .before .before .before .before .before .before .before .before .before .before .before .before .last-pair .ensures .is) ∙ c .before .before .before .before .before .before .before .before .before .before .before .before .before .before .before .before .before .before .before .before .from .given .1, sym (c .before .before .before .before .before .before .before .before .before .before .before .before .before .before .before .decimal-of .ensures) ∙ c .before .before .before .before .before .before .before .before .before .before .before .before .before .size .given .1, sym (c .before .before .before .before .before .before .before .before .before .before .decimal-of2 .ensures) ∙ c .before .before .before .before .before .before .before .before .domain .given .1, sym (c .before .before .before .before .before .hex-of .ensures) ∙ c .before .before .before .route .given .1, c .before .before .before .before .before .before .before .before .before .before .before .before .before .before .before .before .before .kind-of .ensures, c .before .is-dropped .ensures, c .read-optionals .ensures)
 
 pub read-body-spec : {M : Type 1} → statement M
 read-body-spec =
@@ -137,8 +137,8 @@ read-body-spec =
     enum-known-domain
     enum-told-3
     returns-4
-    slice-aggregate-hex-number-of
-    hex-number-of-requires
+    slice-aggregate-hex-of
+    hex-of-requires
     enum-known-route
     enum-told-4
     returns-5

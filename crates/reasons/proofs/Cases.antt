@@ -1,4 +1,4 @@
--- Document 02's sentences on reasons, each by the smallest line that shows it, by computation. None of these lines has a header, so the line
+-- How document 02's sentences on reasons are read, by small lines and computation. None of these lines has a header, so the line
 -- reader refuses each: the reasons are told all the same. Assumes nothing.
 use Prim.Native.Nat.{ℕ}
 use mathlib.Core.Path.{_≡_, refl}

@@ -1,0 +1,2 @@
+-- The laws of the rows.
+pub mod Rowing

@@ -19,7 +19,6 @@ use Rattle.pairs.proofs.LastPairs.{last-within}
 use Rattle.pairs.proofs.Cuts.{cut-last, cut-next}
 use Rattle.scan.specs.Frame.{frameOf}
 use Rattle.scan.proofs.Frames.{frame-passed}
-use Rattle.channel.specs.declared.sink.Sink.{Sink}
 use Rattle.reasons.specs.declared.Key.{Key}
 use Rattle.reasons.specs.declared.Key.the-variants as K
 use Rattle.reasons.specs.declared.HexText.{HexText}
@@ -28,7 +27,7 @@ use Rattle.reasons.specs.declared.Answer.the-variants as A
 use Rattle.reasons.specs.declared.payload.Place.{Place}
 use Rattle.reasons.specs.declared.payload.Payload.{Payload}
 use Rattle.reasons.specs.declared.payload.Payload.the-variants as P
-use Rattle.reasons.specs.Reasons.{nameOf, limitOf, answerTold, payloadFrom, payloadPlace, payloadTold, saidAt, keyIn, dataSpan, SpanWithin, PayloadAt, DataAt}
+use Rattle.reasons.specs.Reasons.{nameOf, limitOf, answerTold, payloadFrom, payloadPlace, payloadTold, saidAt, keyIn, dataSpan, PayloadAt, DataAt}
 use Rattle.why_rows.specs.declared.What.{What}
 use Rattle.why_rows.specs.declared.What.the-variants as W
 use Rattle.why_rows.specs.declared.Reason.the-variants as Y

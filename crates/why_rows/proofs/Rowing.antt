@@ -1,10 +1,10 @@
 -- Parts of a row by the case that they are of, blanks one behind the other, and the text as it is shown. Assumes nothing.
 use Prim.Native.Nat.{ℕ, zero, suc, _+_, _*_, _≤_, _<_}
-use mathlib.Core.Path.{_≡_, refl, sym, ap, _∙_}
+use mathlib.Core.Path.{_≡_, refl, ap}
 use mathlib.Core.List.{List, [], _∷_, _++_}
 use native.Mathlib.Numerals.{add-one}
 use native.Mathlib.Omega.{arith}
-use lib.ListN.{length, replicate, length-replicate, length-append}
+use lib.ListN.{length, replicate, length-replicate}
 use Rattle.text.specs.Quote.{bytes}
 use Rattle.print.specs.Put.{Placed}
 use Rattle.listing_rows.specs.Rows.{Put}

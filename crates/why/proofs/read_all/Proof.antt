@@ -3,14 +3,8 @@ use Prim.Native.Nat.{_≤_}
 use lib.ListN.{length}
 use mathlib.Core.Path.{_≡_}
 use borrow.Author.Needs.{needs}
-use native.Mathlib.Omega.{arith}
 use Rattle.why.proofs.read_all.Statement.{statement}
 use Rattle.why.proofs.read_all.Tie as tie
-use Rattle.why.proofs.read_all.Reads as reads
-use Rattle.why.proofs.read_all.Lts as lts
-use Rattle.why.proofs.read_next.Reads as read-next-reads
-use Rattle.why.proofs.state.begun.Reads as begun-reads
-use Rattle.why.proofs.state.unread.Reads as unread-reads
 
 abbrev Inv-loop : tie.InvT-loop
 Inv-loop input₀ unit₀ row₀ out₀ state₀ turns₀ input unit row out state turns = (length input ≡ length input₀) × (length unit ≡ length unit₀) × (length row ≡ length row₀) × (length out ≡ length out₀) × (state .held ≤ length unit₀)

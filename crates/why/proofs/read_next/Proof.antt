@@ -6,12 +6,6 @@ use native.Mathlib.Omega.{arith}
 use borrow.Author.Needs.{needs}
 use Rattle.why.proofs.read_next.Statement.{statement}
 use Rattle.why.proofs.read_next.Tie as tie
-use Rattle.why.proofs.read_next.Reads as reads
-use Rattle.why.proofs.read_next.Lts as lts
-use Rattle.channel.proofs.reading.read_some.Reads as read-some-reads
-use Rattle.why.proofs.end_input.Reads as end-input-reads
-use Rattle.why.proofs.state.unread.Reads as unread-reads
-use Rattle.why.proofs.take_part.Reads as take-part-reads
 
 read-some-requires : tie.Need-read-some-requires
 read-some-requires c κs = search needs

@@ -1,15 +1,9 @@
 -- `take_held` meets its contract: what is held lies in the unit buffer. Assumes nothing.
 use lib.Seq.{length-take-le}
 use mathlib.Core.Path.{sym}
-use native.Mathlib.Omega.{arith}
 use borrow.Author.Needs.{needs}
 use Rattle.why.proofs.take_held.Statement.{statement}
 use Rattle.why.proofs.take_held.Tie as tie
-use Rattle.why.proofs.take_held.Reads as reads
-use Rattle.why.proofs.take_held.Lts as lts
-use Rattle.text.proofs.place.byte_at.Reads as byte-at-reads
-use Rattle.why.proofs.asking.say_line.Reads as say-line-reads
-use Rattle.why.proofs.state.stopped.Reads as stopped-reads
 
 slice-aggregate-line : tie.Need-slice-aggregate-line
 slice-aggregate-line c = sym (length-take-le _ _ (c .before .before .before .before .pre .0))

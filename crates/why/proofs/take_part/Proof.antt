@@ -6,11 +6,6 @@ use borrow.Author.Needs.{needs}
 use native.Mathlib.Omega.{arith}
 use Rattle.why.proofs.take_part.Statement.{statement}
 use Rattle.why.proofs.take_part.Tie as tie
-use Rattle.why.proofs.take_part.Reads as reads
-use Rattle.why.proofs.take_part.Lts as lts
-use Rattle.framing.proofs.feed.Reads as feed-reads
-use Rattle.why.proofs.state.closed.Reads as closed-reads
-use Rattle.why.proofs.take_fed.Reads as take-fed-reads
 
 abbrev Inv-loop : tie.InvT-loop
 Inv-loop part unit₀ row₀ out₀ now₀ from₀ unit row out now from = (length unit ≡ length unit₀) × (length row ≡ length row₀) × (length out ≡ length out₀) × (from ≤ length part) × (now .held ≤ length unit₀)

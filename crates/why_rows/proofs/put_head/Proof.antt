@@ -1,15 +1,9 @@
 -- `put_head` meets its contract: its parts one behind the other. Assumes nothing.
 use Rattle.unanswered_rows.proofs.Joining.{part-then}
 use Rattle.why_rows.specs.Rows.{headText}
-use native.Mathlib.Omega.{arith}
 use borrow.Author.Needs.{needs}
 use Rattle.why_rows.proofs.put_head.Statement.{statement}
 use Rattle.why_rows.proofs.put_head.Tie as tie
-use Rattle.why_rows.proofs.put_head.Reads as reads
-use Rattle.why_rows.proofs.put_head.Lts as lts
-use Rattle.unanswered_rows.proofs.parts.put_number.Reads as put-number-reads
-use Rattle.unanswered_rows.proofs.parts.put_text.Reads as put-text-reads
-use Rattle.why_rows.proofs.name.put_name.Reads as put-name-reads
 
 slice-aggregate-put-number : tie.Need-slice-aggregate-put-number
 slice-aggregate-put-number c = search needs

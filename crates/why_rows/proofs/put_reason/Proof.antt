@@ -8,12 +8,6 @@ use native.Mathlib.Omega.{arith}
 use borrow.Author.Needs.{needs}
 use Rattle.why_rows.proofs.put_reason.Statement.{statement}
 use Rattle.why_rows.proofs.put_reason.Tie as tie
-use Rattle.why_rows.proofs.put_reason.Reads as reads
-use Rattle.why_rows.proofs.put_reason.Lts as lts
-use Rattle.unanswered_rows.proofs.parts.put_text.Reads as put-text-reads
-use Rattle.why_rows.proofs.name.bits_of.Reads as bits-of-reads
-use Rattle.why_rows.proofs.put_place.Reads as put-place-reads
-use Rattle.why_rows.proofs.put_width.Reads as put-width-reads
 
 enum-told : tie.Need-enum-told
 enum-told c = search needs

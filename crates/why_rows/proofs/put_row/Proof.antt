@@ -5,12 +5,6 @@ use native.Mathlib.Omega.{arith}
 use borrow.Author.Needs.{needs}
 use Rattle.why_rows.proofs.put_row.Statement.{statement}
 use Rattle.why_rows.proofs.put_row.Tie as tie
-use Rattle.why_rows.proofs.put_row.Reads as reads
-use Rattle.why_rows.proofs.put_row.Lts as lts
-use Rattle.why_rows.proofs.caret.put_caret.Reads as put-caret-reads
-use Rattle.why_rows.proofs.put_head.Reads as put-head-reads
-use Rattle.why_rows.proofs.put_reason.Reads as put-reason-reads
-use Rattle.why_rows.proofs.put_shown.Reads as put-shown-reads
 
 put-head-requires : tie.Need-put-head-requires
 put-head-requires c κs = search needs

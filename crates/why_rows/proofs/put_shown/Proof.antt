@@ -5,10 +5,6 @@ use native.Mathlib.Omega.{arith}
 use borrow.Author.Needs.{needs}
 use Rattle.why_rows.proofs.put_shown.Statement.{statement}
 use Rattle.why_rows.proofs.put_shown.Tie as tie
-use Rattle.why_rows.proofs.put_shown.Reads as reads
-use Rattle.why_rows.proofs.put_shown.Lts as lts
-use Rattle.escape.proofs.put_escaped.Reads as put-escaped-reads
-use Rattle.unanswered_rows.proofs.parts.put_text.Reads as put-text-reads
 
 returns : tie.Need-returns
 returns c = not-shown _ (c .if1 .taken) (omega arith)

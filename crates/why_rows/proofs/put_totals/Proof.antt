@@ -1,14 +1,9 @@
 -- `put_totals` meets its contract: its parts one behind the other. Assumes nothing.
 use Rattle.unanswered_rows.proofs.Joining.{part-then}
 use Rattle.why_rows.specs.Rows.{totalsText}
-use native.Mathlib.Omega.{arith}
 use borrow.Author.Needs.{needs}
 use Rattle.why_rows.proofs.put_totals.Statement.{statement}
 use Rattle.why_rows.proofs.put_totals.Tie as tie
-use Rattle.why_rows.proofs.put_totals.Reads as reads
-use Rattle.why_rows.proofs.put_totals.Lts as lts
-use Rattle.unanswered_rows.proofs.parts.put_number.Reads as put-number-reads
-use Rattle.why_rows.proofs.put_reasons.Reads as put-reasons-reads
 
 slice-aggregate-put-number : tie.Need-slice-aggregate-put-number
 slice-aggregate-put-number c = search needs

@@ -1,14 +1,9 @@
 -- `put_width` meets its contract: its parts one behind the other. Assumes nothing.
 use Rattle.unanswered_rows.proofs.Joining.{part-then}
 use Rattle.why_rows.specs.Rows.{widthText}
-use native.Mathlib.Omega.{arith}
 use borrow.Author.Needs.{needs}
 use Rattle.why_rows.proofs.put_width.Statement.{statement}
 use Rattle.why_rows.proofs.put_width.Tie as tie
-use Rattle.why_rows.proofs.put_width.Reads as reads
-use Rattle.why_rows.proofs.put_width.Lts as lts
-use Rattle.unanswered_rows.proofs.parts.put_number.Reads as put-number-reads
-use Rattle.unanswered_rows.proofs.parts.put_text.Reads as put-text-reads
 
 slice-aggregate-put-number : tie.Need-slice-aggregate-put-number
 slice-aggregate-put-number c = search needs

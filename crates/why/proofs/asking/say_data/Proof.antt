@@ -5,10 +5,6 @@ use native.Mathlib.Omega.{arith}
 use borrow.Author.Needs.{needs}
 use Rattle.why.proofs.asking.say_data.Statement.{statement}
 use Rattle.why.proofs.asking.say_data.Tie as tie
-use Rattle.why.proofs.asking.say_data.Reads as reads
-use Rattle.why.proofs.asking.say_data.Lts as lts
-use Rattle.reasons.proofs.payload.find_data.Reads as find-data-reads
-use Rattle.why.proofs.asking.say_pieces.Reads as say-pieces-reads
 
 find-data-requires : tie.Need-find-data-requires
 find-data-requires c κs = search needs

@@ -7,10 +7,6 @@ use native.Mathlib.Omega.{arith}
 use borrow.Author.Needs.{needs}
 use Rattle.why.proofs.asking.say_end.Statement.{statement}
 use Rattle.why.proofs.asking.say_end.Tie as tie
-use Rattle.why.proofs.asking.say_end.Reads as reads
-use Rattle.why.proofs.asking.say_end.Lts as lts
-use Rattle.channel.proofs.sink.say.Reads as say-reads
-use Rattle.why_rows.proofs.put_totals.Reads as put-totals-reads
 
 slice-aggregate-put-totals : tie.Need-slice-aggregate-put-totals
 slice-aggregate-put-totals c = search needs

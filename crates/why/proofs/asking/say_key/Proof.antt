@@ -5,10 +5,6 @@ use native.Mathlib.Omega.{arith}
 use borrow.Author.Needs.{needs}
 use Rattle.why.proofs.asking.say_key.Statement.{statement}
 use Rattle.why.proofs.asking.say_key.Tie as tie
-use Rattle.why.proofs.asking.say_key.Reads as reads
-use Rattle.why.proofs.asking.say_key.Lts as lts
-use Rattle.reasons.proofs.key_in.Reads as key-in-reads
-use Rattle.why.proofs.asking.say_text.Reads as say-text-reads
 
 key-in-requires : tie.Need-key-in-requires
 key-in-requires c κs = search needs

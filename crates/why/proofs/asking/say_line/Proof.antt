@@ -4,12 +4,6 @@ use native.Mathlib.Omega.{arith}
 use borrow.Author.Needs.{needs}
 use Rattle.why.proofs.asking.say_line.Statement.{statement}
 use Rattle.why.proofs.asking.say_line.Tie as tie
-use Rattle.why.proofs.asking.say_line.Reads as reads
-use Rattle.why.proofs.asking.say_line.Lts as lts
-use Rattle.reasons.proofs.payload.payload_of.Reads as payload-of-reads
-use Rattle.why.proofs.asking.say_payload.Reads as say-payload-reads
-use Rattle.why_rows.proofs.tally.count_line.Reads as count-line-reads
-use Rattle.why_rows.proofs.tally.count_payload.Reads as count-payload-reads
 
 count-line-requires : tie.Need-count-line-requires
 count-line-requires c κs = search needs

@@ -1,15 +1,9 @@
 -- `say_payload` meets its contract: the keys, then the pieces. Assumes nothing.
 use Rattle.why.proofs.Chains.{gone-then, gone-same}
 use Rattle.why.proofs.Walks.{found-grouped}
-use native.Mathlib.Omega.{arith}
 use borrow.Author.Needs.{needs}
 use Rattle.why.proofs.asking.say_payload.Statement.{statement}
 use Rattle.why.proofs.asking.say_payload.Tie as tie
-use Rattle.why.proofs.asking.say_payload.Reads as reads
-use Rattle.why.proofs.asking.say_payload.Lts as lts
-use Rattle.why.proofs.asking.say_address.Reads as say-address-reads
-use Rattle.why.proofs.asking.say_data.Reads as say-data-reads
-use Rattle.why.proofs.asking.say_small.Reads as say-small-reads
 
 say-address-requires : tie.Need-say-address-requires
 say-address-requires c κs = search needs

@@ -1,5 +1,5 @@
 -- `say_pieces` meets its contract: what was found so far with what the rest gives is all (`Walk`). Assumes nothing.
-use mathlib.Core.Path.{_≡_, refl, _∙_}
+use mathlib.Core.Path.{_≡_, refl}
 use Prim.Native.Nat.{_-_, _^_}
 use lib.ListN.{length}
 use Rattle.why.proofs.Walks.{room-part, bad-within, Walk, walk-starts, walk-ends, walk-steps}
@@ -7,11 +7,6 @@ use borrow.Author.Needs.{needs}
 use native.Mathlib.Omega.{arith}
 use Rattle.why.proofs.asking.say_pieces.Statement.{statement}
 use Rattle.why.proofs.asking.say_pieces.Tie as tie
-use Rattle.why.proofs.asking.say_pieces.Reads as reads
-use Rattle.why.proofs.asking.say_pieces.Lts as lts
-use Rattle.pairs.proofs.dwords.piece_end.Reads as piece-end-reads
-use Rattle.text.proofs.number.hex.Reads as hex-reads
-use Rattle.why.proofs.asking.say_text.Reads as say-text-reads
 
 abbrev Inv-loop : tie.InvT-loop
 Inv-loop inner n row₀ out₀ said₀ i₀ at₀ row out said i at = (length row ≡ length row₀) × (length out ≡ length out₀) × (Walk n inner said₀ out₀ out said i at)

@@ -7,11 +7,6 @@ use native.Mathlib.Omega.{arith}
 use borrow.Author.Needs.{needs}
 use Rattle.why.proofs.asking.say_row.Statement.{statement}
 use Rattle.why.proofs.asking.say_row.Tie as tie
-use Rattle.why.proofs.asking.say_row.Reads as reads
-use Rattle.why.proofs.asking.say_row.Lts as lts
-use Rattle.channel.proofs.sink.say.Reads as say-reads
-use Rattle.why_rows.proofs.put_row.Reads as put-row-reads
-use Rattle.why_rows.proofs.tally.count_reason.Reads as count-reason-reads
 
 put-row-requires : tie.Need-put-row-requires
 put-row-requires c κs = c .before .before .before .before .pre

@@ -1,12 +1,8 @@
 -- `say_small` meets its contract: its keys one behind the other. Assumes nothing.
 use Rattle.why.proofs.Chains.{gone-then}
-use native.Mathlib.Omega.{arith}
 use borrow.Author.Needs.{needs}
 use Rattle.why.proofs.asking.say_small.Statement.{statement}
 use Rattle.why.proofs.asking.say_small.Tie as tie
-use Rattle.why.proofs.asking.say_small.Reads as reads
-use Rattle.why.proofs.asking.say_small.Lts as lts
-use Rattle.why.proofs.asking.say_key.Reads as say-key-reads
 
 say-key-requires : tie.Need-say-key-requires
 say-key-requires c κs = search needs

@@ -1,13 +1,9 @@
 -- `say_text` meets its contract, by cases: a number has no row. Assumes nothing.
 use Rattle.why.proofs.Walks.{unread-value, unread-empty, unread-bad, unread-wide, empty-place, wide-place, bad-place}
 use Rattle.why.proofs.Chains.{gone-none, gone-same}
-use native.Mathlib.Omega.{arith}
 use borrow.Author.Needs.{needs}
 use Rattle.why.proofs.asking.say_text.Statement.{statement}
 use Rattle.why.proofs.asking.say_text.Tie as tie
-use Rattle.why.proofs.asking.say_text.Reads as reads
-use Rattle.why.proofs.asking.say_text.Lts as lts
-use Rattle.why.proofs.asking.say_row.Reads as say-row-reads
 
 enum-told : tie.Need-enum-told
 enum-told c = search needs

@@ -2,12 +2,8 @@
 use Prim.Native.Nat.{_-_}
 use Rattle.why_rows.proofs.Rowing.{Blanks, blanks-start, blanks-step, blanks-end}
 use borrow.Author.Needs.{needs}
-use native.Mathlib.Omega.{arith}
 use Rattle.why_rows.proofs.caret.put_blanks.Statement.{statement}
 use Rattle.why_rows.proofs.caret.put_blanks.Tie as tie
-use Rattle.why_rows.proofs.caret.put_blanks.Reads as reads
-use Rattle.why_rows.proofs.caret.put_blanks.Lts as lts
-use Rattle.print.proofs.put.put.Reads as put-reads
 
 abbrev Inv-loop : tie.InvT-loop
 Inv-loop out₀ at n i₀ behind₀ t6 out i behind = Blanks out₀ at n out i behind

@@ -2,13 +2,9 @@
 use mathlib.Core.Path.{refl}
 use Rattle.why_rows.specs.Rows.{caretText}
 use Rattle.why_rows.proofs.Rowing.{known-put, nothing-put}
-use native.Mathlib.Omega.{arith}
 use borrow.Author.Needs.{needs}
 use Rattle.why_rows.proofs.caret.put_caret.Statement.{statement}
 use Rattle.why_rows.proofs.caret.put_caret.Tie as tie
-use Rattle.why_rows.proofs.caret.put_caret.Reads as reads
-use Rattle.why_rows.proofs.caret.put_caret.Lts as lts
-use Rattle.why_rows.proofs.caret.put_mark.Reads as put-mark-reads
 
 enum-told : tie.Need-enum-told
 enum-told c = search needs

@@ -5,10 +5,6 @@ use native.Mathlib.Omega.{arith}
 use borrow.Author.Needs.{needs}
 use Rattle.why_rows.proofs.caret.put_mark.Statement.{statement}
 use Rattle.why_rows.proofs.caret.put_mark.Tie as tie
-use Rattle.why_rows.proofs.caret.put_mark.Reads as reads
-use Rattle.why_rows.proofs.caret.put_mark.Lts as lts
-use Rattle.unanswered_rows.proofs.parts.put_text.Reads as put-text-reads
-use Rattle.why_rows.proofs.caret.put_blanks.Reads as put-blanks-reads
 
 slice-aggregate-put-text : tie.Need-slice-aggregate-put-text
 slice-aggregate-put-text c = search needs

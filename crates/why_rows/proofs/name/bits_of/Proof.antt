@@ -1,12 +1,8 @@
 -- `bits_of` meets its contract, by cases. Assumes nothing.
 use Rattle.why_rows.specs.Names.{bitsOf}
-use native.Mathlib.Omega.{arith}
 use borrow.Author.Needs.{needs}
 use Rattle.why_rows.proofs.name.bits_of.Statement.{statement}
 use Rattle.why_rows.proofs.name.bits_of.Tie as tie
-use Rattle.why_rows.proofs.name.bits_of.Reads as reads
-use Rattle.why_rows.proofs.name.bits_of.Lts as lts
-use Rattle.why_rows.proofs.name.key_bits.Reads as key-bits-reads
 
 enum-known-what : tie.Need-enum-known-what
 enum-known-what c = search needs

@@ -1,11 +1,8 @@
 -- `key_bits` meets its contract, by cases. Assumes nothing.
 use Rattle.why_rows.specs.Names.{keyBits}
-use native.Mathlib.Omega.{arith}
 use borrow.Author.Needs.{needs}
 use Rattle.why_rows.proofs.name.key_bits.Statement.{statement}
 use Rattle.why_rows.proofs.name.key_bits.Tie as tie
-use Rattle.why_rows.proofs.name.key_bits.Reads as reads
-use Rattle.why_rows.proofs.name.key_bits.Lts as lts
 
 enum-told : tie.Need-enum-told
 enum-told c = search needs

@@ -7,9 +7,6 @@ use native.Mathlib.Omega.{arith}
 use borrow.Author.Needs.{needs}
 use Rattle.why_rows.proofs.name.put_key.Statement.{statement}
 use Rattle.why_rows.proofs.name.put_key.Tie as tie
-use Rattle.why_rows.proofs.name.put_key.Reads as reads
-use Rattle.why_rows.proofs.name.put_key.Lts as lts
-use Rattle.unanswered_rows.proofs.parts.put_text.Reads as put-text-reads
 
 enum-told : tie.Need-enum-told
 enum-told c = search needs

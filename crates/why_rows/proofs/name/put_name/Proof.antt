@@ -7,10 +7,6 @@ use native.Mathlib.Omega.{arith}
 use borrow.Author.Needs.{needs}
 use Rattle.why_rows.proofs.name.put_name.Statement.{statement}
 use Rattle.why_rows.proofs.name.put_name.Tie as tie
-use Rattle.why_rows.proofs.name.put_name.Reads as reads
-use Rattle.why_rows.proofs.name.put_name.Lts as lts
-use Rattle.why_rows.proofs.name.put_key.Reads as put-key-reads
-use Rattle.why_rows.proofs.name.put_piece.Reads as put-piece-reads
 
 enum-known-what : tie.Need-enum-known-what
 enum-known-what c = search needs

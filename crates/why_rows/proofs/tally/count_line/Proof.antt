@@ -1,12 +1,8 @@
 -- `count_line` meets its contract: one field goes up. Assumes nothing.
 use Rattle.why_rows.specs.Tally.{withLine}
-use native.Mathlib.Omega.{arith}
 use borrow.Author.Needs.{needs}
 use Rattle.why_rows.proofs.tally.count_line.Statement.{statement}
 use Rattle.why_rows.proofs.tally.count_line.Tie as tie
-use Rattle.why_rows.proofs.tally.count_line.Reads as reads
-use Rattle.why_rows.proofs.tally.count_line.Lts as lts
-use Rattle.why_rows.proofs.tally.raise.Reads as raise-reads
 
 raise-requires : tie.Need-raise-requires
 raise-requires c κs = search needs

@@ -1,12 +1,8 @@
 -- `count_payload` meets its contract: one field goes up. Assumes nothing.
 use Rattle.why_rows.specs.Tally.{withPayload}
-use native.Mathlib.Omega.{arith}
 use borrow.Author.Needs.{needs}
 use Rattle.why_rows.proofs.tally.count_payload.Statement.{statement}
 use Rattle.why_rows.proofs.tally.count_payload.Tie as tie
-use Rattle.why_rows.proofs.tally.count_payload.Reads as reads
-use Rattle.why_rows.proofs.tally.count_payload.Lts as lts
-use Rattle.why_rows.proofs.tally.raise.Reads as raise-reads
 
 raise-requires : tie.Need-raise-requires
 raise-requires c κs = search needs

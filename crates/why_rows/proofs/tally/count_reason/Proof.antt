@@ -1,12 +1,8 @@
 -- `count_reason` meets its contract, by cases. Assumes nothing.
 use Rattle.why_rows.specs.Tally.{tally}
-use native.Mathlib.Omega.{arith}
 use borrow.Author.Needs.{needs}
 use Rattle.why_rows.proofs.tally.count_reason.Statement.{statement}
 use Rattle.why_rows.proofs.tally.count_reason.Tie as tie
-use Rattle.why_rows.proofs.tally.count_reason.Reads as reads
-use Rattle.why_rows.proofs.tally.count_reason.Lts as lts
-use Rattle.why_rows.proofs.tally.raise.Reads as raise-reads
 
 raise-requires : tie.Need-raise-requires
 raise-requires c κs = search needs

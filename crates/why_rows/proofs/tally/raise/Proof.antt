@@ -4,8 +4,6 @@ use native.Mathlib.Omega.{arith}
 use borrow.Author.Needs.{needs}
 use Rattle.why_rows.proofs.tally.raise.Statement.{statement}
 use Rattle.why_rows.proofs.tally.raise.Tie as tie
-use Rattle.why_rows.proofs.tally.raise.Reads as reads
-use Rattle.why_rows.proofs.tally.raise.Lts as lts
 
 returns : tie.Need-returns
 unfolding up

@@ -8,7 +8,7 @@ ghost use Rattle.print.specs.Put.{Placed};
 ghost use Rattle.listing_rows.specs.Rows.{Put};
 ghost use Rattle.escape.specs.Escape.{isPlain, shownByte, escaped};
 
-// The escaped name at a place. Asked for: four bytes of room for each of its bytes, which the one caller, `say_name`, makes.
+// The escaped name at a place. Asked for: four bytes of room for each of its bytes, which its callers, `say_name` and `put_shown` of why_rows, make.
 pub fn put_escaped(out: &mut [u8], at: usize, s: &[u8]) -> usize
     requires { ⌜ at + 4 * length (now s) ≤ length (now out) ⌝ }
     ensures { λ r. ⌜ Put (now (out .entry)) at (escaped (now (s .entry))) (now (out .exit)) r ⌝ }

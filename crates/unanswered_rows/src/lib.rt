@@ -5,7 +5,7 @@
 //     put_totals   how many of each there were
 pub mod gap;
 mod hex;
-mod parts;
+pub mod parts;
 
 use crate::hex::put_route;
 use crate::parts::put_number;

@@ -1,0 +1,3 @@
+-- The laws of the rows.
+pub mod Rowing
+pub mod Columns

@@ -1,0 +1,52 @@
+-- `put_reasons` meets its contract: its parts one behind the other. Assumes nothing.
+use Rattle.unanswered_rows.proofs.Joining.{part-then}
+use Rattle.why_rows.specs.Rows.{reasonsText}
+use borrow.Author.Needs.{needs}
+use Rattle.why_rows.proofs.put_reasons.Statement.{statement}
+use Rattle.why_rows.proofs.put_reasons.Tie as tie
+
+slice-aggregate-put-number : tie.Need-slice-aggregate-put-number
+slice-aggregate-put-number c = search needs
+
+put-number-requires : tie.Need-put-number-requires
+put-number-requires c κs = search needs
+
+slice-aggregate-put-number-2 : tie.Need-slice-aggregate-put-number-2
+slice-aggregate-put-number-2 c = search needs
+
+put-number-requires-2 : tie.Need-put-number-requires-2
+put-number-requires-2 c κs = search needs
+
+slice-aggregate-put-number-3 : tie.Need-slice-aggregate-put-number-3
+slice-aggregate-put-number-3 c = search needs
+
+put-number-requires-3 : tie.Need-put-number-requires-3
+put-number-requires-3 c κs = search needs
+
+slice-aggregate-put-text : tie.Need-slice-aggregate-put-text
+slice-aggregate-put-text c = search needs
+
+put-text-requires : tie.Need-put-text-requires
+put-text-requires c κs = search needs
+
+same-length : tie.Need-same-length
+same-length c = search needs
+
+returns : tie.Need-returns
+unfolding reasonsText
+returns c = part-then (c .before .before .before .before .before .before .before .before .before .before .before .before .before .before .before .before .before .put-number .ensures) (part-then (c .before .before .before .before .before .before .before .before .before .before .before .before .put-number2 .ensures) (part-then (c .before .before .before .before .before .before .before .put-number3 .ensures) (c .before .before .put-text .ensures)))
+
+pub put-reasons-spec : {M : Type 1} → statement M
+put-reasons-spec =
+    tie.close
+    (tie.spec
+    slice-aggregate-put-number
+    put-number-requires
+    slice-aggregate-put-number-2
+    put-number-requires-2
+    slice-aggregate-put-number-3
+    put-number-requires-3
+    slice-aggregate-put-text
+    put-text-requires
+    same-length
+    returns)

@@ -133,8 +133,8 @@ impl fmt::Display for HexText<'_> {
 
 /// What the last pair of a key says in a line, `None` if there is none.
 ///
-/// It answers on every line that has a payload, also on one that [`Entry::parse`](crate::Entry::parse) refuses for its route or for what stands in
-/// front of it. A line without a payload is refused: [`Refusal::Idle`], [`Refusal::LongLine`], [`Refusal::NotAscii`], [`Refusal::NoColon`].
+/// It answers on every line that has a payload, also on one that [`Entry::parse`](crate::Entry::parse) refuses with 5 or more. A line without a
+/// payload is refused: [`Refusal::Idle`], [`Refusal::LongLine`], [`Refusal::NotAscii`], [`Refusal::NoColon`].
 ///
 /// ```
 /// use chomkadieu::{Hex, HexKey, hex_key};
@@ -157,6 +157,8 @@ pub fn hex_piece(line: &[u8], piece: usize) -> Result<Option<HexText<'_>>, Refus
 }
 
 /// All pieces of a line's `data` in their order, none if it is missing or not in brackets.
+///
+/// Each step reads the line anew, so that all of them take the time of as many readings as there are pieces.
 ///
 /// ```
 /// use chomkadieu::{Hex, hex_pieces};

@@ -5,5 +5,6 @@ pub mod PairLists
 pub mod LastPairs
 pub mod Cuts
 pub mod Slots
+pub mod BadPieces
 pub mod Pieces
 pub mod Cases

@@ -10,7 +10,7 @@ use native.Mathlib.Omega.{arith}
 use lib.Dec.{ltb, eqb}
 use lib.ListN.{length, getD, take, drop, set, length-append, length-drop, drop-of-length-le, List·getD-append}
 use lib.Seq.{drop-cons, drop-drop, set-at, take-at, take-suc, take-length, split-at, getD-append-add, getD-take, getD-drop, length-take-le}
-use borrow.Author.Tests.{lt-ltb, le-ltb, le-leb, lt-leb, eq-eqb, ne-eqb, ltb-true, eqb-true}
+use borrow.Author.Tests.{lt-ltb, le-ltb, eq-eqb, ne-eqb, ltb-true, eqb-true}
 use Rattle.text.specs.declared.class.Class.the-variants.{NotClose}
 use Rattle.text.specs.declared.number.Number.{Number}
 use Rattle.text.specs.declared.number.Number.the-variants as N
@@ -24,9 +24,9 @@ use Rattle.text.proofs.Hexes.{hex-is, hex-all}
 use Rattle.pairs.specs.declared.pair.Span.{Span}
 use Rattle.pairs.specs.declared.pair.Span.the-variants.{At, Nothing}
 use Rattle.pairs.specs.declared.dwords.Piece.{Piece}
-use Rattle.pairs.specs.declared.dwords.Piece.the-variants.{Dword, LeftOut}
+use Rattle.pairs.specs.declared.dwords.Piece.the-variants.{Dword, Bad}
 use Rattle.pairs.specs.Pair.{part}
-use Rattle.pairs.specs.Data.{Dwords, Data, cut, pieceBy, pieceOf, taken, dwordsIn, dwordsOf, pieceEnd, insideOf, dataIn, dataOf, filled, Bracketed, slotsAfter}
+use Rattle.pairs.specs.Data.{Dwords, Data, cut, pieceBy, pieceOf, taken, dwordsIn, dwordsOf, pieceEnd, insideOf, dataIn, dataOf, filled, Bracketed}
 use Rattle.pairs.proofs.Tries.{ends-close}
 use Rattle.pairs.proofs.Cuts.{cut-all, cut-is, cut-last, cut-next}
 
@@ -38,15 +38,15 @@ hex-fits limit s {v} e = go (hex-is limit e)
     go (HexNumber.plain r) = r .within
     go (HexNumber.prefixed t q r) = r .within
 
--- what becomes of a piece, as its number is read
+-- what a piece is, as its number is read
 module _ (p : List ℕ) where
   pub piece-dword : {v : ℕ} → hexNumberOf (2 ^ 32 - 1) p ≡ N.Value v → Dword v ≡ pieceOf p
   unfolding pieceOf pieceBy
   piece-dword e = rw e
 
-  pub piece-left-out : hexNumberOf (2 ^ 32 - 1) p ≡ N.Unreadable → LeftOut ≡ pieceOf p
+  pub piece-bad : hexNumberOf (2 ^ 32 - 1) p ≡ N.Unreadable → Bad ≡ pieceOf p
   unfolding pieceOf pieceBy
-  piece-left-out e = rw e
+  piece-bad e = rw e
 
 module _ (l : List ℕ) where
   module _ {from e : ℕ} (low : from ≤ length l) (e-is : e ≡ pieceEnd l from) where
@@ -84,10 +84,10 @@ module _ (l : List ℕ) where
   all-dropped n ds h e = omega (arith, ap length e, length-drop n ds)
 
   module _ {n at e : ℕ} (r : Before n at) (e-is : e ≡ pieceEnd l at) (up : at ≤ e) (in-text : e ≤ length l) where
-    -- a piece that is left out
-    pub up-to-left-out : LeftOut ≡ pieceOf (part l at e) → UpTo n e
+    -- a bad piece adds none
+    pub up-to-bad : Bad ≡ pieceOf (part l at e) → UpTo n e
     unfolding taken
-    up-to-left-out q =
+    up-to-bad q =
         record {
           few = omega (arith, r .few);
           some = r .some;
@@ -163,15 +163,6 @@ filled-length ds out n h fits =
 pub filled-all : (ds out : List ℕ) (n : ℕ) → n ≡ length ds → filled (take n ds) out ≡ filled ds out
 filled-all ds out n e = rw (e, take-length ds)
 
--- what a call leaves in the slots
-pub slots-fit : (ds out : List ℕ) → length ds ≤ length out → filled ds out ≡ slotsAfter ds out
-unfolding slotsAfter
-slots-fit ds out h = rw (le-leb _ _ h)
-
-pub slots-short : (ds out : List ℕ) → length out < length ds → out ≡ slotsAfter ds out
-unfolding slotsAfter
-slots-short ds out h = rw (lt-leb _ _ h)
-
 -- the dwords of the pieces are the sentence's
 pub dwords-in-is : (ps : List (List ℕ)) → Dwords ps (dwordsIn ps)
 unfolding dwordsIn taken
@@ -182,7 +173,7 @@ dwords-in-is (p ∷ ps) = go (hexNumberOf (2 ^ 32 - 1) p) refl (dwords-in-is ps)
         Dwords (p ∷ ps) (taken (pieceOf p) (dwordsIn ps))
     go (N.Value v) e r = rw (← piece-dword p e) (Dwords.dword (hex-is (2 ^ 32 - 1) e) r)
     go N.Unreadable e r =
-        rw (← piece-left-out p e)
+        rw (← piece-bad p e)
         (Dwords.left-out (λ v n. let q : hexNumberOf (2 ^ 32 - 1) p ≡ N.Value v = hex-all
         (2 ^ 32 - 1) n in let z : _≡_ {A = ℕ} 0 1 = cc in omega arith) r)
 
@@ -193,7 +184,7 @@ dwords-in-all (Dwords.dword {p = p} {v = v} {ps = ps} n r) =
     ap (λ (x : Piece). taken x (dwordsIn ps)) (sym (piece-dword p (hex-all (2 ^ 32 - 1) n))) ∙ ap
     (λ (x : List ℕ). v ∷ x) (dwords-in-all r)
 dwords-in-all (Dwords.left-out {p = p} {ps = ps} n r) =
-    ap (λ (x : Piece). taken x (dwordsIn ps)) (sym (piece-left-out p unreadable)) ∙ dwords-in-all r
+    ap (λ (x : Piece). taken x (dwordsIn ps)) (sym (piece-bad p unreadable)) ∙ dwords-in-all r
   where
     go : (h : Number) → hexNumberOf (2 ^ 32 - 1) p ≡ h → h ≡ N.Unreadable
     go (N.Value v) e = absurd (n v (hex-is (2 ^ 32 - 1) e))

@@ -1,10 +1,10 @@
 -- The dwords of a bracketed value.
 use Prim.Native.Nat.{ℕ, zero, suc, _+_, _-_, _≤_, _<_, _^_}
 use mathlib.Core.Path.{_≡_}
-use mathlib.Core.Bool.{Bool, cond, _&&_}
+use mathlib.Core.Bool.{Bool, true, false, cond, _&&_, _||_}
 use mathlib.Core.List.{List, [], _∷_, _++_}
 use mathlib.Core.Option.{Option, some, none}
-use lib.Dec.{ltb, leb, eqb}
+use lib.Dec.{ltb, eqb}
 use lib.ListN.{length, getD, drop}
 use Rattle.text.specs.declared.class.Class.the-variants.{NotClose}
 use Rattle.text.specs.declared.number.Number.{Number}
@@ -16,7 +16,8 @@ use Rattle.text.specs.Run.{Inside, runEnd}
 use Rattle.pairs.specs.declared.pair.Span.{Span}
 use Rattle.pairs.specs.declared.pair.Span.the-variants.{At, Nothing}
 use Rattle.pairs.specs.declared.dwords.Piece.{Piece}
-use Rattle.pairs.specs.declared.dwords.Piece.the-variants.{Dword, LeftOut}
+use Rattle.pairs.specs.declared.dwords.Piece.the-variants.{Dword, Bad}
+use Rattle.pairs.specs.declared.dwords.Tally.{Tally}
 use Rattle.pairs.specs.Pair.{part}
 
 -- no comma-space stands in the piece
@@ -42,13 +43,24 @@ pub record PieceIn (pieces : List (List ℕ)) (i : ℕ) (piece : List ℕ) (a b 
   pub starts : a ≡ length (joined before)
   pub ends : b ≡ a + length piece
 
+-- a piece that is not 32-bit hex
+abbrev pub NoDword : List ℕ → Type 0
+NoDword p = (v : ℕ) → HexNumber (2 ^ 32 - 1) p v → ⊥
+
 -- the dwords of the pieces, in order: those that are not 32-bit hex are left out
 pub data Dwords : List (List ℕ) → List ℕ → Type 0 where
   empty : Dwords [] []
   dword : {p : List ℕ} {v : ℕ} {ps : List (List ℕ)} {ds : List ℕ} → HexNumber (2 ^ 32 - 1) p v → Dwords ps ds →
       Dwords (p ∷ ps) (v ∷ ds)
-  left-out : {p : List ℕ} {ps : List (List ℕ)} {ds : List ℕ} → ((v : ℕ) → HexNumber (2 ^ 32 - 1) p v → ⊥) →
-      Dwords ps ds → Dwords (p ∷ ps) ds
+  left-out : {p : List ℕ} {ps : List (List ℕ)} {ds : List ℕ} → NoDword p → Dwords ps ds → Dwords (p ∷ ps) ds
+
+-- one of the pieces is not 32-bit hex
+pub record BadAmong (pieces : List (List ℕ)) : Type 0 where
+  pub before : List (List ℕ)
+  pub piece : List ℕ
+  pub after : List (List ℕ)
+  pub are : pieces ≡ before ++ (piece ∷ after)
+  pub bad : NoDword piece
 
 -- a value in brackets, with the dwords of what stands in them
 pub record Data (value ds : List ℕ) : Type 0 where
@@ -71,19 +83,19 @@ cut [] = [] ∷ []
 cut (a ∷ []) = (a ∷ []) ∷ []
 cut (a ∷ b ∷ l) = cond (eqb a 44 && eqb b 32) ([] ∷ cut l) (ahead a (cut (b ∷ l)))
 
--- what becomes of a number's reading: a value is a dword, and what is not 32-bit hex is left out
+-- what a piece is by its number's reading: a value is a dword, and what is not 32-bit hex is bad
 unfoldable pub pieceBy : Number → Piece
 pieceBy (N.Value v) = Dword v
-pieceBy N.Unreadable = LeftOut
+pieceBy N.Unreadable = Bad
 
--- what becomes of a piece
+-- what a piece is
 unfoldable pub pieceOf : List ℕ → Piece
 pieceOf p = pieceBy (hexNumberOf (2 ^ 32 - 1) p)
 
 -- what a piece adds to the dwords of those behind it
 unfoldable pub taken : Piece → List ℕ → List ℕ
 taken (Dword v) ds = v ∷ ds
-taken LeftOut ds = ds
+taken Bad ds = ds
 
 -- the dwords of the pieces
 unfoldable pub dwordsIn : List (List ℕ) → List ℕ
@@ -93,6 +105,20 @@ dwordsIn (p ∷ ps) = taken (pieceOf p) (dwordsIn ps)
 -- the dwords of a text between brackets
 unfoldable pub dwordsOf : List ℕ → List ℕ
 dwordsOf l = dwordsIn (cut l)
+
+-- is a piece bad?
+unfoldable pub isBad : Piece → Bool
+isBad (Dword v) = false
+isBad Bad = true
+
+-- is one of the pieces bad?
+unfoldable pub anyBad : List (List ℕ) → Bool
+anyBad [] = false
+anyBad (p ∷ ps) = isBad (pieceOf p) || anyBad ps
+
+-- is a piece of a text between brackets bad?
+unfoldable pub badOf : List ℕ → Bool
+badOf l = anyBad (cut l)
 
 -- a comma-space stands at place k
 unfoldable pub commaSpace : List ℕ → ℕ → Bool
@@ -122,6 +148,15 @@ dataIn value Nothing = none
 unfoldable pub dataOf : List ℕ → Option (List ℕ)
 dataOf value = dataIn value (insideOf value)
 
+-- is a piece of a part bad?
+unfoldable pub badIn : List ℕ → Span → Bool
+badIn value (At a b) = badOf (part value a b)
+badIn value Nothing = false
+
+-- is a piece of a value in brackets bad?
+unfoldable pub badData : List ℕ → Bool
+badData value = badIn value (insideOf value)
+
 -- the dwords in the first slots, and the rest as found
 abbrev pub filled : List ℕ → List ℕ → List ℕ
 filled ds out = ds ++ drop (length ds) out
@@ -143,11 +178,7 @@ pub record NthPiece (l : List ℕ) (i : ℕ) (r : Span) : Type 0 where
   pub is : r ≡ nthPiece i l 0
   pub within : (a b : ℕ) → r ≡ At a b → (a ≤ b) × (b ≤ length l)
 
--- the slots after a call: filled where the dwords fit, else as found
-unfoldable pub slotsAfter : List ℕ → List ℕ → List ℕ
-slotsAfter ds out = cond (leb (length ds) (length out)) (filled ds out) out
-
--- an answer is the number of dwords, and the slots hold them where they fit
-pub record Filled (inner out exit : List ℕ) (r : ℕ) : Type 0 where
-  pub count : r ≡ length (dwordsOf inner)
-  pub slots : exit ≡ slotsAfter (dwordsOf inner) out
+-- an answer is the number of dwords, and whether a piece is bad
+pub record Tallied (inner : List ℕ) (r : Tally) : Type 0 where
+  pub dwords-are : r .dwords ≡ length (dwordsOf inner)
+  pub bad-is : r .bad ≡ badOf inner

@@ -10,12 +10,18 @@ use text::run::run_end;
 ghost use mathlib.Core.Path.{_≡_};
 ghost use Prim.Native.Nat.{_≤_};
 ghost use lib.ListN.{length};
-ghost use Rattle.pairs.specs.Data.{Bracketed, commaSpace, EndsPiece, dwordsOf, pieceOf, filled, Filled, NthPiece};
+ghost use Rattle.pairs.specs.Data.{Bracketed, commaSpace, EndsPiece, dwordsOf, pieceOf, filled, Tallied, NthPiece};
 
-// What becomes of a piece.
+// What a piece is: a dword, or bad, that is not 32-bit hex.
 pub enum Piece {
     Dword(u32),
-    LeftOut,
+    Bad,
+}
+
+// How many dwords the pieces are, and whether one of the pieces is bad.
+pub struct Tally {
+    pub dwords: usize,
+    pub bad: bool,
 }
 
 // What stands between the brackets of a value that is `[`, one or more bytes other than `]`, `]`.
@@ -38,33 +44,47 @@ pub fn inside(value: &[u8]) -> Span
     Span::At { from: 1, to: c }
 }
 
-// How many dwords stand between the brackets.
-pub fn count_dwords(inner: &[u8]) -> usize
-    ensures { λ r. ⌜ r ≡ length (dwordsOf (now (inner .entry))) ⌝ }
+// What the pieces between the brackets are, counted in one walk.
+pub fn count_pieces(inner: &[u8]) -> Tally
+    ensures { λ r. ⌜ Tallied (now (inner .entry)) r ⌝ }
 {
     let mut n = 0;
+    let mut bad = false;
     let mut at = 0;
     loop {
         let to = piece_end(inner, at);
-        if let Piece::Dword(_) = read_piece(&inner[at..to]) {
-            n += 1;
+        match read_piece(&inner[at..to]) {
+            Piece::Dword(_) => n += 1,
+            Piece::Bad => bad = true,
         }
         if to == inner.len() {
-            return n;
+            return Tally {
+                dwords: n,
+                bad: bad,
+            };
         }
         at = to + 2;
     }
 }
 
-// Writes the dwords from the first slot on where they fit, else nothing; answers how many there are.
-pub fn fill_dwords(inner: &[u8], out: &mut [u32]) -> usize
-    ensures { λ r. ⌜ Filled (now (inner .entry)) (now (out .entry)) (now (out .exit)) r ⌝ }
+// Writes the dwords from the first slot on; a bad piece adds none. Asked for: a slot for each, which the one caller counted (17).
+pub fn write_dwords(inner: &[u8], out: &mut [u32])
+    requires { ⌜ length (dwordsOf (now inner)) ≤ length (now out) ⌝ }
+    ensures { λ r. ⌜ now (out .exit) ≡ filled (dwordsOf (now (inner .entry))) (now (out .entry)) ⌝ }
 {
-    let n = count_dwords(inner);
-    if n <= out.len() {
-        write_dwords(inner, out);
+    let mut n = 0;
+    let mut at = 0;
+    loop {
+        let to = piece_end(inner, at);
+        if let Piece::Dword(v) = read_piece(&inner[at..to]) {
+            out[n] = v;
+            n += 1;
+        }
+        if to == inner.len() {
+            return;
+        }
+        at = to + 2;
     }
-    n
 }
 
 // The piece of that number, from 0.
@@ -86,32 +106,12 @@ pub fn nth_piece(inner: &[u8], i: usize) -> Span
     }
 }
 
-fn write_dwords(inner: &[u8], out: &mut [u32])
-    requires { ⌜ length (dwordsOf (now inner)) ≤ length (now out) ⌝ }
-    ensures { λ r. ⌜ now (out .exit) ≡ filled (dwordsOf (now (inner .entry))) (now (out .entry)) ⌝ }
-{
-    let mut n = 0;
-    let mut at = 0;
-    loop {
-        let to = piece_end(inner, at);
-        if let Piece::Dword(v) = read_piece(&inner[at..to]) {
-            out[n] = v;
-            n += 1;
-        }
-        if to == inner.len() {
-            return;
-        }
-        at = to + 2;
-    }
-}
-
-// A piece that is not 32-bit hex is left out.
 fn read_piece(piece: &[u8]) -> Piece
     ensures { λ r. ⌜ r ≡ pieceOf (now (piece .entry)) ⌝ }
 {
     match value_of(hex(piece, MAX_32)) {
         Number::Value(v) => Piece::Dword(v as u32),
-        Number::Unreadable => Piece::LeftOut,
+        Number::Unreadable => Piece::Bad,
     }
 }
 

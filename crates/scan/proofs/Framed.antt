@@ -11,8 +11,9 @@ use Rattle.text.specs.declared.place.Found.{Found}
 use Rattle.text.specs.declared.place.Found.the-variants as P
 use Rattle.text.specs.Place.{lastByte}
 use Rattle.text.proofs.Places.{clash}
+use Rattle.scan.specs.declared.Pieces.{Pieces}
 use Rattle.scan.specs.Frame.{idle, firstHigh, frameColon, frameAscii, frameOf}
-use Rattle.scan.specs.Line.{Condition, Applies}
+use Rattle.scan.specs.Line.{Condition, orderOf, Applies}
 use Rattle.scan.specs.Parse.{withFrame, parseOf}
 use Rattle.scan.proofs.Frames.{frame-passed}
 use Rattle.scan.proofs.Splits.{split-is}
@@ -20,21 +21,21 @@ use Rattle.scan.proofs.Chain.{Clear, clear-starts, clear-next}
 use Rattle.scan.proofs.Judged.{idle-all, high-none}
 use Rattle.scan.proofs.Theorems.{line-number-exactly}
 
-module _ (t : List ℕ) (room : ℕ) where
+module _ (pieces : Pieces) (t : List ℕ) (room : ℕ) where
   -- a line that passes its frame
-  pub frame-clear : {k : ℕ} → frameOf t ≡ T.is k → Clear t room 5
-  unfolding Condition
+  pub frame-clear : {k : ℕ} → frameOf t ≡ T.is k → Clear pieces t room 5
+  unfolding Condition orderOf
   frame-clear f =
       let w = frame-passed t f in
-      let busy = clear-next t room 1 (clear-starts t room) (λ i. clash (idle-all t i) (w .0)) in
-      let short = clear-next t room 2 busy (λ l. omega (arith, l, w .1)) in
-      let ascii = clear-next t room 3 short (high-none t (w .2)) in
-      clear-next t room 4 ascii (λ none. none _ _ (split-is t (w .3)))
+      let busy = clear-next pieces t room 1 (clear-starts pieces t room) (λ i. clash (idle-all t i) (w .0)) in
+      let short = clear-next pieces t room 2 busy (λ l. omega (arith, l, w .1)) in
+      let ascii = clear-next pieces t room 3 short (high-none t (w .2)) in
+      clear-next pieces t room 4 ascii (λ none. none _ _ (split-is t (w .3)))
 
   -- a line that its frame refuses
-  pub frame-applies : {k : ℕ} → frameOf t ≡ T.refused k → Applies t room k
+  pub frame-applies : {k : ℕ} → frameOf t ≡ T.refused k → Applies pieces t room k
   unfolding parseOf withFrame
-  frame-applies {k} f = line-number-exactly t room k .0 (rw f)
+  frame-applies {k} f = line-number-exactly pieces t room k .0 (rw f)
 
 -- the frame tells nothing else
 pub data Framed : T.Told ℕ → Type 0 where

@@ -33,18 +33,21 @@ use Rattle.header.proofs.Cpus.{cpu-is, cpu-all}
 use Rattle.header.proofs.Stamps.{timestamp-is, timestamp-all}
 use Rattle.header.proofs.Functions.{function-is, function-all, function-within}
 use Rattle.pairs.specs.Pair.{lastPair, decimalOf, hexAt, pairWithoutEquals, WithoutEquals}
-use Rattle.pairs.specs.Data.{dataOf}
+use Rattle.pairs.specs.Data.{anyBad, dataOf}
 use Rattle.pairs.proofs.PairLists.{no-pair-without-equals, never-without-equals}
 use Rattle.pairs.proofs.Slots.{data-is, data-all}
+use Rattle.pairs.proofs.BadPieces.{any-bad-is, any-bad-all, bad-data-is}
+use Rattle.scan.specs.declared.Pieces.{Pieces}
+use Rattle.scan.specs.declared.Pieces.the-variants.{Strict, Lenient}
 use Rattle.scan.specs.declared.head.Head.{Head}
 use Rattle.scan.specs.declared.body.Body.{Body}
 use Rattle.scan.specs.Need.{placeValue, Moment, stampValue}
 use Rattle.scan.specs.Frame.{Idle, High, Split, idle, firstHigh, frameColon, frameAscii, frameOf}
 use Rattle.scan.specs.Head.{headOf, head6, head7, head8, head9, headGot}
 use Rattle.scan.specs.Body.{textAt, hexByte, hexWord, decimalByte, decimalWord, droppedOf, optionalsOf, body11, body12, body13, body14, bodyOf}
-use Rattle.scan.specs.Dwords.{payloadData, data16, dataAnswer}
+use Rattle.scan.specs.Dwords.{payloadData, payloadBad, refuses, data16, data18, dataAnswer}
 use Rattle.scan.specs.Parse.{headerOf, payloadOf, startOf, entryOf, withData, withBody, payloadAnswer, withHead, partedAnswer, withFrame, parseOf, dwordsBy, lineDwords}
-use Rattle.scan.specs.Line.{KeyText, KeyDecimal, KeyHex, Dwords, Line, Missing, Has, MoreThan, Stamped, Condition}
+use Rattle.scan.specs.Line.{KeyText, KeyDecimal, KeyHex, Dwords, BadPiece, BadFor, Line, Missing, Has, MoreThan, Stamped, Condition, orderOf}
 use Rattle.scan.proofs.Frames.{idle-empty, idle-comment, idle-one, idle-not, frame-passed, frame-colon}
 use Rattle.scan.proofs.Splits.{split-is, split-colon, one-header, one-payload}
 use Rattle.scan.proofs.Keys.{key-text-is, key-text-all, key-decimal-is, key-decimal-all, key-hex-is, key-hex-all}
@@ -95,6 +98,22 @@ dwords-are p {ds} e =
 dwords-all : (p : List ℕ) {ds : List ℕ} → Dwords p ds → payloadData p ≡ some ds
 unfolding payloadData
 dwords-all p r = rw (key-text-all p (bytes "data") (r .found)) (data-all (r .brackets))
+
+-- whether a piece is bad is asked of the pieces
+payload-bad-is : (p : List ℕ) {ds : List ℕ} (r : Dwords p ds) → payloadBad p ≡ anyBad (r .brackets .pieces)
+unfolding payloadBad
+payload-bad-is p r = rw (key-text-all p (bytes "data") (r .found)) (bad-data-is (r .brackets))
+
+-- what the choice refuses, as a test and as a sentence
+pub bad-for-is : (pieces : Pieces) (p : List ℕ) {ds : List ℕ} → Dwords p ds → refuses pieces (payloadBad p) ≡ true → BadFor pieces p
+unfolding refuses
+bad-for-is Strict p {ds} r b = record { dwords = ds; are = r; piece = any-bad-is (r .brackets .pieces) (sym (payload-bad-is p r) ∙ b) }
+bad-for-is Lenient p r b = clash b refl
+
+pub bad-for-all : (pieces : Pieces) (p : List ℕ) → BadFor pieces p → refuses pieces (payloadBad p) ≡ true
+unfolding refuses
+bad-for-all Strict p r = payload-bad-is p (r .are) ∙ any-bad-all (r .piece)
+bad-for-all Lenient p r = absurd r
 
 -- a line parted at its last colon
 module _ (t : List ℕ) (room : ℕ) {k : ℕ} (colon : lastByte 58 t ≡ P.At k) where
@@ -155,11 +174,11 @@ high-some t {k} e =
     record { place = k; within = r .within; high = leb-true 128 (getD t k 0) (r .here) }
 
 -- an entry that says what the line says
-pub record Says (t : List ℕ) (e : Entry) : Type 0 where
+pub record Says (pieces : Pieces) (t : List ℕ) (e : Entry) : Type 0 where
   pub count : e .dwords ≡ length (lineDwords t)
-  pub line : Line t (valueOf e t (lineDwords t))
+  pub line : Line pieces t (valueOf e t (lineDwords t))
 
-module _ (t : List ℕ) {k : ℕ} (framed : frameOf t ≡ T.is k) where
+module _ (pieces : Pieces) (t : List ℕ) {k : ℕ} (framed : frameOf t ≡ T.is k) where
   line-dwords : {ds : List ℕ} → payloadData (payloadOf t k) ≡ some ds → lineDwords t ≡ ds
   unfolding lineDwords dwordsBy
   line-dwords e = rw (framed, e)
@@ -176,14 +195,15 @@ module _ (t : List ℕ) {k : ℕ} (framed : frameOf t ≡ T.is k) where
       → decimalOf (payloadOf t k) (bytes "domain") (2 ^ 32 - 1) ≡ N.Value domain
       → hexAt (payloadOf t k) (bytes "route") (2 ^ 64 - 1) ≡ N.Value route
       → payloadData (payloadOf t k) ≡ some ds
+      → refuses pieces (payloadBad (payloadOf t k)) ≡ false
       → length ds ≤ 256
-      → Says t
+      → Says pieces t
       (entryOf (startOf t k) (length (headerOf t k))
       (record { task = task; pid = pid; cpu = cpu; seconds = moment .seconds; microseconds = moment .microseconds; function = function })
       (record { kind = kindOf name (drop function (headerOf t k)); size = size; dropped = droppedOf (payloadOf t k); domain = domain; route = route; optionals = optionalsOf (payloadOf t k) })
       (length ds))
   unfolding valueOf entryOf optionalsOf hexWord hexByte decimalByte decimalWord droppedOf
-  says task pid cpu moment function name size domain route ds a b c d f n s o r e few =
+  says task pid cpu moment function name size domain route ds a b c d f n s o r e good few =
       let passed = frame-passed t framed in
       let are : lineDwords t ≡ ds = line-dwords e in
       let task-in : task < length (headerOf t k) = task-within (headerOf t k) a in
@@ -217,39 +237,46 @@ module _ (t : List ℕ) {k : ℕ} (framed : frameOf t ≡ T.is k) where
               seq = rw (byte-read _) (optional-decimal (payloadOf t k) (bytes "seq") (2 ^ 8 - 1));
               unplug = rw (byte-read _) (optional-hex (payloadOf t k) (bytes "unplug") (2 ^ 8 - 1));
               dwords = rw (are, dwords-whole ds) (dwords-are (payloadOf t k) e);
+              good = λ x. clash (bad-for-all pieces (payloadOf t k) x) good;
               few = rw (are, dwords-whole ds) few;
             };
       }
 
 -- the chain, from the last numbers to the first
-module _ (t : List ℕ) (room : ℕ) where
+module _ (pieces : Pieces) (t : List ℕ) (room : ℕ) where
   abbrev Ok : T.Told Entry → Type 0
-  Ok = Answered t room (Says t)
+  Ok = Answered pieces t room (Says pieces t)
 
   module _ {k : ℕ} (framed : frameOf t ≡ T.is k) where
     colon : lastByte 58 t ≡ P.At k
     colon = frame-passed t framed .3
 
-    -- 15 to 17
-    judge-data : (head : Head) (body : Body) → Clear t room 15 → ((ds : List ℕ) → payloadData (payloadOf t k) ≡ some ds → length ds ≤ 256 → Says t (entryOf (startOf t k) (length (headerOf t k)) head body (length ds))) → Ok (withData (headerOf t k) (startOf t k) head body (dataAnswer (payloadOf t k) room))
-    unfolding Condition dataAnswer withData
+    -- 15, 18, 16 and 17
+    judge-data : (head : Head) (body : Body) → Clear pieces t room 15 → ((ds : List ℕ) → payloadData (payloadOf t k) ≡ some ds → refuses pieces (payloadBad (payloadOf t k)) ≡ false → length ds ≤ 256 → Says pieces t (entryOf (startOf t k) (length (headerOf t k)) head body (length ds))) → Ok (withData (headerOf t k) (startOf t k) head body (dataAnswer pieces (payloadOf t k) room))
+    unfolding Condition orderOf dataAnswer withData
     judge-data head body clear done =
-        check t room (Says t) (withData (headerOf t k) (startOf t k) head body) 15 (payloadData (payloadOf t k)) (T.refused 15) (data16 room) refl clear
+        check pieces t room (Says pieces t) (withData (headerOf t k) (startOf t k) head body) 15 (payloadData (payloadOf t k)) (T.refused 15) (data18 (refuses pieces (payloadBad (payloadOf t k))) room) refl clear
         (λ e. lacking t room colon (λ (x y ds : List ℕ). Dwords y ds) (λ ds r. nothing e (dwords-all (payloadOf t k) r)))
         (λ ds e. (
           having t room colon (λ (x y ds : List ℕ). Dwords y ds) ds (dwords-are (payloadOf t k) e),
-          λ c16.
-              refuse t room (Says t) (withData (headerOf t k) (startOf t k) head body) 16 (ltb 256 (length ds)) (T.refused 16)
-              (cond (ltb room (length ds)) (T.refused 17) (T.is (length ds))) refl c16
-              (λ m. payload-has t room colon (MoreThan 256) (record { dwords = ds; are = dwords-are (payloadOf t k) e; more = ltb-true 256 (length ds) m }))
-              (λ m. (
-                payload-not t room colon (MoreThan 256) (λ r. more-than e (ltb-false 256 (length ds) m) r),
-                λ c17.
-                    refuse t room (Says t) (withData (headerOf t k) (startOf t k) head body) 17 (ltb room (length ds)) (T.refused 17) (T.is (length ds)) refl c17
-                    (λ q. payload-has t room colon (MoreThan room) (record { dwords = ds; are = dwords-are (payloadOf t k) e; more = ltb-true room (length ds) q }))
-                    (λ q. (
-                      payload-not t room colon (MoreThan room) (λ r. more-than e (ltb-false room (length ds) q) r),
-                      λ c18. Answered.entry (entryOf (startOf t k) (length (headerOf t k)) head body (length ds)) c18 (done ds e (ltb-false 256 (length ds) m)),
+          λ c18.
+              refuse pieces t room (Says pieces t) (withData (headerOf t k) (startOf t k) head body) 18 (refuses pieces (payloadBad (payloadOf t k))) (T.refused 18) (data16 room ds) refl c18
+              (λ b. payload-has t room colon (BadFor pieces) (bad-for-is pieces (payloadOf t k) (dwords-are (payloadOf t k) e) b))
+              (λ b. (
+                payload-not t room colon (BadFor pieces) (λ r. clash (bad-for-all pieces (payloadOf t k) r) b),
+                λ c16.
+                    refuse pieces t room (Says pieces t) (withData (headerOf t k) (startOf t k) head body) 16 (ltb 256 (length ds)) (T.refused 16)
+                    (cond (ltb room (length ds)) (T.refused 17) (T.is (length ds))) refl c16
+                    (λ m. payload-has t room colon (MoreThan 256) (record { dwords = ds; are = dwords-are (payloadOf t k) e; more = ltb-true 256 (length ds) m }))
+                    (λ m. (
+                      payload-not t room colon (MoreThan 256) (λ r. more-than e (ltb-false 256 (length ds) m) r),
+                      λ c17.
+                          refuse pieces t room (Says pieces t) (withData (headerOf t k) (startOf t k) head body) 17 (ltb room (length ds)) (T.refused 17) (T.is (length ds)) refl c17
+                          (λ q. payload-has t room colon (MoreThan room) (record { dwords = ds; are = dwords-are (payloadOf t k) e; more = ltb-true room (length ds) q }))
+                          (λ q. (
+                            payload-not t room colon (MoreThan room) (λ r. more-than e (ltb-false room (length ds) q) r),
+                            λ c19. Answered.entry (entryOf (startOf t k) (length (headerOf t k)) head body (length ds)) c19 (done ds e b (ltb-false 256 (length ds) m)),
+                          )),
                     )),
               )),
         ))
@@ -261,49 +288,50 @@ module _ (t : List ℕ) (room : ℕ) where
             omega (arith, r .more, ap length same)
 
     -- 10 to 14
-    judge-body : (head : Head) → Clear t room 10
+    judge-body : (head : Head) → Clear pieces t room 10
         → ((name : List ℕ) (size domain route : ℕ) (ds : List ℕ)
         → textAt (payloadOf t k) (lastPair (payloadOf t k) (bytes "type")) ≡ some name
         → decimalOf (payloadOf t k) (bytes "size") (2 ^ 16 - 1) ≡ N.Value size
         → decimalOf (payloadOf t k) (bytes "domain") (2 ^ 32 - 1) ≡ N.Value domain
         → hexAt (payloadOf t k) (bytes "route") (2 ^ 64 - 1) ≡ N.Value route
         → payloadData (payloadOf t k) ≡ some ds
+        → refuses pieces (payloadBad (payloadOf t k)) ≡ false
         → length ds ≤ 256
-        → Says t
+        → Says pieces t
         (entryOf (startOf t k) (length (headerOf t k)) head
         (record { kind = kindOf name (drop (head .function) (headerOf t k)); size = size; dropped = droppedOf (payloadOf t k); domain = domain; route = route; optionals = optionalsOf (payloadOf t k) })
         (length ds)))
-        → Ok (payloadAnswer (headerOf t k) (startOf t k) head (payloadOf t k) room)
-    unfolding Condition payloadAnswer bodyOf withBody
+        → Ok (payloadAnswer pieces (headerOf t k) (startOf t k) head (payloadOf t k) room)
+    unfolding Condition orderOf payloadAnswer bodyOf withBody
     judge-body head clear done =
-        refuse t room (Says t) (withBody (headerOf t k) (startOf t k) head (payloadOf t k) room) 10 (pairWithoutEquals (payloadOf t k)) (T.refused 10) (body11 (payloadOf t k) (drop (head .function) (headerOf t k))) refl clear
+        refuse pieces t room (Says pieces t) (withBody pieces (headerOf t k) (startOf t k) head (payloadOf t k) room) 10 (pairWithoutEquals (payloadOf t k)) (T.refused 10) (body11 (payloadOf t k) (drop (head .function) (headerOf t k))) refl clear
         (λ e. absurd (clash e (never-without-equals (payloadOf t k))))
         (λ e. (
           payload-not t room colon WithoutEquals (no-pair-without-equals (payloadOf t k)),
           λ c11.
-              check t room (Says t) (withBody (headerOf t k) (startOf t k) head (payloadOf t k) room) 11 (textAt (payloadOf t k) (lastPair (payloadOf t k) (bytes "type"))) (T.refused 11) (λ name. body12 (payloadOf t k) (kindOf name (drop (head .function) (headerOf t k)))) refl c11
+              check pieces t room (Says pieces t) (withBody pieces (headerOf t k) (startOf t k) head (payloadOf t k) room) 11 (textAt (payloadOf t k) (lastPair (payloadOf t k) (bytes "type"))) (T.refused 11) (λ name. body12 (payloadOf t k) (kindOf name (drop (head .function) (headerOf t k)))) refl c11
               (λ n. lacking t room colon (λ (x y name : List ℕ). KeyText y (bytes "type") name) (λ a r. nothing n (key-text-all (payloadOf t k) (bytes "type") r)))
               (λ name n. (
                 having t room colon (λ (x y name : List ℕ). KeyText y (bytes "type") name) name (key-text-is (payloadOf t k) (bytes "type") n),
                 λ c12.
-                    check t room (Says t) (withBody (headerOf t k) (startOf t k) head (payloadOf t k) room) 12 (numberValue (decimalOf (payloadOf t k) (bytes "size") (2 ^ 16 - 1))) (T.refused 12) (body13 (payloadOf t k) (kindOf name (drop (head .function) (headerOf t k)))) refl c12
+                    check pieces t room (Says pieces t) (withBody pieces (headerOf t k) (startOf t k) head (payloadOf t k) room) 12 (numberValue (decimalOf (payloadOf t k) (bytes "size") (2 ^ 16 - 1))) (T.refused 12) (body13 (payloadOf t k) (kindOf name (drop (head .function) (headerOf t k)))) refl c12
                     (λ s. lacking t room colon (λ (x y : List ℕ) (v : ℕ). KeyDecimal y (bytes "size") (2 ^ 16 - 1) v) (λ v r. no-decimal (bytes "size") (2 ^ 16 - 1) s r))
                     (λ size s. (
                       having t room colon (λ (x y : List ℕ) (v : ℕ). KeyDecimal y (bytes "size") (2 ^ 16 - 1) v) size (key-decimal-is (payloadOf t k) (bytes "size") (2 ^ 16 - 1) (number-tells _ s)),
                       λ c13.
-                          check t room (Says t) (withBody (headerOf t k) (startOf t k) head (payloadOf t k) room) 13 (numberValue (decimalOf (payloadOf t k) (bytes "domain") (2 ^ 32 - 1))) (T.refused 13) (body14 (payloadOf t k) (kindOf name (drop (head .function) (headerOf t k))) size) refl c13
+                          check pieces t room (Says pieces t) (withBody pieces (headerOf t k) (startOf t k) head (payloadOf t k) room) 13 (numberValue (decimalOf (payloadOf t k) (bytes "domain") (2 ^ 32 - 1))) (T.refused 13) (body14 (payloadOf t k) (kindOf name (drop (head .function) (headerOf t k))) size) refl c13
                           (λ o. lacking t room colon (λ (x y : List ℕ) (v : ℕ). KeyDecimal y (bytes "domain") (2 ^ 32 - 1) v) (λ v r. no-decimal (bytes "domain") (2 ^ 32 - 1) o r))
                           (λ domain o. (
                             having t room colon (λ (x y : List ℕ) (v : ℕ). KeyDecimal y (bytes "domain") (2 ^ 32 - 1) v) domain (key-decimal-is (payloadOf t k) (bytes "domain") (2 ^ 32 - 1) (number-tells _ o)),
                             λ c14.
-                                check t room (Says t) (withBody (headerOf t k) (startOf t k) head (payloadOf t k) room) 14 (numberValue (hexAt (payloadOf t k) (bytes "route") (2 ^ 64 - 1))) (T.refused 14)
+                                check pieces t room (Says pieces t) (withBody pieces (headerOf t k) (startOf t k) head (payloadOf t k) room) 14 (numberValue (hexAt (payloadOf t k) (bytes "route") (2 ^ 64 - 1))) (T.refused 14)
                                 (λ route. T.is (record { kind = kindOf name (drop (head .function) (headerOf t k)); size = size; dropped = droppedOf (payloadOf t k); domain = domain; route = route; optionals = optionalsOf (payloadOf t k) })) refl c14
                                 (λ r. lacking t room colon (λ (x y : List ℕ) (v : ℕ). KeyHex y (bytes "route") (2 ^ 64 - 1) v) (λ v q. no-hex (bytes "route") (2 ^ 64 - 1) r q))
                                 (λ route r. (
                                   having t room colon (λ (x y : List ℕ) (v : ℕ). KeyHex y (bytes "route") (2 ^ 64 - 1) v) route (key-hex-is (payloadOf t k) (bytes "route") (2 ^ 64 - 1) (number-tells _ r)),
                                   λ c15.
                                       judge-data head (record { kind = kindOf name (drop (head .function) (headerOf t k)); size = size; dropped = droppedOf (payloadOf t k); domain = domain; route = route; optionals = optionalsOf (payloadOf t k) }) c15
-                                      (λ ds d few. done name size domain route ds n (number-tells _ s) (number-tells _ o) (number-tells _ r) d few),
+                                      (λ ds d good few. done name size domain route ds n (number-tells _ s) (number-tells _ o) (number-tells _ r) d good few),
                                 )),
                           )),
                     )),
@@ -317,37 +345,37 @@ module _ (t : List ℕ) (room : ℕ) where
         no-hex key limit e {v} r = nothing e (ap numberValue (key-hex-all (payloadOf t k) key limit r) ∙ decimal-there v)
 
     -- 5 to 9
-    judge-head : Clear t room 5 → Ok (partedAnswer t k room)
-    unfolding Condition partedAnswer headOf withHead
+    judge-head : Clear pieces t room 5 → Ok (partedAnswer pieces t k room)
+    unfolding Condition orderOf partedAnswer headOf withHead
     judge-head clear =
-        check t room (Says t) (withHead t k room) 5 (placeValue (taskOf (headerOf t k))) (T.refused 5) (head6 (headerOf t k)) refl clear
+        check pieces t room (Says pieces t) (withHead pieces t k room) 5 (placeValue (taskOf (headerOf t k))) (T.refused 5) (head6 (headerOf t k)) refl clear
         (λ a. lacking t room colon (λ (x y task : List ℕ). Task x task) (λ task r. nothing a (ap placeValue (task-all (headerOf t k) r) ∙ place-there _)))
         (λ task a. (
           having t room colon (λ (x y task : List ℕ). Task x task) (take task (headerOf t k)) (task-is (headerOf t k) (place-tells _ a)),
           λ c6.
-              check t room (Says t) (withHead t k room) 6 (numberValue (pidOf (headerOf t k))) (T.refused 6) (head7 (headerOf t k) task) refl c6
+              check pieces t room (Says pieces t) (withHead pieces t k room) 6 (numberValue (pidOf (headerOf t k))) (T.refused 6) (head7 (headerOf t k) task) refl c6
               (λ b. lacking t room colon (λ (x y : List ℕ) (pid : ℕ). Pid x pid) (λ pid r. nothing b (ap numberValue (pid-all (headerOf t k) r) ∙ decimal-there _)))
               (λ pid b. (
                 having t room colon (λ (x y : List ℕ) (pid : ℕ). Pid x pid) pid (pid-is (headerOf t k) (number-tells _ b)),
                 λ c7.
-                    check t room (Says t) (withHead t k room) 7 (numberValue (cpuOf (headerOf t k))) (T.refused 7) (head8 (headerOf t k) task pid) refl c7
+                    check pieces t room (Says pieces t) (withHead pieces t k room) 7 (numberValue (cpuOf (headerOf t k))) (T.refused 7) (head8 (headerOf t k) task pid) refl c7
                     (λ c. lacking t room colon (λ (x y : List ℕ) (cpu : ℕ). Cpu x cpu) (λ cpu r. nothing c (ap numberValue (cpu-all (headerOf t k) r) ∙ decimal-there _)))
                     (λ cpu c. (
                       having t room colon (λ (x y : List ℕ) (cpu : ℕ). Cpu x cpu) cpu (cpu-is (headerOf t k) (number-tells _ c)),
                       λ c8.
-                          check t room (Says t) (withHead t k room) 8 (stampValue (stampOf (headerOf t k))) (T.refused 8) (head9 (headerOf t k) task pid cpu) refl c8
+                          check pieces t room (Says pieces t) (withHead pieces t k room) 8 (stampValue (stampOf (headerOf t k))) (T.refused 8) (head9 (headerOf t k) task pid cpu) refl c8
                           (λ d. no-stamp d)
                           (λ moment d. (
                             (λ m. m (headerOf t k) (payloadOf t k) (split t room colon) (record { seconds = moment .seconds; microseconds = moment .microseconds; timestamp = timestamp-is (headerOf t k) (stamp-tells _ d) })),
                             λ c9.
-                                check t room (Says t) (withHead t k room) 9 (placeValue (functionOf (headerOf t k))) (T.refused 9) (headGot task pid cpu moment) refl c9
+                                check pieces t room (Says pieces t) (withHead pieces t k room) 9 (placeValue (functionOf (headerOf t k))) (T.refused 9) (headGot task pid cpu moment) refl c9
                                 (λ f. lacking t room colon (λ (x y function : List ℕ). Function x function) (λ function r. nothing f (ap placeValue (function-all (headerOf t k) r) ∙ place-there _)))
                                 (λ function f. (
                                   having t room colon (λ (x y function : List ℕ). Function x function) (drop function (headerOf t k)) (function-is (headerOf t k) (place-tells _ f)),
                                   λ c10.
                                       judge-body (record { task = task; pid = pid; cpu = cpu; seconds = moment .seconds; microseconds = moment .microseconds; function = function }) c10
-                                      (λ name size domain route ds n s o r e few.
-                                      says t framed task pid cpu moment function name size domain route ds (place-tells _ a) (number-tells _ b) (number-tells _ c) (stamp-tells _ d) (place-tells _ f) n s o r e few),
+                                      (λ name size domain route ds n s o r e good few.
+                                      says pieces t framed task pid cpu moment function name size domain route ds (place-tells _ a) (number-tells _ b) (number-tells _ c) (stamp-tells _ d) (place-tells _ f) n s o r e good few),
                                 )),
                           )),
                     )),
@@ -360,15 +388,15 @@ module _ (t : List ℕ) (room : ℕ) where
             nothing d (ap stampValue (timestamp-all (headerOf t k) w) ∙ stamp-there _ _)
 
   -- 1 to 4
-  pub judge : Answered t room (Says t) (parseOf t room)
-  unfolding Condition parseOf frameOf frameAscii frameColon withFrame
+  pub judge : Answered pieces t room (Says pieces t) (parseOf pieces t room)
+  unfolding Condition orderOf parseOf frameOf frameAscii frameColon withFrame
   judge =
-      refuse t room (Says t) (withFrame t room) 1 (idle t) (T.refused 1) (cond (ltb 4096 (length t)) (T.refused 2) (frameAscii t (firstHigh t))) refl (clear-starts t room)
+      refuse pieces t room (Says pieces t) (withFrame pieces t room) 1 (idle t) (T.refused 1) (cond (ltb 4096 (length t)) (T.refused 2) (frameAscii t (firstHigh t))) refl (clear-starts pieces t room)
       (λ e. idle-is t e)
       (λ e. (
         (λ i. clash (idle-all t i) e),
         λ c2.
-            refuse t room (Says t) (withFrame t room) 2 (ltb 4096 (length t)) (T.refused 2) (frameAscii t (firstHigh t)) refl c2
+            refuse pieces t room (Says pieces t) (withFrame pieces t room) 2 (ltb 4096 (length t)) (T.refused 2) (frameAscii t (firstHigh t)) refl c2
             (λ l. ltb-true 4096 (length t) l)
             (λ l. (
               (λ m. absurd (omega (arith, ltb-false 4096 (length t) l))),
@@ -376,12 +404,12 @@ module _ (t : List ℕ) (room : ℕ) where
             )),
       ))
     where
-      last-colon : (f : Found) → lastByte 58 t ≡ f → firstHigh t ≡ P.Nothing → Clear t room 4 → idle t ≡ false → length t ≤ 4096 → Ok (withFrame t room (frameColon f))
+      last-colon : (f : Found) → lastByte 58 t ≡ f → firstHigh t ≡ P.Nothing → Clear pieces t room 4 → idle t ≡ false → length t ≤ 4096 → Ok (withFrame pieces t room (frameColon f))
       last-colon (P.At k) q n c4 e l =
-          judge-head (frame-colon t e l n q) (clear-next t room 4 c4 (λ m. m (headerOf t k) (payloadOf t k) (split-is t q)))
+          judge-head (frame-colon t e l n q) (clear-next pieces t room 4 c4 (λ m. m (headerOf t k) (payloadOf t k) (split-is t q)))
       last-colon P.Nothing q n c4 e l =
           Answered.refused 4 (record { holds = λ header payload s. let w = split-colon t header payload s in absurd (let z : _≡_ {A = ℕ} 0 1 = cc in omega arith); first = c4 })
 
-      ascii : (f : Found) → firstHigh t ≡ f → Clear t room 3 → idle t ≡ false → length t ≤ 4096 → Ok (withFrame t room (frameAscii t f))
+      ascii : (f : Found) → firstHigh t ≡ f → Clear pieces t room 3 → idle t ≡ false → length t ≤ 4096 → Ok (withFrame pieces t room (frameAscii t f))
       ascii (P.At k) q c3 e l = Answered.refused 3 (record { holds = high-some t q; first = c3 })
-      ascii P.Nothing q c3 e l = last-colon (lastByte 58 t) refl q (clear-next t room 3 c3 (high-none t q)) e l
+      ascii P.Nothing q c3 e l = last-colon (lastByte 58 t) refl q (clear-next pieces t room 3 c3 (high-none t q)) e l

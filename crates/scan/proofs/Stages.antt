@@ -2,11 +2,11 @@
 -- Assumes nothing.
 use Prim.Native.Nat.{ℕ, _+_, _-_, _^_, _≤_, _<_}
 use mathlib.Core.Path.{_≡_, refl, sym, ap, _∙_}
-use mathlib.Core.List.{List, _++_, append-assoc}
+use mathlib.Core.Bool.{Bool, true, false}
+use mathlib.Core.List.{List}
 use mathlib.Core.Option.{Option, some, none}
 use native.Mathlib.Omega.{arith}
-use lib.ListN.{length, take, drop, length-take, take-append-drop}
-use lib.Seq.{drop-append-le}
+use lib.ListN.{length, take, drop, length-take}
 use borrow.Author.Tests.{lt-ltb, le-ltb}
 use Rattle.text.specs.Told as T
 use Rattle.text.proofs.Told.{by-cases, fixed-by-told}
@@ -20,8 +20,7 @@ use Rattle.header.specs.Function.{functionOf}
 use Rattle.text.specs.Quote.{bytes}
 use Rattle.pairs.specs.declared.pair.Span.the-variants.{At, Nothing}
 use Rattle.pairs.specs.Pair.{part, lastPair}
-use Rattle.pairs.specs.Data.{insideOf, dataIn, dataOf, dwordsOf, filled, slotsAfter}
-use Rattle.pairs.proofs.Slots.{slots-fit, slots-short}
+use Rattle.pairs.specs.Data.{insideOf, dataIn, dataOf, dwordsOf, badOf, badIn, badData, filled}
 use Rattle.text.proofs.Stripping.{strip-size}
 use Rattle.header.proofs.Functions.{function-within}
 use Rattle.scan.specs.declared.frame.FrameAnswer.{FrameAnswer}
@@ -34,23 +33,24 @@ use Rattle.scan.specs.declared.head.Head.{Head}
 use Rattle.scan.specs.declared.body.Body.{Body}
 use Rattle.scan.specs.declared.dwords.DataAnswer.{DataAnswer}
 use Rattle.scan.specs.declared.dwords.DataAnswer.the-variants as D
+use Rattle.scan.specs.declared.Pieces.{Pieces}
 use Rattle.scan.specs.declared.Answer.{Answer}
 use Rattle.scan.specs.declared.Answer.the-variants as A
 use Rattle.scan.specs.Need.{need, placeValue, stampValue}
 use Rattle.scan.specs.Frame.{frameTold, frameOf}
 use Rattle.scan.specs.Head.{headTold, headOf, head6, head7, head8, head9, headGot}
 use Rattle.scan.specs.Body.{textAt, bodyTold, bodyOf}
-use Rattle.scan.specs.Dwords.{payloadData, dataTold, dataAnswer, dataSlots, DataRead}
+use Rattle.scan.specs.Dwords.{payloadData, payloadBad, refuses, dataTold, dataAnswer, dataSlots, DataRead}
 use Rattle.scan.specs.Parse.{headerOf, payloadOf, startOf, entryOf, withData, withBody, payloadAnswer, withHead, partedAnswer, withFrame, parseOf, dwordsBy, lineDwords, slotsBy, Parsed, PartedRead, PayloadRead}
 
 -- the dwords of a payload, as code finds them
-module _ (p out : List ℕ) where
-  pub data-missing : lastPair p (bytes "data") ≡ Nothing → DataRead p out out (D.Refused 15)
+module _ (pieces : Pieces) (p out : List ℕ) where
+  pub data-missing : lastPair p (bytes "data") ≡ Nothing → DataRead pieces p out out (D.Refused 15)
   unfolding dataAnswer payloadData textAt dataSlots
   data-missing e = record { answer = rw e; slots = refl }
 
   module _ {a b : ℕ} (found : lastPair p (bytes "data") ≡ At a b) where
-    pub data-unbracketed : insideOf (part p a b) ≡ Nothing → DataRead p out out (D.Refused 15)
+    pub data-unbracketed : insideOf (part p a b) ≡ Nothing → DataRead pieces p out out (D.Refused 15)
     unfolding dataAnswer payloadData textAt dataSlots dataOf dataIn
     data-unbracketed e = record { answer = rw (found, e); slots = refl }
 
@@ -58,71 +58,66 @@ module _ (p out : List ℕ) where
     unfolding payloadData textAt dataOf dataIn
     data-there e = rw (found, e)
 
-  module _ (ds : List ℕ) (there : payloadData p ≡ some ds) (exit : List ℕ) where
-    pub data-many : 256 < length ds → exit ≡ out → DataRead p out exit (D.Refused 16)
+    -- what the choice says of its pieces
+    pub bad-there : {x y : ℕ} {bad r : Bool} → insideOf (part p a b) ≡ At x y → bad ≡ badOf (part (part p a b) x y) → r ≡ refuses pieces bad → refuses pieces (payloadBad p) ≡ r
+    unfolding payloadBad textAt badData badIn
+    bad-there e q h = rw (found, e, ← q) (sym h)
+
+  module _ (ds : List ℕ) (there : payloadData p ≡ some ds) where
+    pub data-bad : refuses pieces (payloadBad p) ≡ true → DataRead pieces p out out (D.Refused 18)
     unfolding dataAnswer dataSlots
-    data-many h e = record { answer = rw (there, lt-ltb 256 (length ds) h); slots = e }
+    data-bad b = record { answer = rw (there, b); slots = refl }
 
-    pub data-crowded : length ds ≤ 256 → length out < length ds → exit ≡ out → DataRead p out exit (D.Refused 17)
-    unfolding dataAnswer dataSlots
-    data-crowded h l e = record { answer = rw (there, le-ltb 256 (length ds) h, lt-ltb (length out) (length ds) l); slots = e }
+    module _ (good : refuses pieces (payloadBad p) ≡ false) where
+      pub data-many : 256 < length ds → DataRead pieces p out out (D.Refused 16)
+      unfolding dataAnswer dataSlots
+      data-many h = record { answer = rw (there, good, lt-ltb 256 (length ds) h); slots = refl }
 
-    pub data-got : (n : ℕ) → n ≡ length ds → length ds ≤ 256 → length ds ≤ length out → exit ≡ filled ds out → DataRead p out exit (D.Got n)
-    unfolding dataAnswer dataSlots
-    data-got n q h l e =
-        record { answer = rw (there, le-ltb 256 (length ds) h, le-ltb (length out) (length ds) l, q); slots = rw there e }
+      pub data-crowded : length ds ≤ 256 → length out < length ds → DataRead pieces p out out (D.Refused 17)
+      unfolding dataAnswer dataSlots
+      data-crowded h l = record { answer = rw (there, good, le-ltb 256 (length ds) h, lt-ltb (length out) (length ds) l); slots = refl }
 
--- the slots of which a first part was lent on
-module _ (ds out : List ℕ) (room : ℕ) (within : room ≤ length out) where
-  part-size : length (take room out) ≡ room
-  part-size = omega (arith, length-take room out)
-
-  pub part-kept : room < length ds → slotsAfter ds (take room out) ++ drop room out ≡ out
-  part-kept h =
-      ap (λ (l : List ℕ). l ++ drop room out) (sym (slots-short ds (take room out) (omega (arith, part-size)))) ∙ take-append-drop room out
-
-  pub part-filled : length ds ≤ room → slotsAfter ds (take room out) ++ drop room out ≡ filled ds out
-  part-filled h =
-      ap (λ (l : List ℕ). l ++ drop room out) (sym (slots-fit ds (take room out) (omega (arith, part-size))))
-      ∙ append-assoc ds (drop (length ds) (take room out)) (drop room out)
-      ∙ ap (λ (l : List ℕ). ds ++ l) (sym (drop-append-le (length ds) (take room out) (drop room out) (omega (arith, part-size))) ∙ ap (drop (length ds)) (take-append-drop room out))
+      pub data-got : (exit : List ℕ) (n : ℕ) → n ≡ length ds → length ds ≤ 256 → length ds ≤ length out → exit ≡ filled ds out → DataRead pieces p out exit (D.Got n)
+      unfolding dataAnswer dataSlots
+      data-got exit n q h l e =
+          record { answer = rw (there, good, le-ltb 256 (length ds) h, le-ltb (length out) (length ds) l, q); slots = rw there e }
 
 -- header and payload together
-module _ (header : List ℕ) (start : ℕ) (head : Head) (payload out : List ℕ) where
-  pub payload-refused : {k : ℕ} → bodyOf payload (drop (head .function) header) ≡ T.refused k → PayloadRead header start head payload out out (A.Refused k)
+module _ (pieces : Pieces) (header : List ℕ) (start : ℕ) (head : Head) (payload out : List ℕ) where
+  pub payload-refused : {k : ℕ} → bodyOf payload (drop (head .function) header) ≡ T.refused k → PayloadRead pieces header start head payload out out (A.Refused k)
   unfolding payloadAnswer withBody slotsBy
   payload-refused e = record { answer = rw e; slots = refl }
 
-  module _ {body : Body} (got : bodyOf payload (drop (head .function) header) ≡ T.is body) {exit : List ℕ} {r : DataAnswer} (read : DataRead payload out exit r) where
-    pub data-refused : {k : ℕ} → r ≡ D.Refused k → PayloadRead header start head payload out exit (A.Refused k)
+  module _ {body : Body} (got : bodyOf payload (drop (head .function) header) ≡ T.is body) {exit : List ℕ} {r : DataAnswer} (read : DataRead pieces payload out exit r) where
+    pub data-refused : {k : ℕ} → r ≡ D.Refused k → PayloadRead pieces header start head payload out exit (A.Refused k)
     unfolding payloadAnswer withBody withData slotsBy dataSlots
     data-refused e =
-        let a : dataAnswer payload (length out) ≡ T.refused _ = sym (read .answer) ∙ ap dataTold e in
+        let a : dataAnswer pieces payload (length out) ≡ T.refused _ = sym (read .answer) ∙ ap dataTold e in
         record { answer = rw (got, a); slots = read .slots ∙ rw e }
 
-    pub payload-read : {n : ℕ} {x : _} → r ≡ D.Got n → x ≡ entryOf start (length header) head body n → PayloadRead header start head payload out exit (A.Entry x)
+    pub payload-read : {n : ℕ} {x : _} → r ≡ D.Got n → x ≡ entryOf start (length header) head body n → PayloadRead pieces header start head payload out exit (A.Entry x)
     unfolding payloadAnswer withBody withData slotsBy dataSlots
     payload-read e q =
-        let a : dataAnswer payload (length out) ≡ T.is _ = sym (read .answer) ∙ ap dataTold e in
+        let a : dataAnswer pieces payload (length out) ≡ T.is _ = sym (read .answer) ∙ ap dataTold e in
         record { answer = rw (got, a, q); slots = read .slots ∙ rw e }
 
 -- a line parted at a colon
-module _ (t : List ℕ) (colon : ℕ) (out : List ℕ) where
-  pub parted-refused : {k : ℕ} → headOf (headerOf t colon) ≡ T.refused k → PartedRead t colon out out (A.Refused k)
+module _ (pieces : Pieces) (t : List ℕ) (colon : ℕ) (out : List ℕ) where
+  pub parted-refused : {k : ℕ} → headOf (headerOf t colon) ≡ T.refused k → PartedRead pieces t colon out out (A.Refused k)
   unfolding partedAnswer withHead slotsBy
   parted-refused e = record { answer = rw e; slots = refl }
 
-  pub parted-read : {head : Head} {exit : List ℕ} {r : Answer} → headOf (headerOf t colon) ≡ T.is head → PayloadRead (headerOf t colon) (startOf t colon) head (payloadOf t colon) out exit r → PartedRead t colon out exit r
+  pub parted-read : {head : Head} {exit : List ℕ} {r : Answer} → headOf (headerOf t colon) ≡ T.is head → PayloadRead pieces (headerOf t colon) (startOf t colon) head (payloadOf t colon) out exit r → PartedRead pieces t colon out exit r
   unfolding partedAnswer withHead
   parted-read e p = record { answer = p .answer ∙ rw e; slots = p .slots }
 
 -- a line
-module _ (t out : List ℕ) where
-  pub line-refused : {k : ℕ} → frameOf t ≡ T.refused k → Parsed t out out (A.Refused k)
+module _ (pieces : Pieces) (t out : List ℕ) where
+  pub line-refused : {k : ℕ} → frameOf t ≡ T.refused k → Parsed pieces t out out (A.Refused k)
   unfolding parseOf withFrame slotsBy
   line-refused e = record { answer = rw e; slots = refl }
 
-  pub line-read : {k : ℕ} {exit : List ℕ} {r : Answer} → frameOf t ≡ T.is k → PartedRead t k out exit r → Parsed t out exit r
+  pub line-read : {k : ℕ} {exit : List ℕ} {r : Answer} → frameOf t ≡ T.is k → PartedRead pieces t k out exit r → Parsed pieces t out exit r
   unfolding parseOf withFrame lineDwords dwordsBy
   line-read e p = record { answer = p .answer ∙ rw e; slots = p .slots ∙ rw e }
 
@@ -154,7 +149,7 @@ head-function h {head} e =
     place-tells (functionOf h) (f .1 ∙ ap some (same-function (f .2)))
 
 -- the same header, start and payload under other names
-pub payload-same : {h h′ p p′ out exit : List ℕ} {s s′ : ℕ} {head : Head} {r : Answer} → h ≡ h′ → s ≡ s′ → p ≡ p′ → PayloadRead h s head p out exit r → PayloadRead h′ s′ head p′ out exit r
+pub payload-same : {pieces : Pieces} {h h′ p p′ out exit : List ℕ} {s s′ : ℕ} {head : Head} {r : Answer} → h ≡ h′ → s ≡ s′ → p ≡ p′ → PayloadRead pieces h s head p out exit r → PayloadRead pieces h′ s′ head p′ out exit r
 payload-same a b c q = rw (← a, ← b, ← c) q
 
 -- what a header that was read allows: its function lies in it, and the line has its places

@@ -26,14 +26,15 @@ use Rattle.pairs.specs.Pair.{WithoutEquals}
 use Rattle.pairs.proofs.LastPairs.{one-last-pair}
 use Rattle.pairs.proofs.PairLists.{no-pair-without-equals}
 use Rattle.pairs.proofs.Slots.{one-data}
+use Rattle.scan.specs.declared.Pieces.{Pieces}
 use Rattle.scan.specs.declared.Answer.{Answer}
 use Rattle.scan.specs.declared.Answer.the-variants as A
 use Rattle.scan.specs.Frame.{Split}
 use Rattle.scan.specs.Parse.{parseOf, lineDwords, answerTold, slotsBy, Parsed}
-use Rattle.scan.specs.Line.{KeyText, KeyDecimal, KeyHex, Optional, Dropped, Dwords, Line, Has, MoreThan, Condition, Applies}
+use Rattle.scan.specs.Line.{KeyText, KeyDecimal, KeyHex, Optional, Dropped, Dwords, BadFor, Line, Has, MoreThan, Condition, orderOf, Applies}
 use Rattle.scan.proofs.Splits.{split-colon, one-header, one-payload}
 use Rattle.scan.proofs.Values.{dwords-part, dwords-whole}
-use Rattle.scan.proofs.Chain.{Clear, Answered}
+use Rattle.scan.proofs.Chain.{one-order, past-order, Clear, Answered}
 use Rattle.scan.proofs.Judged.{Says, judge}
 
 -- two splits of a line are one
@@ -82,9 +83,9 @@ entry-by a b c d e f g h i j k l m n o p q r s =
     record { task = a; pid = b; cpu = c; seconds = d; microseconds = e; function = f; kind = g; size = h; dropped = i; domain = j; route = k; offset = l; code = m; len = n; port = o; config = p; seq = q; unplug = r; dwords = s }
 
 -- each line has one reading
-pub one-line-reading : (t : List ℕ) {v w : EntryValue} → Line t v → Line t w → v ≡ w
+pub one-line-reading : (pieces : Pieces) (t : List ℕ) {v w : EntryValue} → Line pieces t v → Line pieces t w → v ≡ w
 unfolding entry-by
-one-line-reading t {v} {w} a b =
+one-line-reading pieces t {v} {w} a b =
     let h : a .header ≡ b .header = same-header t (a .split) (b .split) in
     let p : a .payload ≡ b .payload = same-payload t (a .split) (b .split) in
     let task = one-task (b .header) (rw h at (a .task)) (b .task) in
@@ -112,9 +113,9 @@ one-line-reading t {v} {w} a b =
     both
 
 -- a line of the grammar meets no number's condition
-line-clears : (t : List ℕ) {v : EntryValue} → Line t v → (k : ℕ) → Condition t 256 k → ⊥
+line-clears : (pieces : Pieces) (t : List ℕ) {v : EntryValue} → Line pieces t v → (k : ℕ) → Condition pieces t 256 k → ⊥
 unfolding Condition
-line-clears t {v} a k c =
+line-clears pieces t {v} a k c =
     one (eqb k 1) _ _ (a .busy)
     (one (eqb k 2) _ _ (λ l. absurd (omega (arith, a .short)))
     (one (eqb k 3) _ _ (a .ascii)
@@ -130,7 +131,8 @@ line-clears t {v} a k c =
     (one (eqb k 13) _ _ (λ m. m (a .header) (a .payload) (a .split) (v .domain) (a .domain))
     (one (eqb k 14) _ _ (λ m. m (a .header) (a .payload) (a .split) (v .route) (a .route))
     (one (eqb k 15) _ _ (λ m. m (a .header) (a .payload) (a .split) (v .dwords) (a .dwords))
-    (one (eqb k 16) _ _ many (one (eqb k 17) _ _ many (λ x. x)))))))))))))))))
+    (one (eqb k 18) _ _ (λ r. a .good (rw (same-payload t (r .split) (a .split)) at (r .there)))
+    (one (eqb k 16) _ _ many (one (eqb k 17) _ _ many (λ x. x))))))))))))))))))
     c
   where
     one : (b : Bool) (X Y : Type 0) → (X → ⊥) → (Y → ⊥) → cond b X Y → ⊥
@@ -145,14 +147,14 @@ line-clears t {v} a k c =
         let same : r .there .dwords ≡ v .dwords = one-data (rw text at (d .brackets)) (a .dwords .brackets) in
         omega (arith, a .few, r .there .more, ap length same)
 
--- no number above 17 has a condition
-pub past-table : (t : List ℕ) (room k : ℕ) → 18 ≤ k → Condition t room k → ⊥
+-- no number above 18 has a condition
+pub past-table : (pieces : Pieces) (t : List ℕ) (room k : ℕ) → 19 ≤ k → Condition pieces t room k → ⊥
 unfolding Condition
-past-table t room k l c =
+past-table pieces t room k l c =
     not-this 1 (omega arith) _ _ (not-this 2 (omega arith) _ _ (not-this 3 (omega arith) _ _ (not-this 4 (omega arith) _ _ (not-this 5 (omega arith) _ _
     (not-this 6 (omega arith) _ _ (not-this 7 (omega arith) _ _ (not-this 8 (omega arith) _ _ (not-this 9 (omega arith) _ _ (not-this 10 (omega arith) _ _
     (not-this 11 (omega arith) _ _ (not-this 12 (omega arith) _ _ (not-this 13 (omega arith) _ _ (not-this 14 (omega arith) _ _ (not-this 15 (omega arith) _ _
-    (not-this 16 (omega arith) _ _ (not-this 17 (omega arith) _ _ (λ x. x)))))))))))))))))
+    (not-this 18 (omega arith) _ _ (not-this 16 (omega arith) _ _ (not-this 17 (omega arith) _ _ (λ x. x))))))))))))))))))
     c
   where
     not-this : (j : ℕ) → j < k → (X Y : Type 0) → (Y → ⊥) → cond (eqb k j) X Y → ⊥
@@ -163,79 +165,79 @@ past-table t room k l c =
         go false e y = g y
 
 -- an entry says what the line says
-pub line-entry-is : (t : List ℕ) (room : ℕ) {e : Entry} → parseOf t room ≡ T.is e → Line t (valueOf e t (lineDwords t))
-line-entry-is t room {e} q = go (parseOf t room) (judge t room) q
+pub line-entry-is : (pieces : Pieces) (t : List ℕ) (room : ℕ) {e : Entry} → parseOf pieces t room ≡ T.is e → Line pieces t (valueOf e t (lineDwords t))
+line-entry-is pieces t room {e} q = go (parseOf pieces t room) (judge pieces t room) q
   where
-    go : (r : T.Told Entry) → Answered t room (Says t) r → r ≡ T.is e → Line t (valueOf e t (lineDwords t))
+    go : (r : T.Told Entry) → Answered pieces t room (Says pieces t) r → r ≡ T.is e → Line pieces t (valueOf e t (lineDwords t))
     go r (Answered.refused k a) n = absurd (let z : _≡_ {A = ℕ} 0 1 = cc in omega arith)
     go r (Answered.entry f c s) n = let same : f ≡ e = cc in rw same at (s .line)
 
 -- given 256 slots, a line of the grammar is accepted, and its entry is the grammar's
-pub line-entry-all : (t : List ℕ) {v : EntryValue} → Line t v → (e : Entry) × (parseOf t 256 ≡ T.is e) × (valueOf e t (lineDwords t) ≡ v)
-line-entry-all t {v} a = go (parseOf t 256) (judge t 256) refl
+pub line-entry-all : (pieces : Pieces) (t : List ℕ) {v : EntryValue} → Line pieces t v → (e : Entry) × (parseOf pieces t 256 ≡ T.is e) × (valueOf e t (lineDwords t) ≡ v)
+line-entry-all pieces t {v} a = go (parseOf pieces t 256) (judge pieces t 256) refl
   where
-    go : (r : T.Told Entry) → Answered t 256 (Says t) r → parseOf t 256 ≡ r → (e : Entry) × (parseOf t 256 ≡ T.is e) × (valueOf e t (lineDwords t) ≡ v)
-    go r (Answered.refused k p) n = absurd (line-clears t a k (p .holds))
-    go r (Answered.entry e c s) n = (e, n, one-line-reading t (s .line) a)
+    go : (r : T.Told Entry) → Answered pieces t 256 (Says pieces t) r → parseOf pieces t 256 ≡ r → (e : Entry) × (parseOf pieces t 256 ≡ T.is e) × (valueOf e t (lineDwords t) ≡ v)
+    go r (Answered.refused k p) n = absurd (line-clears pieces t a k (p .holds))
+    go r (Answered.entry e c s) n = (e, n, one-line-reading pieces t (s .line) a)
 
 -- given 256 slots, a text is accepted as a line exactly when it belongs to the line grammar
-pub line-accepted-exactly : (t : List ℕ) → ((e : Entry) × (parseOf t 256 ≡ T.is e)) ↔ ((v : EntryValue) × Line t v)
-line-accepted-exactly t =
-    ((λ x. (valueOf (x .0) t (lineDwords t), line-entry-is t 256 (x .1))), (λ y. let w = line-entry-all t (y .1) in (w .0, w .1)))
+pub line-accepted-exactly : (pieces : Pieces) (t : List ℕ) → ((e : Entry) × (parseOf pieces t 256 ≡ T.is e)) ↔ ((v : EntryValue) × Line pieces t v)
+line-accepted-exactly pieces t =
+    ((λ x. (valueOf (x .0) t (lineDwords t), line-entry-is pieces t 256 (x .1))), (λ y. let w = line-entry-all pieces t (y .1) in (w .0, w .1)))
 
 -- a number is answered exactly when its condition holds and no earlier one does
-pub line-number-exactly : (t : List ℕ) (room k : ℕ) → (parseOf t room ≡ T.refused k) ↔ Applies t room k
-line-number-exactly t room k = (λ q. mp (parseOf t room) (judge t room) q, λ a. mpr (parseOf t room) (judge t room) a)
+pub line-number-exactly : (pieces : Pieces) (t : List ℕ) (room k : ℕ) → (parseOf pieces t room ≡ T.refused k) ↔ Applies pieces t room k
+line-number-exactly pieces t room k = (λ q. mp (parseOf pieces t room) (judge pieces t room) q, λ a. mpr (parseOf pieces t room) (judge pieces t room) a)
   where
-    mp : (r : T.Told Entry) → Answered t room (Says t) r → r ≡ T.refused k → Applies t room k
+    mp : (r : T.Told Entry) → Answered pieces t room (Says pieces t) r → r ≡ T.refused k → Applies pieces t room k
     mp r (Answered.refused j a) n = let same : j ≡ k = cc in rw same at a
     mp r (Answered.entry e c s) n = absurd (let z : _≡_ {A = ℕ} 0 1 = cc in omega arith)
 
-    mpr : (r : T.Told Entry) → Answered t room (Says t) r → Applies t room k → r ≡ T.refused k
+    mpr : (r : T.Told Entry) → Answered pieces t room (Says pieces t) r → Applies pieces t room k → r ≡ T.refused k
     mpr r (Answered.refused j b) a =
-        by-order j k (λ l. absurd (a .first j l (b .holds))) (λ e. ap T.refused e) (λ l. absurd (b .first k l (a .holds)))
+        by-order (orderOf j) (orderOf k) (λ l. absurd (a .first j l (b .holds))) (λ e. ap T.refused (one-order j k e)) (λ l. absurd (b .first k l (a .holds)))
     mpr r (Answered.entry e c s) a = absurd (no-number (a .holds) c)
       where
-        no-number : Condition t room k → Clear t room 18 → ⊥
-        no-number h clear = by-order k 18 (λ l. clear k l h) (λ e. above (omega arith) h) (λ l. above (omega arith) h)
+        no-number : Condition pieces t room k → Clear pieces t room 19 → ⊥
+        no-number h clear = by-order (orderOf k) 19 (λ l. clear k l h) (λ e. above (omega arith) h) (λ l. above (omega arith) h)
           where
-            above : 18 ≤ k → Condition t room k → ⊥
-            above l x = past-table t room k l x
+            above : 19 ≤ orderOf k → Condition pieces t room k → ⊥
+            above l x = past-table pieces t room k (past-order k l) x
 
 -- number 10 has no text: every pair that is found has its `=`
-pub number-10-never : (t : List ℕ) (room : ℕ) → parseOf t room ≡ T.refused 10 → ⊥
+pub number-10-never : (pieces : Pieces) (t : List ℕ) (room : ℕ) → parseOf pieces t room ≡ T.refused 10 → ⊥
 unfolding Condition
-number-10-never t room q =
-    let a = line-number-exactly t room 10 .0 q in
+number-10-never pieces t room q =
+    let a = line-number-exactly pieces t room 10 .0 q in
     let h : Has t WithoutEquals = a .holds in
     no-pair-without-equals (h .payload) (h .there)
 
 -- the same through the number that is told, which is 0 for an entry alone
-pub line-number-is : (t : List ℕ) (room k : ℕ) → 0 < k → (T.numberIn (parseOf t room) ≡ k) ↔ Applies t room k
-line-number-is t room k positive = (λ q. line-number-exactly t room k .0 (mp (parseOf t room) q), λ a. ap T.numberIn (line-number-exactly t room k .1 a))
+pub line-number-is : (pieces : Pieces) (t : List ℕ) (room k : ℕ) → 0 < k → (T.numberIn (parseOf pieces t room) ≡ k) ↔ Applies pieces t room k
+line-number-is pieces t room k positive = (λ q. line-number-exactly pieces t room k .0 (mp (parseOf pieces t room) q), λ a. ap T.numberIn (line-number-exactly pieces t room k .1 a))
   where
     mp : (r : T.Told Entry) → T.numberIn r ≡ k → r ≡ T.refused k
     mp (T.is e) q = absurd (omega arith)
     mp T.absent q = absurd (omega arith)
     mp (T.refused j) q = ap T.refused q
 
-entry-says : (t : List ℕ) (room : ℕ) {e : Entry} → parseOf t room ≡ T.is e → Says t e
-entry-says t room {e} q = go (parseOf t room) (judge t room) q
+entry-says : (pieces : Pieces) (t : List ℕ) (room : ℕ) {e : Entry} → parseOf pieces t room ≡ T.is e → Says pieces t e
+entry-says pieces t room {e} q = go (parseOf pieces t room) (judge pieces t room) q
   where
-    go : (r : T.Told Entry) → Answered t room (Says t) r → r ≡ T.is e → Says t e
+    go : (r : T.Told Entry) → Answered pieces t room (Says pieces t) r → r ≡ T.is e → Says pieces t e
     go r (Answered.refused k a) n = absurd (let z : _≡_ {A = ℕ} 0 1 = cc in omega arith)
     go r (Answered.entry f c s) n = let same : f ≡ e = cc in rw same at s
 
 -- what a call of `parse` leaves behind: its entry says what the line says, and the slots hold its dwords from the first, the rest as found
-pub record Handed (t out exit : List ℕ) (e : Entry) : Type 0 where
-  pub line : Line t (valueOf e t exit)
+pub record Handed (pieces : Pieces) (t out exit : List ℕ) (e : Entry) : Type 0 where
+  pub line : Line pieces t (valueOf e t exit)
   pub count : e .dwords ≡ length (valueOf e t exit .dwords)
   pub slots : exit ≡ valueOf e t exit .dwords ++ drop (e .dwords) out
 
-pub parsed-entry : (t out : List ℕ) {exit : List ℕ} {e : Entry} → Parsed t out exit (A.Entry e) → Handed t out exit e
+pub parsed-entry : (pieces : Pieces) (t out : List ℕ) {exit : List ℕ} {e : Entry} → Parsed pieces t out exit (A.Entry e) → Handed pieces t out exit e
 unfolding slotsBy valueOf
-parsed-entry t out {exit} {e} p =
-    let s : Says t e = entry-says t (length out) (sym (p .answer)) in
+parsed-entry pieces t out {exit} {e} p =
+    let s : Says pieces t e = entry-says pieces t (length out) (sym (p .answer)) in
     let whole : partOf (lineDwords t) 0 (e .dwords) ≡ lineDwords t = rw (s .count) (dwords-whole (lineDwords t)) in
     let now : partOf exit 0 (e .dwords) ≡ lineDwords t = rw (p .slots, s .count) (dwords-part (lineDwords t) out) in
     record {
@@ -245,9 +247,9 @@ parsed-entry t out {exit} {e} p =
     }
 
 -- a refusal is the first number that applies, and no slot is touched
-pub parsed-refused : (t out : List ℕ) {exit : List ℕ} {k : ℕ} → Parsed t out exit (A.Refused k) → Applies t (length out) k × (exit ≡ out)
+pub parsed-refused : (pieces : Pieces) (t out : List ℕ) {exit : List ℕ} {k : ℕ} → Parsed pieces t out exit (A.Refused k) → Applies pieces t (length out) k × (exit ≡ out)
 unfolding slotsBy
-parsed-refused t out p = (line-number-exactly t (length out) _ .0 (sym (p .answer)), p .slots)
+parsed-refused pieces t out p = (line-number-exactly pieces t (length out) _ .0 (sym (p .answer)), p .slots)
 
 -- two answers that tell the same are the same
 pub one-line-answer : (a b : Answer) → answerTold a ≡ answerTold b → a ≡ b
@@ -258,7 +260,7 @@ one-line-answer = fixed-by-told answerTold (by-cases A.Entry (A.Refused 0) A.Ref
     same (A.Refused k) = refl
 
 -- no second answer satisfies the contract, slots included
-pub no-second-answer : (t out : List ℕ) {exit exit′ : List ℕ} {r r′ : Answer} → Parsed t out exit r → Parsed t out exit′ r′ → (r ≡ r′) × (exit ≡ exit′)
-no-second-answer t out {exit} {exit′} {r} {r′} a b =
+pub no-second-answer : (pieces : Pieces) (t out : List ℕ) {exit exit′ : List ℕ} {r r′ : Answer} → Parsed pieces t out exit r → Parsed pieces t out exit′ r′ → (r ≡ r′) × (exit ≡ exit′)
+no-second-answer pieces t out {exit} {exit′} {r} {r′} a b =
     let same : answerTold r ≡ answerTold r′ = a .answer ∙ sym (b .answer) in
     (one-line-answer r r′ same, a .slots ∙ rw same (sym (b .slots)))

@@ -1,11 +1,11 @@
 -- The line grammar, in document 01's order: a text belongs to it with the entry that it says. No search stands here: where the document
--- says "first" or "last", the record says that nothing fits before or after.
-use Prim.Native.Nat.{ℕ, _-_, _^_, _≤_, _<_}
+-- says "first" or "last", the record says that nothing fits before or after. It is one grammar over document 02's choice: `Line Strict`, `Line Lenient`.
+use Prim.Native.Nat.{ℕ, _+_, _-_, _^_, _≤_, _<_}
 use mathlib.Core.Path.{_≡_}
 use mathlib.Core.Bool.{Bool, true, false, cond}
 use mathlib.Core.List.{List}
 use mathlib.Core.Option.{Option, some, none}
-use lib.Dec.{eqb}
+use lib.Dec.{ltb, eqb}
 use lib.ListN.{length}
 use Rattle.text.specs.Number.{Decimal, HexNumber}
 use Rattle.text.specs.Quote.{bytes}
@@ -16,7 +16,9 @@ use Rattle.header.specs.Cpu.{Cpu}
 use Rattle.header.specs.Stamp.{Timestamp}
 use Rattle.header.specs.Function.{Function}
 use Rattle.pairs.specs.Pair.{part, LastPair, WithoutEquals}
-use Rattle.pairs.specs.Data.{Data}
+use Rattle.pairs.specs.Data.{BadAmong, Data}
+use Rattle.scan.specs.declared.Pieces.{Pieces}
+use Rattle.scan.specs.declared.Pieces.the-variants.{Strict, Lenient}
 use Rattle.scan.specs.Frame.{Idle, High, Split}
 
 -- the last pair of a key has this text as its value
@@ -60,8 +62,19 @@ pub record Dwords (p ds : List ℕ) : Type 0 where
   pub found : KeyText p (bytes "data") value
   pub brackets : Data value ds
 
+-- a piece of `data` is not 32-bit hex
+pub record BadPiece (p : List ℕ) : Type 0 where
+  pub dwords : List ℕ
+  pub are : Dwords p dwords
+  pub piece : BadAmong (are .brackets .pieces)
+
+-- what the choice refuses: strict a payload with a bad piece, lenient none
+abbrev pub BadFor : Pieces → List ℕ → Type 0
+BadFor Strict p = BadPiece p
+BadFor Lenient p = ⊥
+
 -- a line and what it says
-pub record Line (t : List ℕ) (v : EntryValue) : Type 0 where
+pub record Line (pieces : Pieces) (t : List ℕ) (v : EntryValue) : Type 0 where
   pub busy : Idle t → ⊥
   pub short : length t ≤ 4096
   pub ascii : High t → ⊥
@@ -87,6 +100,7 @@ pub record Line (t : List ℕ) (v : EntryValue) : Type 0 where
   pub seq : Optional (KeyDecimal payload (bytes "seq") (2 ^ 8 - 1)) (v .seq)
   pub unplug : Optional (KeyHex payload (bytes "unplug") (2 ^ 8 - 1)) (v .unplug)
   pub dwords : Dwords payload (v .dwords)
+  pub good : BadFor pieces payload → ⊥
   pub few : length (v .dwords) ≤ 256
 
 -- nothing that header and payload of the line could be has it
@@ -112,10 +126,10 @@ pub record Stamped (header : List ℕ) : Type 0 where
   pub microseconds : ℕ
   pub timestamp : Timestamp header seconds microseconds
 
--- when a number applies, given the number of slots: the table of document 01; no other number does. From 5 on the conditions speak of
--- the header and payload, so without a colon some hold of nothing: 4 comes first there
-unfoldable pub Condition : List ℕ → ℕ → ℕ → Type 0
-Condition t room k =
+-- when a number applies, given the choice and the number of slots: the table of document 01, and 18 of document 02; no other number does. From 5 on
+-- the conditions speak of the header and payload, so without a colon some hold of nothing: 4 comes first there
+unfoldable pub Condition : Pieces → List ℕ → ℕ → ℕ → Type 0
+Condition pieces t room k =
     cond (eqb k 1) (Idle t)
     (cond (eqb k 2) (4096 < length t)
     (cond (eqb k 3) (High t)
@@ -131,9 +145,14 @@ Condition t room k =
     (cond (eqb k 13) (Missing t (λ (h p : List ℕ) (v : ℕ). KeyDecimal p (bytes "domain") (2 ^ 32 - 1) v))
     (cond (eqb k 14) (Missing t (λ (h p : List ℕ) (v : ℕ). KeyHex p (bytes "route") (2 ^ 64 - 1) v))
     (cond (eqb k 15) (Missing t (λ (h p ds : List ℕ). Dwords p ds))
-    (cond (eqb k 16) (Has t (MoreThan 256)) (cond (eqb k 17) (Has t (MoreThan room)) ⊥))))))))))))))))
+    (cond (eqb k 18) (Has t (BadFor pieces))
+    (cond (eqb k 16) (Has t (MoreThan 256)) (cond (eqb k 17) (Has t (MoreThan room)) ⊥)))))))))))))))))
 
--- a number is the answer when it applies and no earlier one does
-pub record Applies (t : List ℕ) (room k : ℕ) : Type 0 where
-  pub holds : Condition t room k
-  pub first : (j : ℕ) → j < k → Condition t room j → ⊥
+-- where a number stands among the checks: in number order, but 18 after 15 and before 16
+unfoldable pub orderOf : ℕ → ℕ
+orderOf k = cond (eqb k 18) 16 (cond (ltb k 16) k (k + 1))
+
+-- a number is the answer when it applies and no number of an earlier check does
+pub record Applies (pieces : Pieces) (t : List ℕ) (room k : ℕ) : Type 0 where
+  pub holds : Condition pieces t room k
+  pub first : (j : ℕ) → orderOf j < orderOf k → Condition pieces t room j → ⊥

@@ -10,6 +10,7 @@ use Rattle.entry.specs.declared.Entry.{Entry}
 use Rattle.pairs.specs.Data.{filled}
 use Rattle.scan.specs.declared.head.Head.{Head}
 use Rattle.scan.specs.declared.body.Body.{Body}
+use Rattle.scan.specs.declared.Pieces.{Pieces}
 use Rattle.scan.specs.declared.Answer.{Answer}
 use Rattle.scan.specs.declared.Answer.the-variants as A
 use Rattle.scan.specs.Frame.{frameOf}
@@ -61,33 +62,33 @@ unfoldable pub withData : List ℕ → ℕ → Head → Body → Told ℕ → To
 withData header start head body got = andThen got (λ n. is (entryOf start (length header) head body n))
 
 -- with the payload
-unfoldable pub withBody : List ℕ → ℕ → Head → List ℕ → ℕ → Told Body → Told Entry
-withBody header start head payload room got =
-    andThen got (λ body. withData header start head body (dataAnswer payload room))
+unfoldable pub withBody : Pieces → List ℕ → ℕ → Head → List ℕ → ℕ → Told Body → Told Entry
+withBody pieces header start head payload room got =
+    andThen got (λ body. withData header start head body (dataAnswer pieces payload room))
 
 -- header and payload, given what the header says
-unfoldable pub payloadAnswer : List ℕ → ℕ → Head → List ℕ → ℕ → Told Entry
-payloadAnswer header start head payload room =
-    withBody header start head payload room (bodyOf payload (drop (head .function) header))
+unfoldable pub payloadAnswer : Pieces → List ℕ → ℕ → Head → List ℕ → ℕ → Told Entry
+payloadAnswer pieces header start head payload room =
+    withBody pieces header start head payload room (bodyOf payload (drop (head .function) header))
 
 -- with the header
-unfoldable pub withHead : List ℕ → ℕ → ℕ → Told Head → Told Entry
-withHead t colon room got =
-    andThen got (λ head. payloadAnswer (headerOf t colon) (startOf t colon) head (payloadOf t colon) room)
+unfoldable pub withHead : Pieces → List ℕ → ℕ → ℕ → Told Head → Told Entry
+withHead pieces t colon room got =
+    andThen got (λ head. payloadAnswer pieces (headerOf t colon) (startOf t colon) head (payloadOf t colon) room)
 
 -- a line parted at a colon
-unfoldable pub partedAnswer : List ℕ → ℕ → ℕ → Told Entry
-partedAnswer t colon room = withHead t colon room (headOf (headerOf t colon))
+unfoldable pub partedAnswer : Pieces → List ℕ → ℕ → ℕ → Told Entry
+partedAnswer pieces t colon room = withHead pieces t colon room (headOf (headerOf t colon))
 
 -- with the frame
-unfoldable pub withFrame : List ℕ → ℕ → Told ℕ → Told Entry
-withFrame t room got = andThen got (λ colon. partedAnswer t colon room)
+unfoldable pub withFrame : Pieces → List ℕ → ℕ → Told ℕ → Told Entry
+withFrame pieces t room got = andThen got (λ colon. partedAnswer pieces t colon room)
 
--- what is told of a line, given the number of slots: the first number that applies, else the entry
-unfoldable pub parseOf : List ℕ → ℕ → Told Entry
-parseOf t room = withFrame t room (frameOf t)
+-- what is told of a line, given the choice and the number of slots: the first number that applies, else the entry
+unfoldable pub parseOf : Pieces → List ℕ → ℕ → Told Entry
+parseOf pieces t room = withFrame pieces t room (frameOf t)
 
--- the dwords that a line would hand over
+-- the dwords that a line would hand over, whatever the choice
 unfoldable pub dwordsBy : List ℕ → Told ℕ → List ℕ
 dwordsBy t (is k) = orEmpty (payloadData (payloadOf t k))
 dwordsBy t absent = []
@@ -110,16 +111,16 @@ slotsBy absent ds out = out
 slotsBy (refused k) ds out = out
 
 -- the answer, and each slot
-pub record Parsed (t out exit : List ℕ) (r : Answer) : Type 0 where
-  pub answer : answerTold r ≡ parseOf t (length out)
+pub record Parsed (pieces : Pieces) (t out exit : List ℕ) (r : Answer) : Type 0 where
+  pub answer : answerTold r ≡ parseOf pieces t (length out)
   pub slots : exit ≡ slotsBy (answerTold r) (lineDwords t) out
 
 -- the same of a line parted at a colon
-pub record PartedRead (t : List ℕ) (colon : ℕ) (out exit : List ℕ) (r : Answer) : Type 0 where
-  pub answer : answerTold r ≡ partedAnswer t colon (length out)
+pub record PartedRead (pieces : Pieces) (t : List ℕ) (colon : ℕ) (out exit : List ℕ) (r : Answer) : Type 0 where
+  pub answer : answerTold r ≡ partedAnswer pieces t colon (length out)
   pub slots : exit ≡ slotsBy (answerTold r) (orEmpty (payloadData (payloadOf t colon))) out
 
 -- the same of a header that was read and a payload
-pub record PayloadRead (header : List ℕ) (start : ℕ) (head : Head) (payload out exit : List ℕ) (r : Answer) : Type 0 where
-  pub answer : answerTold r ≡ payloadAnswer header start head payload (length out)
+pub record PayloadRead (pieces : Pieces) (header : List ℕ) (start : ℕ) (head : Head) (payload out exit : List ℕ) (r : Answer) : Type 0 where
+  pub answer : answerTold r ≡ payloadAnswer pieces header start head payload (length out)
   pub slots : exit ≡ slotsBy (answerTold r) (orEmpty (payloadData payload)) out

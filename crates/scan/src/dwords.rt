@@ -1,23 +1,25 @@
-// A payload's dwords into the lent slots: numbers 15 to 17.
-use pairs::dwords::fill_dwords;
+// A payload's dwords into the lent slots: numbers 15, 18, 16 and 17.
+use crate::Pieces;
+use pairs::dwords::count_pieces;
 use pairs::dwords::inside;
+use pairs::dwords::write_dwords;
 use pairs::pair::Span;
 use pairs::pair::last_pair;
+use refusal::BAD_PIECE;
 use refusal::FEW_SLOTS;
 use refusal::MANY_DWORDS;
 use refusal::NO_DATA;
 ghost use mathlib.Core.Path.{_≡_};
-ghost use Prim.Native.Nat.{min};
-ghost use Rattle.scan.specs.Dwords.{DataRead};
+ghost use Rattle.scan.specs.Dwords.{refuses, DataRead};
 
 pub enum DataAnswer {
     Got(usize),
     Refused(u8),
 }
 
-// No more than 256 slots are ever lent on, so that too many dwords fill none of them.
-pub fn read_data(p: &[u8], slots: &mut [u32]) -> DataAnswer
-    ensures { λ r. ⌜ DataRead (now (p .entry)) (now (slots .entry)) (now (slots .exit)) r ⌝ }
+// All is judged before the first dword is written.
+pub fn read_data(p: &[u8], pieces: Pieces, slots: &mut [u32]) -> DataAnswer
+    ensures { λ r. ⌜ DataRead pieces (now (p .entry)) (now (slots .entry)) (now (slots .exit)) r ⌝ }
 {
     let Span::At { from, to } = last_pair(p, b"data") else {
         return DataAnswer::Refused(NO_DATA);
@@ -30,23 +32,27 @@ pub fn read_data(p: &[u8], slots: &mut [u32]) -> DataAnswer
     else {
         return DataAnswer::Refused(NO_DATA);
     };
-    let lent = slots.len();
-    let room = least(lent, 256);
-    let count = fill_dwords(&value[first..end], &mut slots[..room]);
-    if 256 < count {
+    let inner = &value[first..end];
+    let tally = count_pieces(inner);
+    if refuse_bad(pieces, tally.bad) {
+        return DataAnswer::Refused(BAD_PIECE);
+    }
+    if 256 < tally.dwords {
         return DataAnswer::Refused(MANY_DWORDS);
     }
-    if lent < count {
+    if slots.len() < tally.dwords {
         return DataAnswer::Refused(FEW_SLOTS);
     }
-    DataAnswer::Got(count)
+    write_dwords(inner, slots);
+    DataAnswer::Got(tally.dwords)
 }
 
-fn least(a: usize, b: usize) -> usize
-    ensures { λ r. ⌜ r ≡ min a b ⌝ }
+// What becomes of a line, by whether a piece of its data is bad.
+fn refuse_bad(pieces: Pieces, bad: bool) -> bool
+    ensures { λ r. ⌜ r ≡ refuses pieces bad ⌝ }
 {
-    if a < b {
-        return a;
+    match pieces {
+        Pieces::Strict => bad,
+        Pieces::Lenient => false,
     }
-    b
 }

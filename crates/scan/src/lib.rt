@@ -28,21 +28,27 @@ pub enum Answer {
     Refused(u8),
 }
 
+// What becomes of a line with a piece of `data` that is not 32-bit hex: strict refuses it (18), lenient leaves the piece out.
+pub enum Pieces {
+    Strict,
+    Lenient,
+}
+
 // The entry of a line, its dwords in the first slots; or the first number that applies, with no slot touched. The entry's task and
 // function are places in this line.
-pub fn parse(line: &[u8], slots: &mut [u32]) -> Answer
-    ensures { λ r. ⌜ Parsed (now (line .entry)) (now (slots .entry)) (now (slots .exit)) r ⌝ }
+pub fn parse(line: &[u8], pieces: Pieces, slots: &mut [u32]) -> Answer
+    ensures { λ r. ⌜ Parsed pieces (now (line .entry)) (now (slots .entry)) (now (slots .exit)) r ⌝ }
 {
     match read_frame(line) {
-        FrameAnswer::Colon(colon) => parse_parted(line, colon, slots),
+        FrameAnswer::Colon(colon) => parse_parted(line, colon, pieces, slots),
         FrameAnswer::Refused(number) => Answer::Refused(number),
     }
 }
 
 // The line parted at its last colon: the header first.
-fn parse_parted(line: &[u8], colon: usize, slots: &mut [u32]) -> Answer
+fn parse_parted(line: &[u8], colon: usize, pieces: Pieces, slots: &mut [u32]) -> Answer
     requires { ⌜ colon < length (now line) ⌝ }
-    ensures { λ r. ⌜ PartedRead (now (line .entry)) colon (now (slots .entry)) (now (slots .exit)) r ⌝ }
+    ensures { λ r. ⌜ PartedRead pieces (now (line .entry)) colon (now (slots .entry)) (now (slots .exit)) r ⌝ }
 {
     let front = &line[..colon];
     let header = strip(front);
@@ -51,7 +57,7 @@ fn parse_parted(line: &[u8], colon: usize, slots: &mut [u32]) -> Answer
             let start = run_end(front, Class::Blank, 0);
             let behind = colon + 1;
             let payload = strip(&line[behind..]);
-            parse_payload(header, start, head, payload, slots)
+            parse_payload(header, start, head, payload, pieces, slots)
         }
         HeadAnswer::Refused(number) => Answer::Refused(number),
     }
@@ -63,14 +69,15 @@ fn parse_payload(
     start: usize,
     head: Head,
     payload: &[u8],
+    pieces: Pieces,
     slots: &mut [u32],
 ) -> Answer
     requires { ⌜ (head .function ≤ length (now header)) × (start + length (now header) < 2 ^ 64) ⌝ }
-    ensures { λ r. ⌜ PayloadRead (now (header .entry)) start head (now (payload .entry)) (now (slots .entry)) (now (slots .exit)) r ⌝ }
+    ensures { λ r. ⌜ PayloadRead pieces (now (header .entry)) start head (now (payload .entry)) (now (slots .entry)) (now (slots .exit)) r ⌝ }
 {
     let from = head.function;
     match read_body(payload, &header[from..]) {
-        BodyAnswer::Got(body) => match read_data(payload, slots) {
+        BodyAnswer::Got(body) => match read_data(payload, pieces, slots) {
             DataAnswer::Got(dwords) => Answer::Entry(assemble(
                 start,
                 header.len(),

@@ -23,10 +23,10 @@ same-length : tie.Need-same-length
 same-length c = search needs
 
 returns : tie.Need-returns
-returns c = line-read _ _ (sym (c .before .before .before .before .before .before .before .read-frame .ensures) ∙ ap frameTold (c .before .before .before .before .before .colon .given .1)) (c .before .before .parse-parted .ensures)
+returns c = line-read _ _ _ (sym (c .before .before .before .before .before .before .before .read-frame .ensures) ∙ ap frameTold (c .before .before .before .before .before .colon .given .1)) (c .before .before .parse-parted .ensures)
 
 returns-2 : tie.Need-returns-2
-returns-2 c = line-refused _ _ (sym (c .before .before .before .read-frame .ensures) ∙ ap frameTold (c .before .number .given .1))
+returns-2 c = line-refused _ _ _ (sym (c .before .before .before .read-frame .ensures) ∙ ap frameTold (c .before .number .given .1))
 
 pub parse-spec : {M : Type 1} → statement M
 parse-spec =

@@ -56,10 +56,10 @@ same-length c = search needs
 returns : tie.Need-returns
 unfolding inClass
 returns c =
-    parted-read _ _ _ (ap headOf (sym (c .before .before .before .before .before .before .before .before .before .before .before .strip .ensures .is)) ∙ sym (c .before .before .before .before .before .before .before .before .before .before .read-head .ensures) ∙ ap headTold (c .before .before .before .before .before .before .before .before .head .given .1)) (payload-same (c .before .before .before .before .before .before .before .before .before .before .before .strip .ensures .is) (c .before .before .before .before .before .before .run-end .ensures .is) (c .before .before .before .before .strip2 .ensures .is ∙ ap stripped (rest-is (c .before .before .before .before .before .before .before .before .before .before .before .before .before .before .before .args .colon + 1) (c .before .before .before .before .before .before .before .before .before .before .before .before .before .before .before .args .line .now))) (c .before .before .parse-payload .ensures))
+    parted-read _ _ _ _ (ap headOf (sym (c .before .before .before .before .before .before .before .before .before .before .before .strip .ensures .is)) ∙ sym (c .before .before .before .before .before .before .before .before .before .before .read-head .ensures) ∙ ap headTold (c .before .before .before .before .before .before .before .before .head .given .1)) (payload-same (c .before .before .before .before .before .before .before .before .before .before .before .strip .ensures .is) (c .before .before .before .before .before .before .run-end .ensures .is) (c .before .before .before .before .strip2 .ensures .is ∙ ap stripped (rest-is (c .before .before .before .before .before .before .before .before .before .before .before .before .before .before .before .args .colon + 1) (c .before .before .before .before .before .before .before .before .before .before .before .before .before .before .before .args .line .now))) (c .before .before .parse-payload .ensures))
 
 returns-2 : tie.Need-returns-2
-returns-2 c = parted-refused _ _ _ (ap headOf (sym (c .before .before .before .before .strip .ensures .is)) ∙ sym (c .before .before .before .read-head .ensures) ∙ ap headTold (c .before .number .given .1))
+returns-2 c = parted-refused _ _ _ _ (ap headOf (sym (c .before .before .before .before .strip .ensures .is)) ∙ sym (c .before .before .before .read-head .ensures) ∙ ap headTold (c .before .number .given .1))
 
 pub parse-parted-spec : {M : Type 1} → statement M
 parse-parted-spec =

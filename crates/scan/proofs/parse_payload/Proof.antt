@@ -42,18 +42,18 @@ same-length c = search needs
 
 returns : tie.Need-returns
 returns c =
-    payload-read _ _ _ _ _ (ap (bodyOf _) (sym (rest-is (c .before .before .before .before .before .before .before .before .before .before .before .before .before .before .before .before .args .head .function) (c .before .before .before .before .before .before .before .before .before .before .before .before .before .before .before .before .args .header .now))) ∙ sym (c .before .before .before .before .before .before .before .before .before .before .before .read-body .ensures) ∙ ap bodyTold (c .before .before .before .before .before .before .before .before .before .body .given .1)) (c .before .before .before .before .before .before .read-data .ensures) (c .before .before .dwords .given .1) (c .assemble .ensures)
+    payload-read _ _ _ _ _ _ (ap (bodyOf _) (sym (rest-is (c .before .before .before .before .before .before .before .before .before .before .before .before .before .before .before .before .args .head .function) (c .before .before .before .before .before .before .before .before .before .before .before .before .before .before .before .before .args .header .now))) ∙ sym (c .before .before .before .before .before .before .before .before .before .before .before .read-body .ensures) ∙ ap bodyTold (c .before .before .before .before .before .before .before .before .before .body .given .1)) (c .before .before .before .before .before .before .read-data .ensures) (c .before .before .dwords .given .1) (c .assemble .ensures)
 
 same-length-2 : tie.Need-same-length-2
 same-length-2 c = search needs
 
 returns-2 : tie.Need-returns-2
 returns-2 c =
-    data-refused _ _ _ _ _ (ap (bodyOf _) (sym (rest-is (c .before .before .before .before .before .before .before .before .before .before .before .before .before .before .before .args .head .function) (c .before .before .before .before .before .before .before .before .before .before .before .before .before .before .before .args .header .now))) ∙ sym (c .before .before .before .before .before .before .before .before .before .before .read-body .ensures) ∙ ap bodyTold (c .before .before .before .before .before .before .before .before .body .given .1)) (c .before .before .before .before .before .read-data .ensures) (c .before .number .given .1)
+    data-refused _ _ _ _ _ _ (ap (bodyOf _) (sym (rest-is (c .before .before .before .before .before .before .before .before .before .before .before .before .before .before .before .args .head .function) (c .before .before .before .before .before .before .before .before .before .before .before .before .before .before .before .args .header .now))) ∙ sym (c .before .before .before .before .before .before .before .before .before .before .read-body .ensures) ∙ ap bodyTold (c .before .before .before .before .before .before .before .before .body .given .1)) (c .before .before .before .before .before .read-data .ensures) (c .before .number .given .1)
 
 returns-3 : tie.Need-returns-3
 returns-3 c =
-    payload-refused _ _ _ _ _ (ap (bodyOf _) (sym (rest-is (c .before .before .before .before .before .before .before .before .args .head .function) (c .before .before .before .before .before .before .before .before .args .header .now))) ∙ sym (c .before .before .before .read-body .ensures) ∙ ap bodyTold (c .before .number2 .given .1))
+    payload-refused _ _ _ _ _ _ (ap (bodyOf _) (sym (rest-is (c .before .before .before .before .before .before .before .before .args .head .function) (c .before .before .before .before .before .before .before .before .args .header .now))) ∙ sym (c .before .before .before .read-body .ensures) ∙ ap bodyTold (c .before .number2 .given .1))
 
 pub parse-payload-spec : {M : Type 1} → statement M
 parse-payload-spec =

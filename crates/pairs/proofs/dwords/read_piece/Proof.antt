@@ -2,7 +2,7 @@
 use Prim.Native.Nat.{_^_, _-_}
 use mathlib.Core.Path.{sym, ap, _∙_}
 use Rattle.text.specs.Number.{readValue}
-use Rattle.pairs.proofs.Slots.{piece-dword, piece-left-out, hex-fits}
+use Rattle.pairs.proofs.Slots.{piece-dword, piece-bad, hex-fits}
 use native.Mathlib.Omega.{arith}
 use borrow.Author.Needs.{needs}
 use Rattle.pairs.proofs.dwords.read_piece.Statement.{statement}
@@ -27,7 +27,7 @@ returns : tie.Need-returns
 returns c = piece-dword _ (sym (ap readValue (c .before .before .before .before .hex .ensures)) ∙ sym (c .before .before .before .value-of .ensures) ∙ c .before .v .given .1)
 
 returns-2 : tie.Need-returns-2
-returns-2 c = piece-left-out _ (sym (ap readValue (c .before .before .before .hex .ensures)) ∙ sym (c .before .before .value-of .ensures) ∙ c .enum-told .given .1)
+returns-2 c = piece-bad _ (sym (ap readValue (c .before .before .before .hex .ensures)) ∙ sym (c .before .before .value-of .ensures) ∙ c .enum-told .given .1)
 
 pub read-piece-spec : {M : Type 1} → statement M
 read-piece-spec =

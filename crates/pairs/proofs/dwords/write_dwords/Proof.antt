@@ -3,7 +3,7 @@ use mathlib.Core.Path.{_≡_, refl, sym, ap, _∙_}
 use Prim.Native.Nat.{_-_, _<_}
 use lib.ListN.{length, take}
 use mathlib.Core.Logic.{⊎-elim}
-use Rattle.pairs.proofs.Slots.{Before, UpTo, before-starts, before-next, up-to-left-out, up-to-dword, dword-slot, dword-value, filled-more, filled-length, filled-all}
+use Rattle.pairs.proofs.Slots.{Before, UpTo, before-starts, before-next, up-to-bad, up-to-dword, dword-slot, dword-value, filled-more, filled-length, filled-all}
 use Rattle.pairs.specs.Data.{dwordsOf, filled}
 use borrow.Author.Needs.{needs}
 use native.Mathlib.Omega.{arith}
@@ -103,7 +103,7 @@ written c =
     ))
     (λ w. (
       rw (w .3)
-          (up-to-left-out _ (c .before .before .before .before .loop .inv .0)
+          (up-to-bad _ (c .before .before .before .before .loop .inv .0)
           (c .before .before .before .piece-end .ensures .is) (c .before .before .before .piece-end .ensures .up)
           (c .before .before .before .piece-end .ensures .within)
           (sym (w .1 .given .1) ∙ c .before .read-piece .ensures)),

@@ -1,12 +1,10 @@
--- `dwords::read_data` meets its contract: the dwords of the brackets go into the first slots, or none do. Assumes nothing.
-use Rattle.pairs.specs.Data.{dwordsOf}
-use Rattle.pairs.specs.Pair.{part}
-use Rattle.scan.proofs.Stages.{data-missing, data-unbracketed, data-there, data-many, data-crowded, data-got, part-kept, part-filled}
-use Rattle.pairs.specs.Data.{dwordsOf}
-use lib.ListN.{drop, length-append, length-take, length-drop}
-use Prim.Native.Nat.{ℕ}
-use mathlib.Core.List.{List, _++_}
-use mathlib.Core.Path.{sym, ap, _∙_}
+-- `dwords::read_data` meets its contract: all is judged by the count of the pieces before a dword is written. Assumes nothing.
+use Rattle.scan.proofs.Stages.{data-missing, data-unbracketed, data-there, bad-there, data-bad, data-many, data-crowded, data-got}
+use Rattle.pairs.specs.Data.{insideOf, dwordsOf}
+use Rattle.pairs.specs.Pair.{part, lastPair}
+use Rattle.pairs.specs.declared.pair.Span.the-variants.{At}
+use Rattle.text.specs.Quote.{bytes}
+use mathlib.Core.Path.{_≡_, sym, _∙_}
 use native.Mathlib.Omega.{arith}
 use borrow.Author.Needs.{needs}
 use Rattle.scan.proofs.dwords.read_data.Statement.{statement}
@@ -25,7 +23,7 @@ enum-told : tie.Need-enum-told
 enum-told c = search needs
 
 returns : tie.Need-returns
-returns c = data-missing _ _ (sym (c .before .before .last-pair .ensures .is) ∙ c .enum-told .given .1)
+returns c = data-missing _ _ _ (sym (c .before .before .last-pair .ensures .is) ∙ c .enum-told .given .1)
 
 sub-value : tie.Need-sub-value
 sub-value c = omega (arith, c .before .before .before .last-pair .ensures .within _ _ (c .before .from .given .1))
@@ -46,53 +44,40 @@ enum-told-2 : tie.Need-enum-told-2
 enum-told-2 c = search needs
 
 returns-2 : tie.Need-returns-2
-returns-2 c =
-    data-unbracketed _ _ (sym (c .before .before .before .before .before .before .before .last-pair .ensures .is) ∙ c .before .before .before .before .before .from .given .1) (sym (c .before .before .inside .ensures .is) ∙ c .enum-told2 .given .1)
+returns-2 c = data-unbracketed _ _ _ (sym (c .before .before .before .before .before .before .before .last-pair .ensures .is) ∙ c .before .before .before .before .before .from .given .1) (sym (c .before .before .inside .ensures .is) ∙ c .enum-told2 .given .1)
 
-least-requires : tie.Need-least-requires
-least-requires c κs = search needs
+sub-inner : tie.Need-sub-inner
+sub-inner c = omega (arith, c .before .before .before .inside .ensures .within _ _ (c .before .first .given .1))
 
-sub-fill-dwords : tie.Need-sub-fill-dwords
-sub-fill-dwords c = omega (arith, c .before .before .before .before .inside .ensures .within _ _ (c .before .before .first .given .1))
+part-inner-start : tie.Need-part-inner-start
+part-inner-start c = omega (arith, c .before .before .before .inside .ensures .within _ _ (c .before .first .given .1))
 
-part-fill-dwords-start : tie.Need-part-fill-dwords-start
-part-fill-dwords-start c = omega (arith, c .before .before .before .before .inside .ensures .within _ _ (c .before .before .first .given .1))
+part-inner-end : tie.Need-part-inner-end
+part-inner-end c = omega (arith, c .before .before .before .inside .ensures .within _ _ (c .before .first .given .1))
 
-part-fill-dwords-end : tie.Need-part-fill-dwords-end
-part-fill-dwords-end c = omega (arith, c .before .before .before .before .inside .ensures .within _ _ (c .before .before .first .given .1))
+count-pieces-requires : tie.Need-count-pieces-requires
+count-pieces-requires c κs = search needs
 
-slice-relend-prefix-fill-dwords : tie.Need-slice-relend-prefix-fill-dwords
-slice-relend-prefix-fill-dwords c = search needs
-
-slice-aggregate-fill-dwords : tie.Need-slice-aggregate-fill-dwords
-slice-aggregate-fill-dwords c = omega (arith, c .before .before .least .ensures, length-take (c .before .before .least .result) (c .before .before .before .before .before .before .before .before .before .before .before .before .before .before .before .args .slots .now))
-
-fill-dwords-requires : tie.Need-fill-dwords-requires
-fill-dwords-requires c κs = search needs
-
-same-length : tie.Need-same-length
-same-length c =
-    omega (arith, length-append (c .before .before .before .fill-dwords .last .1 .0) (drop (c .before .before .before .before .before .before .least .result) (c .before .before .before .before .before .before .before .before .before .before .before .before .before .before .before .before .before .before .before .args .slots .now)), length-drop (c .before .before .before .before .before .before .least .result) (c .before .before .before .before .before .before .before .before .before .before .before .before .before .before .before .before .before .before .before .args .slots .now), length-take (c .before .before .before .before .before .before .least .result) (c .before .before .before .before .before .before .before .before .before .before .before .before .before .before .before .before .before .before .before .args .slots .now), c .before .before .before .fill-dwords .kept .1 .0, c .before .before .before .before .before .before .least .ensures)
+refuse-bad-requires : tie.Need-refuse-bad-requires
+refuse-bad-requires c κs = search needs
 
 returns-3 : tie.Need-returns-3
-returns-3 c =
-    data-many _ _ _ (data-there _ (c .before .before .before .before .before .before .before .before .before .before .before .before .before .before .before .before .before .before .before .args .slots .now) (sym (c .before .before .before .before .before .before .before .before .before .before .before .before .before .before .before .last-pair .ensures .is) ∙ c .before .before .before .before .before .before .before .before .before .before .before .before .before .from .given .1) (sym (c .before .before .before .before .before .before .before .before .before .before .inside .ensures .is) ∙ c .before .before .before .before .before .before .before .before .first .given .1)) _ (omega (arith, c .before .before .before .fill-dwords .ensures .count, c .if1 .taken)) (ap (λ (l : List ℕ). l ++ drop (c .before .before .before .before .before .before .least .result) (c .before .before .before .before .before .before .before .before .before .before .before .before .before .before .before .before .before .before .before .args .slots .now)) (c .before .before .before .fill-dwords .ensures .slots) ∙ part-kept (dwordsOf (part (part (c .before .before .before .before .before .before .before .before .before .before .before .before .before .before .before .before .before .before .before .args .p .now) (c .before .before .before .before .before .before .before .before .before .before .before .before .before .from .given .0 .0) (c .before .before .before .before .before .before .before .before .before .before .before .before .before .from .given .0 .1 .0)) (c .before .before .before .before .before .before .before .before .first .given .0 .0) (c .before .before .before .before .before .before .before .before .first .given .0 .1 .0))) (c .before .before .before .before .before .before .before .before .before .before .before .before .before .before .before .before .before .before .before .args .slots .now) (c .before .before .before .before .before .before .least .result) (omega (arith, c .before .before .before .before .before .before .least .ensures)) (omega (arith, c .before .before .before .before .before .before .least .ensures, c .before .before .before .fill-dwords .ensures .count, c .if1 .taken)))
-
-same-length-2 : tie.Need-same-length-2
-same-length-2 c =
-    omega (arith, length-append (c .before .before .before .before .fill-dwords .last .1 .0) (drop (c .before .before .before .before .before .before .before .least .result) (c .before .before .before .before .before .before .before .before .before .before .before .before .before .before .before .before .before .before .before .before .args .slots .now)), length-drop (c .before .before .before .before .before .before .before .least .result) (c .before .before .before .before .before .before .before .before .before .before .before .before .before .before .before .before .before .before .before .before .args .slots .now), length-take (c .before .before .before .before .before .before .before .least .result) (c .before .before .before .before .before .before .before .before .before .before .before .before .before .before .before .before .before .before .before .before .args .slots .now), c .before .before .before .before .fill-dwords .kept .1 .0, c .before .before .before .before .before .before .before .least .ensures)
+returns-3 c = data-bad _ _ _ _ (data-there (c .before .before .before .before .before .before .before .before .before .before .before .before .before .before .before .before .args .pieces) _ (c .before .before .before .before .before .before .before .before .before .before .before .before .before .before .before .before .args .slots .now) (sym (c .before .before .before .before .before .before .before .before .before .before .before .before .last-pair .ensures .is) ∙ c .before .before .before .before .before .before .before .before .before .before .from .given .1) (sym (c .before .before .before .before .before .before .before .inside .ensures .is) ∙ c .before .before .before .before .before .first .given .1)) ((bad-there (c .before .before .before .before .before .before .before .before .before .before .before .before .before .before .before .before .args .pieces) _ (c .before .before .before .before .before .before .before .before .before .before .before .before .before .before .before .before .args .slots .now) (sym (c .before .before .before .before .before .before .before .before .before .before .before .before .last-pair .ensures .is) ∙ c .before .before .before .before .before .before .before .before .before .before .from .given .1) (sym (c .before .before .before .before .before .before .before .inside .ensures .is) ∙ c .before .before .before .before .before .first .given .1) (c .before .before .count-pieces .ensures .bad-is) (c .before .refuse-bad .ensures)) ∙ c .if1 .taken)
 
 returns-4 : tie.Need-returns-4
-returns-4 c =
-    data-crowded _ _ _ (data-there _ (c .before .before .before .before .before .before .before .before .before .before .before .before .before .before .before .before .before .before .before .before .args .slots .now) (sym (c .before .before .before .before .before .before .before .before .before .before .before .before .before .before .before .before .last-pair .ensures .is) ∙ c .before .before .before .before .before .before .before .before .before .before .before .before .before .before .from .given .1) (sym (c .before .before .before .before .before .before .before .before .before .before .before .inside .ensures .is) ∙ c .before .before .before .before .before .before .before .before .before .first .given .1)) _ (omega (arith, c .before .before .before .before .fill-dwords .ensures .count, c .before .if1 .left)) (omega (arith, c .before .before .before .before .fill-dwords .ensures .count, c .if2 .taken)) (ap (λ (l : List ℕ). l ++ drop (c .before .before .before .before .before .before .before .least .result) (c .before .before .before .before .before .before .before .before .before .before .before .before .before .before .before .before .before .before .before .before .args .slots .now)) (c .before .before .before .before .fill-dwords .ensures .slots) ∙ part-kept (dwordsOf (part (part (c .before .before .before .before .before .before .before .before .before .before .before .before .before .before .before .before .before .before .before .before .args .p .now) (c .before .before .before .before .before .before .before .before .before .before .before .before .before .before .from .given .0 .0) (c .before .before .before .before .before .before .before .before .before .before .before .before .before .before .from .given .0 .1 .0)) (c .before .before .before .before .before .before .before .before .before .first .given .0 .0) (c .before .before .before .before .before .before .before .before .before .first .given .0 .1 .0))) (c .before .before .before .before .before .before .before .before .before .before .before .before .before .before .before .before .before .before .before .before .args .slots .now) (c .before .before .before .before .before .before .before .least .result) (omega (arith, c .before .before .before .before .before .before .before .least .ensures)) (omega (arith, c .before .before .before .before .before .before .before .least .ensures, c .before .before .before .before .fill-dwords .ensures .count, c .if2 .taken)))
-
-same-length-3 : tie.Need-same-length-3
-same-length-3 c =
-    omega (arith, length-append (c .before .before .before .before .fill-dwords .last .1 .0) (drop (c .before .before .before .before .before .before .before .least .result) (c .before .before .before .before .before .before .before .before .before .before .before .before .before .before .before .before .before .before .before .before .args .slots .now)), length-drop (c .before .before .before .before .before .before .before .least .result) (c .before .before .before .before .before .before .before .before .before .before .before .before .before .before .before .before .before .before .before .before .args .slots .now), length-take (c .before .before .before .before .before .before .before .least .result) (c .before .before .before .before .before .before .before .before .before .before .before .before .before .before .before .before .before .before .before .before .args .slots .now), c .before .before .before .before .fill-dwords .kept .1 .0, c .before .before .before .before .before .before .before .least .ensures)
+returns-4 c = data-many _ _ _ _ (data-there (c .before .before .before .before .before .before .before .before .before .before .before .before .before .before .before .before .before .before .args .pieces) _ (c .before .before .before .before .before .before .before .before .before .before .before .before .before .before .before .before .before .before .args .slots .now) (sym (c .before .before .before .before .before .before .before .before .before .before .before .before .before .before .last-pair .ensures .is) ∙ c .before .before .before .before .before .before .before .before .before .before .before .before .from .given .1) (sym (c .before .before .before .before .before .before .before .before .before .inside .ensures .is) ∙ c .before .before .before .before .before .before .before .first .given .1)) ((bad-there (c .before .before .before .before .before .before .before .before .before .before .before .before .before .before .before .before .before .before .args .pieces) _ (c .before .before .before .before .before .before .before .before .before .before .before .before .before .before .before .before .before .before .args .slots .now) (sym (c .before .before .before .before .before .before .before .before .before .before .before .before .before .before .last-pair .ensures .is) ∙ c .before .before .before .before .before .before .before .before .before .before .before .before .from .given .1) (sym (c .before .before .before .before .before .before .before .before .before .inside .ensures .is) ∙ c .before .before .before .before .before .before .before .first .given .1) (c .before .before .before .before .count-pieces .ensures .bad-is) (c .before .before .before .refuse-bad .ensures)) ∙ c .before .before .if1 .left) (omega (arith, c .before .before .before .before .count-pieces .ensures .dwords-are, c .if2 .taken))
 
 returns-5 : tie.Need-returns-5
-returns-5 c =
-    data-got _ _ _ (data-there _ (c .before .before .before .before .before .before .before .before .before .before .before .before .before .before .before .before .before .before .before .before .args .slots .now) (sym (c .before .before .before .before .before .before .before .before .before .before .before .before .before .before .before .before .last-pair .ensures .is) ∙ c .before .before .before .before .before .before .before .before .before .before .before .before .before .before .from .given .1) (sym (c .before .before .before .before .before .before .before .before .before .before .before .inside .ensures .is) ∙ c .before .before .before .before .before .before .before .before .before .first .given .1)) _ _ (c .before .before .before .before .fill-dwords .ensures .count) (omega (arith, c .before .before .before .before .fill-dwords .ensures .count, c .before .if1 .left)) (omega (arith, c .before .before .before .before .fill-dwords .ensures .count, c .if2 .left)) (ap (λ (l : List ℕ). l ++ drop (c .before .before .before .before .before .before .before .least .result) (c .before .before .before .before .before .before .before .before .before .before .before .before .before .before .before .before .before .before .before .before .args .slots .now)) (c .before .before .before .before .fill-dwords .ensures .slots) ∙ part-filled (dwordsOf (part (part (c .before .before .before .before .before .before .before .before .before .before .before .before .before .before .before .before .before .before .before .before .args .p .now) (c .before .before .before .before .before .before .before .before .before .before .before .before .before .before .from .given .0 .0) (c .before .before .before .before .before .before .before .before .before .before .before .before .before .before .from .given .0 .1 .0)) (c .before .before .before .before .before .before .before .before .before .first .given .0 .0) (c .before .before .before .before .before .before .before .before .before .first .given .0 .1 .0))) (c .before .before .before .before .before .before .before .before .before .before .before .before .before .before .before .before .before .before .before .before .args .slots .now) (c .before .before .before .before .before .before .before .least .result) (omega (arith, c .before .before .before .before .before .before .before .least .ensures)) (omega (arith, c .before .before .before .before .before .before .before .least .ensures, c .before .before .before .before .fill-dwords .ensures .count, c .before .if1 .left, c .if2 .left)))
+returns-5 c = data-crowded _ _ _ _ (data-there (c .before .before .before .before .before .before .before .before .before .before .before .before .before .before .before .before .before .before .before .before .args .pieces) _ (c .before .before .before .before .before .before .before .before .before .before .before .before .before .before .before .before .before .before .before .before .args .slots .now) (sym (c .before .before .before .before .before .before .before .before .before .before .before .before .before .before .before .before .last-pair .ensures .is) ∙ c .before .before .before .before .before .before .before .before .before .before .before .before .before .before .from .given .1) (sym (c .before .before .before .before .before .before .before .before .before .before .before .inside .ensures .is) ∙ c .before .before .before .before .before .before .before .before .before .first .given .1)) ((bad-there (c .before .before .before .before .before .before .before .before .before .before .before .before .before .before .before .before .before .before .before .before .args .pieces) _ (c .before .before .before .before .before .before .before .before .before .before .before .before .before .before .before .before .before .before .before .before .args .slots .now) (sym (c .before .before .before .before .before .before .before .before .before .before .before .before .before .before .before .before .last-pair .ensures .is) ∙ c .before .before .before .before .before .before .before .before .before .before .before .before .before .before .from .given .1) (sym (c .before .before .before .before .before .before .before .before .before .before .before .inside .ensures .is) ∙ c .before .before .before .before .before .before .before .before .before .first .given .1) (c .before .before .before .before .before .before .count-pieces .ensures .bad-is) (c .before .before .before .before .before .refuse-bad .ensures)) ∙ c .before .before .before .before .if1 .left) (omega (arith, c .before .before .before .before .before .before .count-pieces .ensures .dwords-are, c .before .before .if2 .left)) (omega (arith, c .before .before .before .before .before .before .count-pieces .ensures .dwords-are, c .if3 .taken))
+
+write-dwords-requires : tie.Need-write-dwords-requires
+write-dwords-requires c κs = omega (arith, c .before .before .before .before .before .before .before .count-pieces .ensures .dwords-are, c .before .if3 .left)
+
+same-length : tie.Need-same-length
+same-length c = search needs
+
+returns-6 : tie.Need-returns-6
+returns-6 c = data-got _ _ _ _ (data-there (c .before .before .before .before .before .before .before .before .before .before .before .before .before .before .before .before .before .before .before .before .before .before .before .before .args .pieces) _ (c .before .before .before .before .before .before .before .before .before .before .before .before .before .before .before .before .before .before .before .before .before .before .before .before .args .slots .now) (sym (c .before .before .before .before .before .before .before .before .before .before .before .before .before .before .before .before .before .before .before .before .last-pair .ensures .is) ∙ c .before .before .before .before .before .before .before .before .before .before .before .before .before .before .before .before .before .before .from .given .1) (sym (c .before .before .before .before .before .before .before .before .before .before .before .before .before .before .before .inside .ensures .is) ∙ c .before .before .before .before .before .before .before .before .before .before .before .before .before .first .given .1)) ((bad-there (c .before .before .before .before .before .before .before .before .before .before .before .before .before .before .before .before .before .before .before .before .before .before .before .before .args .pieces) _ (c .before .before .before .before .before .before .before .before .before .before .before .before .before .before .before .before .before .before .before .before .before .before .before .before .args .slots .now) (sym (c .before .before .before .before .before .before .before .before .before .before .before .before .before .before .before .before .before .before .before .before .last-pair .ensures .is) ∙ c .before .before .before .before .before .before .before .before .before .before .before .before .before .before .before .before .before .before .from .given .1) (sym (c .before .before .before .before .before .before .before .before .before .before .before .before .before .before .before .inside .ensures .is) ∙ c .before .before .before .before .before .before .before .before .before .before .before .before .before .first .given .1) (c .before .before .before .before .before .before .before .before .before .before .count-pieces .ensures .bad-is) (c .before .before .before .before .before .before .before .before .before .refuse-bad .ensures)) ∙ c .before .before .before .before .before .before .before .before .if1 .left) _ _ (c .before .before .before .before .before .before .before .before .before .before .count-pieces .ensures .dwords-are) (omega (arith, c .before .before .before .before .before .before .before .before .before .before .count-pieces .ensures .dwords-are, c .before .before .before .before .before .before .if2 .left)) (omega (arith, c .before .before .before .before .before .before .before .before .before .before .count-pieces .ensures .dwords-are, c .before .before .before .before .if3 .left)) (c .before .before .write-dwords .ensures)
 
 pub read-data-spec : {M : Type 1} → statement M
 read-data-spec =
@@ -110,16 +95,14 @@ read-data-spec =
     enum-known-first
     enum-told-2
     returns-2
-    least-requires
-    sub-fill-dwords
-    part-fill-dwords-start
-    part-fill-dwords-end
-    slice-relend-prefix-fill-dwords
-    slice-aggregate-fill-dwords
-    fill-dwords-requires
-    same-length
+    sub-inner
+    part-inner-start
+    part-inner-end
+    count-pieces-requires
+    refuse-bad-requires
     returns-3
-    same-length-2
     returns-4
-    same-length-3
-    returns-5)
+    returns-5
+    write-dwords-requires
+    same-length
+    returns-6)

@@ -54,6 +54,27 @@ past-order k = go (placed k)
     go (between x p) h = omega arith
     go (late x n p) h = omega (arith, n)
 
+-- 18 comes before no number up to 15, and only 16, 17 and it come behind 15
+pub early-order : (j k : ℕ) → k ≤ 15 → orderOf j < orderOf k → j ≡ 18 → ⊥
+early-order j k few l e = go (placed j) (placed k) l
+  where
+    go : {a b : ℕ} → Placed j a → Placed k b → a < b → ⊥
+    go (early x p) (early y q) l = omega arith
+    go (early x p) (between y q) l = omega arith
+    go (early x p) (late y n q) l = omega arith
+    go (between x p) (early y q) l = omega arith
+    go (between x p) (between y q) l = omega arith
+    go (between x p) (late y n q) l = omega arith
+    go (late x m p) y l = absurd (m e)
+
+pub late-order : (k : ℕ) → (orderOf k < 16 → ⊥) → (k ≡ 18 → ⊥) → 16 ≤ k
+late-order k l n = go (placed k) l
+  where
+    go : {a : ℕ} → Placed k a → (a < 16 → ⊥) → 16 ≤ k
+    go (early x p) l = absurd (l (omega arith))
+    go (between x p) l = absurd (n x)
+    go (late x m p) l = x
+
 module _ (pieces : Pieces) (t : List ℕ) (room : ℕ) where
   -- no number of a check before this one applies
   abbrev pub Clear : ℕ → Type 0

@@ -89,7 +89,7 @@ nothing : {X : Type 0} {o : Option X} {a : X} → o ≡ none → o ≡ some a �
 nothing e q = let z : _≡_ {A = ℕ} 0 1 = cc in omega arith
 
 -- the dwords of a payload
-dwords-are : (p : List ℕ) {ds : List ℕ} → payloadData p ≡ some ds → Dwords p ds
+pub dwords-are : (p : List ℕ) {ds : List ℕ} → payloadData p ≡ some ds → Dwords p ds
 unfolding payloadData
 dwords-are p {ds} e =
     let w = need-goes-on (textAt p (lastPair p (bytes "data"))) none dataOf e (λ q. nothing refl q) in

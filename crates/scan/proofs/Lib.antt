@@ -7,5 +7,6 @@ pub mod Values
 pub mod Chain
 pub mod Judged
 pub mod Theorems
+pub mod Choice
 pub mod Framed
 pub mod Cases

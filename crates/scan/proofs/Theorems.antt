@@ -43,7 +43,7 @@ same-header t {h} {p} {h′} {p′} a b =
     let c = split-colon t h p a in
     one-header t c a ∙ sym (one-header t c b)
 
-same-payload : (t : List ℕ) {h p h′ p′ : List ℕ} → Split t h p → Split t h′ p′ → p ≡ p′
+pub same-payload : (t : List ℕ) {h p h′ p′ : List ℕ} → Split t h p → Split t h′ p′ → p ≡ p′
 same-payload t {h} {p} {h′} {p′} a b =
     let c = split-colon t h p a in
     one-payload t c a ∙ sym (one-payload t c b)

@@ -6,3 +6,4 @@ pub mod Body
 pub mod Dwords
 pub mod Parse
 pub mod Line
+pub mod Choice

@@ -6,6 +6,7 @@ use mathlib.Core.List.{List}
 use lib.ListN.{length}
 use Rattle.text.specs.Told as T
 use Rattle.entry.specs.declared.Entry.{Entry}
+use Rattle.scan.specs.declared.Pieces.{Pieces}
 use Rattle.scan.specs.declared.Answer.{Answer}
 use Rattle.scan.specs.declared.Answer.the-variants as A
 use Rattle.scan.specs.Parse.{answerTold}
@@ -21,14 +22,14 @@ module _ (t : List ℕ) where
   unfolding grammarOf
   starts-line e = rw e
 
-  module _ {slots left : List ℕ} {r : Answer} (taken : Taken t slots left r) (lent : length slots ≡ 256) where
-    answer-256 : answerTold r ≡ takenOf t 256
+  module _ (pieces : Pieces) {slots left : List ℕ} {r : Answer} (taken : Taken pieces t slots left r) (lent : length slots ≡ 256) where
+    answer-256 : answerTold r ≡ takenOf pieces t 256
     answer-256 = rw lent at (taken .answer)
 
-    pub what-accepted : {e : Entry} → r ≡ A.Entry e → {told : T.Told Grammar} → told ≡ T.is (grammarOf t) → told ≡ whatOf t
+    pub what-accepted : {e : Entry} → r ≡ A.Entry e → {told : T.Told Grammar} → told ≡ T.is (grammarOf t) → told ≡ whatOf pieces t
     unfolding whatOf
     what-accepted n g = rw (← answer-256, n) g
 
-    pub what-refused : {k : ℕ} → r ≡ A.Refused k → T.refused k ≡ whatOf t
+    pub what-refused : {k : ℕ} → r ≡ A.Refused k → T.refused k ≡ whatOf pieces t
     unfolding whatOf
     what-refused n = rw (← answer-256, n)

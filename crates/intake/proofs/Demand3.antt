@@ -14,6 +14,7 @@ use Rattle.text.specs.Told as T
 use Rattle.entry.specs.declared.Entry.{Entry}
 use Rattle.entry.specs.Entry.{EntryValue, partOf, valueOf, Lies, SameEntry}
 use Rattle.entry.proofs.Parts.{part-out}
+use Rattle.scan.specs.declared.Pieces.{Pieces}
 use Rattle.scan.specs.declared.Answer.{Answer}
 use Rattle.scan.specs.declared.Answer.the-variants as A
 use Rattle.scan.specs.Parse.{answerTold, slotsBy, Parsed}
@@ -44,13 +45,13 @@ part-lies l at n byte =
     ]
 
 -- an accepted text that does not start with A1 is a line, and its entry says what the line says
-accepted-line : (text slots : List ℕ) (e : Entry) (left : List ℕ) → startsA1 text ≡ false → ReadCall text slots (A.Entry e) left
-    → Line text (valueOf e text left) × Lies e text left
+accepted-line : (pieces : Pieces) (text slots : List ℕ) (e : Entry) (left : List ℕ) → startsA1 text ≡ false → ReadCall pieces text slots (A.Entry e) left
+    → Line pieces text (valueOf e text left) × Lies e text left
 unfolding takenOf takenDwords valueOf
-accepted-line text slots e left first c =
-    let parsed : Parsed text slots left (A.Entry e) = record { answer = c .contract .answer ∙ rw first; slots = c .contract .slots ∙ rw first } in
-    let h : Handed text slots left e = parsed-entry text slots parsed in
-    let r : Ranged (valueOf e text left) = line-ranged text (h .line) in (
+accepted-line pieces text slots e left first c =
+    let parsed : Parsed pieces text slots left (A.Entry e) = record { answer = c .contract .answer ∙ rw first; slots = c .contract .slots ∙ rw first } in
+    let h : Handed pieces text slots left e = parsed-entry pieces text slots parsed in
+    let r : Ranged (valueOf e text left) = line-ranged pieces text (h .line) in (
       h .line,
       record {
         task = part-lies text (e .«task_at») (e .«task_len») (r .task .some);
@@ -60,7 +61,7 @@ accepted-line text slots e left first c =
     )
 
 -- a call of `read` on a record, by the record's own reader
-module _ (text slots : List ℕ) {answer : Answer} (left : List ℕ) (first : startsA1 text ≡ true) (c : ReadCall text slots answer left) where
+module _ (pieces : Pieces) (text slots : List ℕ) {answer : Answer} (left : List ℕ) (first : startsA1 text ≡ true) (c : ReadCall pieces text slots answer left) where
   record-answer : answerTold answer ≡ readOf text (length slots)
   unfolding takenOf
   record-answer = c .contract .answer ∙ rw first
@@ -70,23 +71,23 @@ module _ (text slots : List ℕ) {answer : Answer} (left : List ℕ) (first : st
   record-slots e = c .contract .slots ∙ rw (e, first)
 
 -- the intake accepts a record, and its entry says what the record says
-record-accepted : (text : List ℕ) (v : EntryValue) → IsRecord text v → (slots : List ℕ) (answer : Answer) (left : List ℕ) → ReadCall text slots answer left
+record-accepted : (pieces : Pieces) (text : List ℕ) (v : EntryValue) → IsRecord text v → (slots : List ℕ) (answer : Answer) (left : List ℕ) → ReadCall pieces text slots answer left
     → (f : Entry) × (answer ≡ A.Entry f) × Says text f left v
 unfolding startsA1
-record-accepted text v r slots answer left c =
+record-accepted pieces text v r slots answer left c =
     let first : startsA1 text ≡ true = eq-eqb _ _ (record-starts text v r) in
     let a : Accepts text slots v = record-accepted-exactly text (c .bytes) slots (c .enough) v .1 r in
-    let accepted : answer ≡ A.Entry (a .entry) = one-line-answer answer (A.Entry (a .entry)) (record-answer text slots left first c ∙ a .answer) in
-    let slots-left : left ≡ over (dwordsOf text) slots = record-slots text slots left first c accepted in
+    let accepted : answer ≡ A.Entry (a .entry) = one-line-answer answer (A.Entry (a .entry)) (record-answer pieces text slots left first c ∙ a .answer) in
+    let slots-left : left ≡ over (dwordsOf text) slots = record-slots pieces text slots left first c accepted in
     (a .entry, accepted, record { lies = rw slots-left (a .lies); is = rw slots-left (a .value) })
 
 -- an accepted text that starts with A1 is a record
-accepted-record : (text slots : List ℕ) (e : Entry) (left : List ℕ) → startsA1 text ≡ true → ReadCall text slots (A.Entry e) left
+accepted-record : (pieces : Pieces) (text slots : List ℕ) (e : Entry) (left : List ℕ) → startsA1 text ≡ true → ReadCall pieces text slots (A.Entry e) left
     → (v : EntryValue) × IsRecord text v × Says text e left v
-accepted-record text slots e left first c =
-    let read : readOf text (length slots) ≡ T.is e = sym (record-answer text slots left first c) in
+accepted-record pieces text slots e left first c =
+    let read : readOf text (length slots) ≡ T.is e = sym (record-answer pieces text slots left first c) in
     let r = accepted-is-record text (c .bytes) (length slots) e read in
-    let g = record-accepted text _ r slots (A.Entry e) left c in
+    let g = record-accepted pieces text _ r slots (A.Entry e) left c in
     let same : g .0 ≡ e = cc in
     (_, r, rw same at (g .2))
 
@@ -123,63 +124,63 @@ has-record text e dwords v s r =
     made : IsRecord (recordBytes v) v
     made = record { ranged = r; bytes = refl }
 
-    back : (slots : List ℕ) (answer : Answer) (left : List ℕ) → ReadCall (recordBytes v) slots answer left
+    back : (pieces : Pieces) (slots : List ℕ) (answer : Answer) (left : List ℕ) → ReadCall pieces (recordBytes v) slots answer left
         → (f : Entry) × (answer ≡ A.Entry f) × SameEntry e text dwords f (recordBytes v) left
-    back slots answer left c =
-        let f = record-accepted (recordBytes v) v made slots answer left c in
+    back pieces slots answer left c =
+        let f = record-accepted pieces (recordBytes v) v made slots answer left c in
         (f .0, f .1, record { first-lies = s .lies; second-lies = f .2 .lies; same = s .is ∙ sym (f .2 .is) })
 
-    again : (slots : List ℕ) (f : Entry) (left buffer : List ℕ) (answer : Written) (after : List ℕ)
-        → ReadCall (recordBytes v) slots (A.Entry f) left → WriteCall (recordBytes v) f left buffer answer after
+    again : (pieces : Pieces) (slots : List ℕ) (f : Entry) (left buffer : List ℕ) (answer : Written) (after : List ℕ)
+        → ReadCall pieces (recordBytes v) slots (A.Entry f) left → WriteCall (recordBytes v) f left buffer answer after
         → Wrote (recordBytes v) buffer answer after
-    again slots f left buffer answer after c d =
-        let g = record-accepted (recordBytes v) v made slots (A.Entry f) left c in
+    again pieces slots f left buffer answer after c d =
+        let g = record-accepted pieces (recordBytes v) v made slots (A.Entry f) left c in
         let same : g .0 ≡ f = cc in
         writes-record (recordBytes v) f left v (rw same at (g .2)) r buffer answer after d
 
 -- ---- the promises
 
 -- given 256 slots, a text is accepted exactly when it belongs to the line grammar or to the record grammar
-pub accepted-exactly : (text slots : List ℕ) (answer : Answer) (left : List ℕ) → ReadCall text slots answer left
-    → ((e : Entry) × (answer ≡ A.Entry e)) ↔ ((v : EntryValue) × Belongs text v)
+pub accepted-exactly : (pieces : Pieces) (text slots : List ℕ) (answer : Answer) (left : List ℕ) → ReadCall pieces text slots answer left
+    → ((e : Entry) × (answer ≡ A.Entry e)) ↔ ((v : EntryValue) × Belongs pieces text v)
 unfolding takenOf startsA1
-accepted-exactly text slots answer left c = (λ x. mp (startsA1 text) refl (x .0) (x .1), λ y. mpr (y .0) (y .1))
+accepted-exactly pieces text slots answer left c = (λ x. mp (startsA1 text) refl (x .0) (x .1), λ y. mpr (y .0) (y .1))
   where
-    mp : (first : Bool) → startsA1 text ≡ first → (e : Entry) → answer ≡ A.Entry e → (v : EntryValue) × Belongs text v
-    mp true f e n = let r = accepted-record text slots e left f (rw n at c) in (r .0, Belongs.a-record (r .1))
-    mp false f e n = (_, Belongs.line (accepted-line text slots e left f (rw n at c) .0))
+    mp : (first : Bool) → startsA1 text ≡ first → (e : Entry) → answer ≡ A.Entry e → (v : EntryValue) × Belongs pieces text v
+    mp true f e n = let r = accepted-record pieces text slots e left f (rw n at c) in (r .0, Belongs.a-record (r .1))
+    mp false f e n = (_, Belongs.line (accepted-line pieces text slots e left f (rw n at c) .0))
 
-    mpr : (v : EntryValue) → Belongs text v → (e : Entry) × (answer ≡ A.Entry e)
-    mpr v (Belongs.a-record r) = let f = record-accepted text v r slots answer left c in (f .0, f .1)
+    mpr : (v : EntryValue) → Belongs pieces text v → (e : Entry) × (answer ≡ A.Entry e)
+    mpr v (Belongs.a-record r) = let f = record-accepted pieces text v r slots answer left c in (f .0, f .1)
     mpr v (Belongs.line a) =
-        let f = line-entry-all text a in (
+        let f = line-entry-all pieces text a in (
           f .0,
           one-line-answer answer (A.Entry (f .0))
-              (c .contract .answer ∙ rw (ne-eqb _ _ (line-starts text v a)) (line-with-more-slots text (length slots) (c .enough) ∙ f .1)),
+              (c .contract .answer ∙ rw (ne-eqb _ _ (line-starts pieces text v a)) (line-with-more-slots pieces text (length slots) (c .enough) ∙ f .1)),
         )
 
 -- every accepted line has a record
-pub line-has-a-record : (text slots : List ℕ) (e : Entry) (left : List ℕ) → startsA1 text ≡ false → ReadCall text slots (A.Entry e) left
-    → (v : EntryValue) × Line text v × HasRecord text e left v
-line-has-a-record text slots e left first c =
-    let a = accepted-line text slots e left first c in
-    (valueOf e text left, a .0, has-record text e left (valueOf e text left) (record { lies = a .1; is = refl }) (line-ranged text (a .0)))
+pub line-has-a-record : (pieces : Pieces) (text slots : List ℕ) (e : Entry) (left : List ℕ) → startsA1 text ≡ false → ReadCall pieces text slots (A.Entry e) left
+    → (v : EntryValue) × Line pieces text v × HasRecord text e left v
+line-has-a-record pieces text slots e left first c =
+    let a = accepted-line pieces text slots e left first c in
+    (valueOf e text left, a .0, has-record text e left (valueOf e text left) (record { lies = a .1; is = refl }) (line-ranged pieces text (a .0)))
 
 -- every accepted record is what writing its entry gives
-pub record-is-the-writers : (text slots : List ℕ) (e : Entry) (left : List ℕ) → startsA1 text ≡ true → ReadCall text slots (A.Entry e) left
+pub record-is-the-writers : (pieces : Pieces) (text slots : List ℕ) (e : Entry) (left : List ℕ) → startsA1 text ≡ true → ReadCall pieces text slots (A.Entry e) left
     → (v : EntryValue) × (recordBytes v ≡ text) × HasRecord text e left v
-record-is-the-writers text slots e left first c =
-    let a = accepted-record text slots e left first c in
+record-is-the-writers pieces text slots e left first c =
+    let a = accepted-record pieces text slots e left first c in
     (a .0, a .1 .bytes, has-record text e left (a .0) (a .2) (a .1 .ranged))
 
 -- demand 3 for lines and records
-pub lines-and-records : LinesAndRecords
-lines-and-records =
+pub lines-and-records : (pieces : Pieces) → LinesAndRecords pieces
+lines-and-records pieces =
     record {
-      accepted = accepted-exactly;
-      never-both = no-text-is-both;
-      one-reading = one-reading;
-      line-has-a-record = line-has-a-record;
-      record-is-the-writers = record-is-the-writers;
+      accepted = accepted-exactly pieces;
+      never-both = no-text-is-both pieces;
+      one-reading = one-reading pieces;
+      line-has-a-record = line-has-a-record pieces;
+      record-is-the-writers = record-is-the-writers pieces;
       record-at-most-5227 = record-at-most-5227;
     }

@@ -15,6 +15,7 @@ use Rattle.text.specs.Told as T
 use Rattle.entry.specs.declared.Entry.{Entry}
 use Rattle.entry.specs.declared.optional.MaybeWord.the-variants as Word
 use Rattle.entry.specs.Entry.{EntryValue, partOf, valueOf}
+use Rattle.scan.specs.declared.Pieces.{Pieces}
 use Rattle.scan.specs.declared.Answer.the-variants as A
 use Rattle.scan.specs.Parse.{slotsBy}
 use Rattle.scan.proofs.Values.{dwords-part}
@@ -36,43 +37,43 @@ use Rattle.intake.proofs.Slots.{with-more-slots, taken-count}
 use Rattle.intake.proofs.Handing.{packet-is, places-by-kind}
 use Rattle.intake.proofs.Demand3.{line-has-a-record, record-is-the-writers, lines-and-records}
 
--- ---- what an accepted text says
+-- ---- what an accepted text says pieces
 
--- an accepted text belongs, and what it says has a record
-accepted-says : (text slots : List ℕ) (e : Entry) (left : List ℕ) → ReadCall text slots (A.Entry e) left
-    → (v : EntryValue) × Belongs text v × HasRecord text e left v
-accepted-says text slots e left c = by (startsA1 text) refl
+-- an accepted text belongs, and what it says pieces has a record
+accepted-says : (pieces : Pieces) (text slots : List ℕ) (e : Entry) (left : List ℕ) → ReadCall pieces text slots (A.Entry e) left
+    → (v : EntryValue) × Belongs pieces text v × HasRecord text e left v
+accepted-says pieces text slots e left c = by (startsA1 text) refl
   where
-    by : (b : Bool) → startsA1 text ≡ b → (v : EntryValue) × Belongs text v × HasRecord text e left v
+    by : (b : Bool) → startsA1 text ≡ b → (v : EntryValue) × Belongs pieces text v × HasRecord text e left v
     by true first =
-        let h = record-is-the-writers text slots e left first c in
+        let h = record-is-the-writers pieces text slots e left first c in
         let r : IsRecord text (h .0) = rw (h .1) at (h .2 .is-record) in
         (h .0, Belongs.a-record r, h .2)
     by false first =
-        let h = line-has-a-record text slots e left first c in
+        let h = line-has-a-record pieces text slots e left first c in
         (h .0, Belongs.line (h .1), h .2)
 
--- the entry of a text that belongs has the kind and the dwords that the text says
-record Read (text slots : List ℕ) (v : EntryValue) : Type 0 where
+-- the entry of a text that belongs has the kind and the dwords that the text says pieces
+record Read (pieces : Pieces) (text slots : List ℕ) (v : EntryValue) : Type 0 where
   entry : Entry
-  answer : takenOf text (length slots) ≡ T.is entry
+  answer : takenOf pieces text (length slots) ≡ T.is entry
   kind : entry .kind ≡ v .kind
   dwords : takenDwords text ≡ v .dwords
   few : length (v .dwords) ≤ 256
 
-module _ (text book slots places : List ℕ) (answer : Answer) (slots-left places-left : List ℕ) (c : PacketCall text book slots places answer slots-left places-left) where
-  says : (v : EntryValue) → Belongs text v → Read text slots v
+module _ (pieces : Pieces) (text book slots places : List ℕ) (answer : Answer) (slots-left places-left : List ℕ) (c : PacketCall pieces text book slots places answer slots-left places-left) where
+  says : (v : EntryValue) → Belongs pieces text v → Read pieces text slots v
   unfolding slotsBy valueOf
   says v b =
-      let accepted = accepted-exactly-when-it-belongs text (c .bytes) .1 (v, b) in
-      let told : takenOf text (length slots) ≡ T.is (accepted .0) = with-more-slots text (c .bytes) (length slots) (c .enough-slots) ∙ accepted .1 in
-      let read : ReadCall text slots (A.Entry (accepted .0)) (slotsBy (T.is (accepted .0)) (takenDwords text) slots) =
+      let accepted = accepted-exactly-when-it-belongs pieces text (c .bytes) .1 (v, b) in
+      let told : takenOf pieces text (length slots) ≡ T.is (accepted .0) = with-more-slots pieces text (c .bytes) (length slots) (c .enough-slots) ∙ accepted .1 in
+      let read : ReadCall pieces text slots (A.Entry (accepted .0)) (slotsBy (T.is (accepted .0)) (takenDwords text) slots) =
       record { bytes = c .bytes; enough = c .enough-slots; contract = record { answer = sym told; slots = refl } } in
-      let h = accepted-says text slots (accepted .0) _ read in
-      let one : h .0 ≡ v = one-reading text (h .0) v (h .1) b in
+      let h = accepted-says pieces text slots (accepted .0) _ read in
+      let one : h .0 ≡ v = one-reading pieces text (h .0) v (h .1) b in
       let is : valueOf (accepted .0) text (slotsBy (T.is (accepted .0)) (takenDwords text) slots) ≡ v = h .2 .says .is ∙ one in
       let part : partOf (slotsBy (T.is (accepted .0)) (takenDwords text) slots) 0 (accepted .0 .dwords) ≡ takenDwords text =
-      rw (taken-count text (length slots) told) (dwords-part (takenDwords text) slots) in
+      rw (taken-count pieces text (length slots) told) (dwords-part (takenDwords text) slots) in
       record {
         entry = accepted .0;
         answer = told;
@@ -86,8 +87,8 @@ module _ (text book slots places : List ℕ) (answer : Answer) (slots-left place
   unfolding parseOf numberOf numberChecked
   enough-places kind ds room h = rw (le-ltb room (length ds) h, le-ltb (length ds) (length ds) (omega arith))
 
-  -- a text that belongs gives the packet of what it says
-  gives : (v : EntryValue) → Belongs text v → Gives v book slots places answer slots-left places-left
+  -- a text that belongs gives pieces the packet of what it says pieces
+  gives : (v : EntryValue) → Belongs pieces text v → Gives v book slots places answer slots-left places-left
   unfolding packetTaken packetBy packetFor
   gives v b =
       let r = says v b in
@@ -181,13 +182,13 @@ own-view v book count {left} kind none says slots dwords view slots-are first ha
     (own-front count (first .is ∙ ap (take count) (sym slots-are)) (first .memory) (omega (arith, first .place))
     (view-is-the-callers-own (v .kind) book kind passed handed))
 
--- a packet of kind 2 or 3 has its view from n onward, as the text says
-cut-once : (text : List ℕ) (v : EntryValue) → Belongs text v → isReadResponseOrWriteRequest (v .kind) ≡ true
-    → (book slots places : List ℕ) (p : Packet) (slots-left places-left : List ℕ) → PacketCall text book slots places (P.Packet p) slots-left places-left
+-- a packet of kind 2 or 3 has its view from n onward, as the text says pieces
+cut-once : (pieces : Pieces) (text : List ℕ) (v : EntryValue) → Belongs pieces text v → isReadResponseOrWriteRequest (v .kind) ≡ true
+    → (book slots places : List ℕ) (p : Packet) (slots-left places-left : List ℕ) → PacketCall pieces text book slots places (P.Packet p) slots-left places-left
     → CutOnce v book p slots-left
-cut-once text v b view book slots places p slots-left places-left c =
-    let g = gives text book slots places (P.Packet p) slots-left places-left c v b in
-    let r = says text book slots places (P.Packet p) slots-left places-left c v b in
+cut-once pieces text v b view book slots places p slots-left places-left c =
+    let g = gives pieces text book slots places (P.Packet p) slots-left places-left c v b in
+    let r = says pieces text book slots places (P.Packet p) slots-left places-left c v b in
     let at = cut-at v book view (r .few) (sym (g .is)) in
     let own = dwords-are v book slots places g refl in
     let none = no-refusal v book (sym (g .is)) in
@@ -201,42 +202,42 @@ cut-once text v b view book slots places p slots-left places-left c =
 
 -- ---- round after round
 
--- what a text says is what is written, and that is a record of it
-round-says : (text next : List ℕ) → Round text next → (v : EntryValue) × Belongs text v × IsRecord next v
-round-says text next r =
-    let h = accepted-says text (r .slots) (r .entry) (r .left) (r .read) in
+-- what a text says pieces is what is written, and that is a record of it
+round-says : (pieces : Pieces) (text next : List ℕ) → Round pieces text next → (v : EntryValue) × Belongs pieces text v × IsRecord next v
+round-says pieces text next r =
+    let h = accepted-says pieces text (r .slots) (r .entry) (r .left) (r .read) in
     let w = h .2 .written (r .buffer) (W.Bytes (r .count)) (r .written) (r .write) in
     let number : r .count ≡ length (recordBytes (h .0)) = cc in
     let next-is : next ≡ recordBytes (h .0) = r .handed-on ∙ ap (λ (n : ℕ). take n (r .written)) number ∙ w .first in
     (h .0, h .1, rw next-is (h .2 .is-record))
 
-pub comes-says : (text last : List ℕ) → Comes text last → (v : EntryValue) × Belongs text v × IsRecord last v
-comes-says text last (Comes.once r) = round-says text last r
-comes-says text last (Comes.again {next} a r) =
-    let h = comes-says text next a in
-    let k = round-says next last r in
-    let one : h .0 ≡ k .0 = one-reading next (h .0) (k .0) (Belongs.a-record (h .2)) (k .1) in
+pub comes-says : (pieces : Pieces) (text last : List ℕ) → Comes pieces text last → (v : EntryValue) × Belongs pieces text v × IsRecord last v
+comes-says pieces text last (Comes.once r) = round-says pieces text last r
+comes-says pieces text last (Comes.again {any} {next} a r) =
+    let h = comes-says pieces text next a in
+    let k = round-says any next last r in
+    let one : h .0 ≡ k .0 = one-reading any next (h .0) (k .0) (Belongs.a-record (h .2)) (k .1) in
     (k .0, rw one at (h .1), k .2)
 
 -- ---- the promises
 
 -- demand 3 for packets
-pub one-packet : OnePacket
-one-packet =
+pub one-packet : (pieces : Pieces) → OnePacket pieces
+one-packet pieces =
     record {
-      of-what-it-says = λ text v b book slots places answer slots-left places-left c. gives text book slots places answer slots-left places-left c v b;
+      of-what-it-says = λ text v b book slots places answer slots-left places-left c. gives pieces text book slots places answer slots-left places-left c v b;
       line-and-record =
-          λ line record-text v l r book slots places a slots-a places-a c slots′ places′ b slots-b places-b d.
-          same-packet v book (gives line book slots places a slots-a places-a c v (Belongs.line l))
-          (gives record-text book slots′ places′ b slots-b places-b d v (Belongs.a-record r));
-      cut-once = cut-once;
+          λ line record-text v l r book slots places a slots-a places-a c any slots′ places′ b slots-b places-b d.
+          same-packet v book (gives pieces line book slots places a slots-a places-a c v (Belongs.line l))
+          (gives any record-text book slots′ places′ b slots-b places-b d v (Belongs.a-record r));
+      cut-once = cut-once pieces;
       never-a-second-cut =
-          λ text last comes book slots places a slots-a places-a c slots′ places′ b slots-b places-b d.
-          let h = comes-says text last comes in
-          same-packet (h .0) book (gives text book slots places a slots-a places-a c (h .0) (h .1))
-          (gives last book slots′ places′ b slots-b places-b d (h .0) (Belongs.a-record (h .2)));
+          λ text last comes book slots places a slots-a places-a c any slots′ places′ b slots-b places-b d.
+          let h = comes-says pieces text last comes in
+          same-packet (h .0) book (gives pieces text book slots places a slots-a places-a c (h .0) (h .1))
+          (gives any last book slots′ places′ b slots-b places-b d (h .0) (Belongs.a-record (h .2)));
     }
 
--- demand 3
-pub demand-3 : Demand3
-demand-3 = record { lines-and-records = lines-and-records; one-packet = one-packet }
+-- demand 3, one proof for both choices
+pub demand-3 : (pieces : Pieces) → Demand3 pieces
+demand-3 pieces = record { lines-and-records = lines-and-records pieces; one-packet = one-packet pieces }

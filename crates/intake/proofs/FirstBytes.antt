@@ -14,6 +14,7 @@ use Rattle.text.specs.Told as T
 use Rattle.tlv.specs.Number.{Bytes}
 use Rattle.tlv.proofs.Fields.{field-found, two-bytes}
 use Rattle.tlv.proofs.Places.{bytes-take}
+use Rattle.scan.specs.declared.Pieces.{Pieces}
 use Rattle.scan.specs.Frame.{idle, frameOf}
 use Rattle.scan.specs.Parse.{withFrame, parseOf}
 use Rattle.record.specs.Judging.{framed}
@@ -31,7 +32,7 @@ longNumber b = cond (eqb b 0xA1) 30 (cond (eqb b 35) 1 2)
 abbrev neither : ℕ → T.Told Grammar
 neither k = T.refused k
 
-module _ (t : List ℕ) (bytes : Bytes t) (long : 65539 ≤ length t) where
+module _ (pieces : Pieces) (t : List ℕ) (bytes : Bytes t) (long : 65539 ≤ length t) where
   -- no two-byte length is that of the rest
   long-unframed : framed t ≡ false
   long-unframed = go (framed t) refl
@@ -46,7 +47,7 @@ module _ (t : List ℕ) (bytes : Bytes t) (long : 65539 ≤ length t) where
   unfolding readOf
   long-record = rw (← not-framed t long-unframed)
 
-  pub long-line : parseOf t 256 ≡ T.refused (cond (eqb (getD t 0 0) 35) 1 2)
+  pub long-line : parseOf pieces t 256 ≡ T.refused (cond (eqb (getD t 0 0) 35) 1 2)
   unfolding parseOf withFrame frameOf idle
   long-line = go (eqb (getD t 0 0) 35) refl
     where
@@ -56,28 +57,28 @@ module _ (t : List ℕ) (bytes : Bytes t) (long : 65539 ≤ length t) where
       more : eqb (length t) 1 ≡ false
       more = ne-eqb (length t) 1 (λ z. omega (arith, z, long))
 
-      go : (b : Bool) → eqb (getD t 0 0) 35 ≡ b → parseOf t 256 ≡ T.refused (cond b 1 2)
+      go : (b : Bool) → eqb (getD t 0 0) 35 ≡ b → parseOf pieces t 256 ≡ T.refused (cond b 1 2)
       go true e = rw (some, e)
       go false e = rw (some, more, e, lt-ltb 4096 (length t) (omega (arith, long)))
 
   -- a text of 65,539 bytes or more is neither
-  pub long-is-neither : whatOf t ≡ T.refused (longNumber (getD t 0 0))
+  pub long-is-neither : whatOf pieces t ≡ T.refused (longNumber (getD t 0 0))
   unfolding whatOf takenOf startsA1
   long-is-neither = go (eqb (getD t 0 0) 0xA1) refl
     where
-      go : (b : Bool) → eqb (getD t 0 0) 0xA1 ≡ b → whatOf t ≡ T.refused (cond b 30 (cond (eqb (getD t 0 0) 35) 1 2))
+      go : (b : Bool) → eqb (getD t 0 0) 0xA1 ≡ b → whatOf pieces t ≡ T.refused (cond b 30 (cond (eqb (getD t 0 0) 35) 1 2))
       go true e = rw (e, long-record)
       go false e = rw (e, long-line)
 
 -- the first 65,539 bytes tell
-pub first-bytes-tell : (t : List ℕ) → Bytes t → (n : ℕ) → 65539 ≤ n → whatOf (take n t) ≡ whatOf t
-first-bytes-tell t bytes n h =
+pub first-bytes-tell : (pieces : Pieces) (t : List ℕ) → Bytes t → (n : ℕ) → 65539 ≤ n → whatOf pieces (take n t) ≡ whatOf pieces t
+first-bytes-tell pieces t bytes n h =
     elim (decLe (length t) n) [
-      | yes l ↦ ap whatOf (take-all n t l)
+      | yes l ↦ ap (whatOf pieces) (take-all n t l)
       | no l ↦
           let size : length (take n t) ≡ n = length-take-le n t (omega arith) in
           let first : getD (take n t) 0 0 ≡ getD t 0 0 = getD-take n t 0 0 (omega arith) in
-          long-is-neither (take n t) (bytes-take t n bytes) (omega (arith, size, h))
+          long-is-neither pieces (take n t) (bytes-take t n bytes) (omega (arith, size, h))
           ∙ ap (λ (b : ℕ). neither (longNumber b)) first
-          ∙ sym (long-is-neither t bytes (omega arith))
+          ∙ sym (long-is-neither pieces t bytes (omega arith))
     ]

@@ -7,6 +7,7 @@ use lib.ListN.{length}
 use Rattle.text.specs.Told as T
 use Rattle.entry.specs.declared.Entry.{Entry}
 use Rattle.pairs.specs.Data.{filled}
+use Rattle.scan.specs.declared.Pieces.{Pieces}
 use Rattle.packet.specs.declared.Answer as Packet
 use Rattle.packet.specs.declared.Answer.the-variants as P
 use Rattle.packet.specs.declared.Packet as Described
@@ -54,10 +55,10 @@ places-by-kind kind s ds out room (T.is p) e =
 places-by-kind kind s ds out room T.absent e = refl
 places-by-kind kind s ds out room (T.refused k) e = refl
 
-module _ (t s slots places : List ℕ) where
+module _ (pieces : Pieces) (t s slots places : List ℕ) where
   -- the text is an entry: its kind and dwords give the packet
-  pub taken-packet : {e : Entry} → takenOf t (length slots) ≡ T.is e → {ds : List ℕ} → ds ≡ takenDwords t → {slots′ places′ : List ℕ} {r : Packet.Answer}
-      → Handed (e .kind) s ds slots slots′ places places′ r → PacketTaken t s slots slots′ places places′ r
+  pub taken-packet : {e : Entry} → takenOf pieces t (length slots) ≡ T.is e → {ds : List ℕ} → ds ≡ takenDwords t → {slots′ places′ : List ℕ} {r : Packet.Answer}
+      → Handed (e .kind) s ds slots slots′ places places′ r → PacketTaken pieces t s slots slots′ places places′ r
   unfolding packetTaken packetBy
   taken-packet {e} a {ds} same {slots′} {places′} {r} handed =
       let h : Handed (e .kind) s (takenDwords t) slots slots′ places places′ r = rw same at handed in
@@ -68,22 +69,22 @@ module _ (t s slots places : List ℕ) where
       }
 
   -- the text is refused, and nothing is touched
-  pub taken-refused : {k : ℕ} → takenOf t (length slots) ≡ T.refused k → PacketTaken t s slots slots places places (P.Refused k)
+  pub taken-refused : {k : ℕ} → takenOf pieces t (length slots) ≡ T.refused k → PacketTaken pieces t s slots slots places places (P.Refused k)
   unfolding packetTaken packetBy listBy
   taken-refused a = record { answer = rw a; slots-left = refl; places-left = refl }
 
 -- ---- the promises
 
 -- a refusal leaves slots and places as found
-pub refused-packet-changes-nothing : (t s slots places : List ℕ) {slots′ places′ : List ℕ} {k : ℕ} → PacketTaken t s slots slots′ places places′ (P.Refused k)
+pub refused-packet-changes-nothing : (pieces : Pieces) (t s slots places : List ℕ) {slots′ places′ : List ℕ} {k : ℕ} → PacketTaken pieces t s slots slots′ places places′ (P.Refused k)
     → (slots′ ≡ slots) × (places′ ≡ places)
 unfolding listBy
-refused-packet-changes-nothing t s slots places p = (p .slots-left, p .places-left)
+refused-packet-changes-nothing pieces t s slots places p = (p .slots-left, p .places-left)
 
 -- no second answer satisfies the contract, slots and places included
-pub no-second-packet : (t s slots places : List ℕ) {slots′ places′ slots″ places″ : List ℕ} {q r : Packet.Answer}
-    → PacketTaken t s slots slots′ places places′ q → PacketTaken t s slots slots″ places places″ r
+pub no-second-packet : (pieces : Pieces) (t s slots places : List ℕ) {slots′ places′ slots″ places″ : List ℕ} {q r : Packet.Answer}
+    → PacketTaken pieces t s slots slots′ places places′ q → PacketTaken pieces t s slots slots″ places places″ r
     → (q ≡ r) × (slots′ ≡ slots″) × (places′ ≡ places″)
-no-second-packet t s slots places {q = q} {r = r} a b =
+no-second-packet pieces t s slots places {q = q} {r = r} a b =
     let same : answerTold q ≡ answerTold r = a .answer ∙ sym (b .answer) in
     (one-packet-answer q r same, a .slots-left ∙ rw same (sym (b .slots-left)), a .places-left ∙ rw same (sym (b .places-left)))

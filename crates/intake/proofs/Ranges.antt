@@ -24,6 +24,7 @@ use Rattle.entry.specs.Kind.{byDirection, otherKind, kindOf}
 use Rattle.header.specs.Dash.{dashAt, Task}
 use Rattle.header.specs.Function.{Function}
 use Rattle.pairs.specs.Data.{Dwords}
+use Rattle.scan.specs.declared.Pieces.{Pieces}
 use Rattle.scan.specs.Frame.{High, Split}
 use Rattle.scan.specs.Line.{KeyDecimal, KeyHex, Optional, Line}
 use Rattle.record.specs.Grammar.{Below, TaskText, FunctionText, Ranged}
@@ -180,8 +181,8 @@ dwords-below (Dwords.dword {p} {v} {ps} {ds} h r) = (omega (arith, hex-within (2
 dwords-below (Dwords.left-out h r) = dwords-below r
 
 -- what a line says keeps the record's ranges
-pub line-ranged : (t : List ℕ) {v : EntryValue} → Line t v → Ranged v
-line-ranged t {v} a =
+pub line-ranged : (pieces : Pieces) (t : List ℕ) {v : EntryValue} → Line pieces t v → Ranged v
+line-ranged pieces t {v} a =
     let ascii = header-ascii t (a .split) (a .ascii) in
     record {
       task = task-is-text (a .header) (a .task) (a .function) ascii;

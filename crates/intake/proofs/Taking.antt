@@ -4,6 +4,7 @@ use mathlib.Core.Path.{_≡_, _∙_}
 use mathlib.Core.Bool.{true, false}
 use mathlib.Core.List.{List}
 use Rattle.entry.specs.declared.Entry.{Entry}
+use Rattle.scan.specs.declared.Pieces.{Pieces}
 use Rattle.scan.specs.declared.Answer.{Answer}
 use Rattle.scan.specs.declared.Answer.the-variants as A
 use Rattle.scan.specs.Parse as Line
@@ -12,12 +13,12 @@ use Rattle.record.specs.declared.Answer.the-variants as R
 use Rattle.record.specs.Reading as Reading
 use Rattle.intake.specs.Intake.{startsA1, takenOf, takenDwords, Taken, RecordTaken}
 
-module _ (t out : List ℕ) {exit : List ℕ} where
-  pub taken-record : {r : Answer} → startsA1 t ≡ true → RecordTaken t out exit r → Taken t out exit r
+module _ (pieces : Pieces) (t out : List ℕ) {exit : List ℕ} where
+  pub taken-record : {r : Answer} → startsA1 t ≡ true → RecordTaken t out exit r → Taken pieces t out exit r
   unfolding takenOf takenDwords
   taken-record e p = record { answer = p .answer ∙ rw e; slots = p .slots ∙ rw e }
 
-  pub taken-line : {r : Answer} → startsA1 t ≡ false → Line.Parsed t out exit r → Taken t out exit r
+  pub taken-line : {r : Answer} → startsA1 t ≡ false → Line.Parsed pieces t out exit r → Taken pieces t out exit r
   unfolding takenOf takenDwords
   taken-line e p = record { answer = p .answer ∙ rw e; slots = p .slots ∙ rw e }
 

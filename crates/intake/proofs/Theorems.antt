@@ -14,6 +14,7 @@ use Rattle.tlv.specs.Number.{Bytes}
 use Rattle.tlv.specs.Grammar.{fieldBytes}
 use Rattle.entry.specs.declared.Entry.{Entry}
 use Rattle.entry.specs.Entry.{EntryValue}
+use Rattle.scan.specs.declared.Pieces.{Pieces}
 use Rattle.scan.specs.declared.Answer.{Answer}
 use Rattle.scan.specs.Parse.{answerTold, parseOf}
 use Rattle.scan.specs.Line.{Line}
@@ -29,54 +30,54 @@ unfolding recordBytes fieldBytes
 record-starts t v r = ap (λ (l : List ℕ). getD l 0 0) (sym (r .bytes))
 
 -- A1 is no byte of a line
-pub line-starts : (t : List ℕ) (v : EntryValue) → Line t v → getD t 0 0 ≡ 0xA1 → ⊥
-line-starts [] v a e = absurd (omega arith)
-line-starts (b ∷ t) v a e = a .ascii (record { place = 0; within = omega arith; high = omega arith })
+pub line-starts : (pieces : Pieces) (t : List ℕ) (v : EntryValue) → Line pieces t v → getD t 0 0 ≡ 0xA1 → ⊥
+line-starts pieces [] v a e = absurd (omega arith)
+line-starts pieces (b ∷ t) v a e = a .ascii (record { place = 0; within = omega arith; high = omega arith })
 
 -- no text belongs to both
-pub no-text-is-both : (t : List ℕ) (v w : EntryValue) → Line t v → IsRecord t w → ⊥
-no-text-is-both t v w a r = line-starts t v a (record-starts t w r)
+pub no-text-is-both : (pieces : Pieces) (t : List ℕ) (v w : EntryValue) → Line pieces t v → IsRecord t w → ⊥
+no-text-is-both pieces t v w a r = line-starts pieces t v a (record-starts t w r)
 
 -- each text has one reading
-pub one-reading : (t : List ℕ) (v w : EntryValue) → Belongs t v → Belongs t w → v ≡ w
-one-reading t v w (Belongs.line a) (Belongs.line b) = one-line-reading t a b
-one-reading t v w (Belongs.line a) (Belongs.a-record b) = absurd (no-text-is-both t v w a b)
-one-reading t v w (Belongs.a-record a) (Belongs.line b) = absurd (no-text-is-both t w v b a)
-one-reading t v w (Belongs.a-record a) (Belongs.a-record b) = one-record-reading t v w a b
+pub one-reading : (pieces : Pieces) (t : List ℕ) (v w : EntryValue) → Belongs pieces t v → Belongs pieces t w → v ≡ w
+one-reading pieces t v w (Belongs.line a) (Belongs.line b) = one-line-reading pieces t a b
+one-reading pieces t v w (Belongs.line a) (Belongs.a-record b) = absurd (no-text-is-both pieces t v w a b)
+one-reading pieces t v w (Belongs.a-record a) (Belongs.line b) = absurd (no-text-is-both pieces t w v b a)
+one-reading pieces t v w (Belongs.a-record a) (Belongs.a-record b) = one-record-reading t v w a b
 
 -- the first byte decides
-taken-record : (t : List ℕ) (room : ℕ) → getD t 0 0 ≡ 0xA1 → takenOf t room ≡ readOf t room
+taken-record : (pieces : Pieces) (t : List ℕ) (room : ℕ) → getD t 0 0 ≡ 0xA1 → takenOf pieces t room ≡ readOf t room
 unfolding takenOf startsA1
-taken-record t room e = rw (eq-eqb _ _ e)
+taken-record pieces t room e = rw (eq-eqb _ _ e)
 
-taken-line : (t : List ℕ) (room : ℕ) → (getD t 0 0 ≡ 0xA1 → ⊥) → takenOf t room ≡ parseOf t room
+taken-line : (pieces : Pieces) (t : List ℕ) (room : ℕ) → (getD t 0 0 ≡ 0xA1 → ⊥) → takenOf pieces t room ≡ parseOf pieces t room
 unfolding takenOf startsA1
-taken-line t room n = rw (ne-eqb _ _ n)
+taken-line pieces t room n = rw (ne-eqb _ _ n)
 
 -- given 256 slots, a text is accepted exactly when it belongs to the line grammar or to the record grammar
-pub accepted-exactly-when-it-belongs : (t : List ℕ) → Bytes t → ((e : Entry) × (takenOf t 256 ≡ T.is e)) ↔ ((v : EntryValue) × Belongs t v)
-accepted-exactly-when-it-belongs t bytes =
+pub accepted-exactly-when-it-belongs : (pieces : Pieces) (t : List ℕ) → Bytes t → ((e : Entry) × (takenOf pieces t 256 ≡ T.is e)) ↔ ((v : EntryValue) × Belongs pieces t v)
+accepted-exactly-when-it-belongs pieces t bytes =
     (λ x. mp (eqb (getD t 0 0) 0xA1) refl (x .0) (x .1), λ y. mpr (y .0) (y .1))
   where
-    mp : (b : Bool) → eqb (getD t 0 0) 0xA1 ≡ b → (e : Entry) → takenOf t 256 ≡ T.is e → (v : EntryValue) × Belongs t v
+    mp : (b : Bool) → eqb (getD t 0 0) 0xA1 ≡ b → (e : Entry) → takenOf pieces t 256 ≡ T.is e → (v : EntryValue) × Belongs pieces t v
     mp true q e n =
-        let r : readOf t 256 ≡ T.is e = sym (taken-record t 256 (eqb-true _ _ q)) ∙ n in
+        let r : readOf t 256 ≡ T.is e = sym (taken-record pieces t 256 (eqb-true _ _ q)) ∙ n in
         (_, Belongs.a-record (accepted-is-record t bytes 256 e r))
     mp false q e n =
-        let w = line-accepted-exactly t .0 (e, sym (taken-line t 256 (eqb-false _ _ q)) ∙ n) in
+        let w = line-accepted-exactly pieces t .0 (e, sym (taken-line pieces t 256 (eqb-false _ _ q)) ∙ n) in
         (w .0, Belongs.line (w .1))
 
-    mpr : (v : EntryValue) → Belongs t v → (e : Entry) × (takenOf t 256 ≡ T.is e)
+    mpr : (v : EntryValue) → Belongs pieces t v → (e : Entry) × (takenOf pieces t 256 ≡ T.is e)
     mpr v (Belongs.line a) =
-        let w = line-accepted-exactly t .1 (v, a) in
-        (w .0, taken-line t 256 (line-starts t v a) ∙ w .1)
+        let w = line-accepted-exactly pieces t .1 (v, a) in
+        (w .0, taken-line pieces t 256 (line-starts pieces t v a) ∙ w .1)
     mpr v (Belongs.a-record r) =
         let slots : List ℕ = replicate 256 0 in
         let w = record-accepted-exactly t bytes (replicate 256 0) (omega arith) v .1 r in
-        (w .entry, taken-record t 256 (record-starts t v r) ∙ w .answer)
+        (w .entry, taken-record pieces t 256 (record-starts t v r) ∙ w .answer)
 
 -- no second answer satisfies the contract of `read`, slots included
-pub no-second-reading : (t slots : List ℕ) {left other : List ℕ} {r q : Answer} → Taken t slots left r → Taken t slots other q → (r ≡ q) × (left ≡ other)
-no-second-reading t slots {left} {other} {r} {q} a b =
+pub no-second-reading : (pieces : Pieces) (t slots : List ℕ) {left other : List ℕ} {r q : Answer} → Taken pieces t slots left r → Taken pieces t slots other q → (r ≡ q) × (left ≡ other)
+no-second-reading pieces t slots {left} {other} {r} {q} a b =
     let same : answerTold r ≡ answerTold q = a .answer ∙ sym (b .answer) in
     (one-line-answer r q same, a .slots ∙ rw same (sym (b .slots)))

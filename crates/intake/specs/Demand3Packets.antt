@@ -1,5 +1,5 @@
 -- Demand 3 for packets: a line and its record give one packet, and its data view is cut once. It is stated over the contracts of four calls, `read` and
--- `packet` of crate `intake`, `write` of crate `writer`, and `data` of crate `questions`.
+-- `packet` of crate `intake`, `write` of crate `writer`, and `data` of crate `questions`, and over the choice, as Demand3 is.
 use Prim.Native.Nat.{ℕ, _≤_}
 use mathlib.Core.Path.{_≡_}
 use mathlib.Core.Bool.{true}
@@ -11,6 +11,7 @@ use Rattle.tlv.specs.Number.{Bytes}
 use Rattle.entry.specs.declared.Entry.{Entry}
 use Rattle.entry.specs.declared.optional.MaybeWord.the-variants as Word
 use Rattle.entry.specs.Entry.{EntryValue}
+use Rattle.scan.specs.declared.Pieces.{Pieces}
 use Rattle.scan.specs.declared.Answer.the-variants as A
 use Rattle.scan.specs.Line.{Line}
 use Rattle.packet.specs.declared.Answer.{Answer}
@@ -24,8 +25,9 @@ use Rattle.intake.specs.Intake.{Belongs}
 use Rattle.intake.specs.Packets.{PacketTaken}
 use Rattle.intake.specs.Demand3.{ReadCall, WriteCall, LinesAndRecords}
 
--- A call of `packet` with enough slots and places: it was lent a text, a book, slots and places, and gave this answer and left slots and places so.
-pub record PacketCall (text book slots places : List ℕ) (answer : Answer) (slots-left places-left : List ℕ) : Type 0 where
+-- A call of `packet` with enough slots and places: it was lent a text, a book, slots and places and told the choice, and gave this answer
+-- and left slots and places so.
+pub record PacketCall (pieces : Pieces) (text book slots places : List ℕ) (answer : Answer) (slots-left places-left : List ℕ) : Type 0 where
   -- The text is bytes, as every lent text is.
   pub bytes : Bytes text
   -- 256 slots are lent, or more.
@@ -33,7 +35,7 @@ pub record PacketCall (text book slots places : List ℕ) (answer : Answer) (slo
   -- So are 256 places, or more.
   pub enough-places : 256 ≤ length places
   -- The call keeps its contract.
-  pub contract : PacketTaken text book slots slots-left places places-left answer
+  pub contract : PacketTaken pieces text book slots slots-left places places-left answer
 
 -- The packet of v over a book, or the number that refuses it, with a place lent for each dword: v's kind and dwords are all that is asked of v.
 unfoldable pub packetFor : EntryValue → List ℕ → Told Packet
@@ -73,8 +75,8 @@ pub record CutOnce (v : EntryValue) (book : List ℕ) (p : Packet) (slots-left :
   pub callers-own : (slots dwords view : Slice) → slots .now ≡ slots-left → OwnDwords slots 0 (take (p .dwords) slots-left) dwords → DataView (v .kind) book dwords view
       → OwnDwords slots (entriesOf book (v .kind)) (drop (entriesOf book (v .kind)) (v .dwords)) view
 
--- A text was read, its entry was written, and what was written is handed on as a text.
-pub record Round (text next : List ℕ) : Type 0 where
+-- A text was read by the choice, its entry was written, and what was written is handed on as a text.
+pub record Round (pieces : Pieces) (text next : List ℕ) : Type 0 where
   -- `read` was lent these slots.
   pub slots : List ℕ
   -- It answered this entry.
@@ -82,7 +84,7 @@ pub record Round (text next : List ℕ) : Type 0 where
   -- It left the slots so, the entry's dwords in front.
   pub left : List ℕ
   -- That was a call of `read` on the text.
-  pub read : ReadCall text slots (A.Entry entry) left
+  pub read : ReadCall pieces text slots (A.Entry entry) left
   -- `write` was lent this buffer.
   pub buffer : List ℕ
   -- It answered that it wrote so many bytes.
@@ -94,39 +96,39 @@ pub record Round (text next : List ℕ) : Type 0 where
   -- The bytes that were written are the next text.
   pub handed-on : next ≡ take count written
 
--- One text comes from another by one round, or by more.
-pub data Comes (text : List ℕ) : List ℕ → Type 0 where
+-- One text comes from another by one round, or by more: it was read first by the choice, and what came of it, which is a record, by any.
+pub data Comes (pieces : Pieces) (text : List ℕ) : List ℕ → Type 0 where
   -- The next text comes from the text.
-  once : {next : List ℕ} → Round text next → Comes text next
+  once : {next : List ℕ} → Round pieces text next → Comes pieces text next
   -- So does whatever comes from that by one more round.
-  again : {next last : List ℕ} → Comes text next → Round next last → Comes text last
+  again : {any : Pieces} {next last : List ℕ} → Comes pieces text next → Round any next last → Comes pieces text last
 
 -- What demand 3 asks of packets.
-pub record OnePacket : Type 0 where
+pub record OnePacket (pieces : Pieces) : Type 0 where
   -- A text that belongs, line or record, gives the packet of what it says.
-  pub of-what-it-says : (text : List ℕ) (v : EntryValue) → Belongs text v
-      → (book slots places : List ℕ) (answer : Answer) (slots-left places-left : List ℕ) → PacketCall text book slots places answer slots-left places-left
+  pub of-what-it-says : (text : List ℕ) (v : EntryValue) → Belongs pieces text v
+      → (book slots places : List ℕ) (answer : Answer) (slots-left places-left : List ℕ) → PacketCall pieces text book slots places answer slots-left places-left
       → Gives v book slots places answer slots-left places-left
-  -- With one book a line and its record give the same packet, or the same number.
-  pub line-and-record : (line record-text : List ℕ) (v : EntryValue) → Line line v → IsRecord record-text v
+  -- With one book a line and its record, which is read by any choice, give the same packet, or the same number.
+  pub line-and-record : (line record-text : List ℕ) (v : EntryValue) → Line pieces line v → IsRecord record-text v
       → (book : List ℕ)
-      → (slots places : List ℕ) (a : Answer) (slots-a places-a : List ℕ) → PacketCall line book slots places a slots-a places-a
-      → (slots′ places′ : List ℕ) (b : Answer) (slots-b places-b : List ℕ) → PacketCall record-text book slots′ places′ b slots-b places-b
+      → (slots places : List ℕ) (a : Answer) (slots-a places-a : List ℕ) → PacketCall pieces line book slots places a slots-a places-a
+      → (any : Pieces) (slots′ places′ : List ℕ) (b : Answer) (slots-b places-b : List ℕ) → PacketCall any record-text book slots′ places′ b slots-b places-b
       → SamePacket a slots-a places-a b slots-b places-b
   -- The data view of kinds 2 and 3 is cut once, from what the text says.
-  pub cut-once : (text : List ℕ) (v : EntryValue) → Belongs text v → isReadResponseOrWriteRequest (v .kind) ≡ true
-      → (book slots places : List ℕ) (p : Packet) (slots-left places-left : List ℕ) → PacketCall text book slots places (P.Packet p) slots-left places-left
+  pub cut-once : (text : List ℕ) (v : EntryValue) → Belongs pieces text v → isReadResponseOrWriteRequest (v .kind) ≡ true
+      → (book slots places : List ℕ) (p : Packet) (slots-left places-left : List ℕ) → PacketCall pieces text book slots places (P.Packet p) slots-left places-left
       → CutOnce v book p slots-left
   -- Never a second cut: however often a text is read, written as a record and fed again, its packet stays the same.
-  pub never-a-second-cut : (text last : List ℕ) → Comes text last
+  pub never-a-second-cut : (text last : List ℕ) → Comes pieces text last
       → (book : List ℕ)
-      → (slots places : List ℕ) (a : Answer) (slots-a places-a : List ℕ) → PacketCall text book slots places a slots-a places-a
-      → (slots′ places′ : List ℕ) (b : Answer) (slots-b places-b : List ℕ) → PacketCall last book slots′ places′ b slots-b places-b
+      → (slots places : List ℕ) (a : Answer) (slots-a places-a : List ℕ) → PacketCall pieces text book slots places a slots-a places-a
+      → (any : Pieces) (slots′ places′ : List ℕ) (b : Answer) (slots-b places-b : List ℕ) → PacketCall any last book slots′ places′ b slots-b places-b
       → SamePacket a slots-a places-a b slots-b places-b
 
--- Demand 3.
-pub record Demand3 : Type 0 where
+-- Demand 3, for strict and for lenient.
+pub record Demand3 (pieces : Pieces) : Type 0 where
   -- Every accepted line has a record, which reads back as the same entry and writes back as the same bytes; no text is both; each says one thing.
-  pub lines-and-records : LinesAndRecords
+  pub lines-and-records : LinesAndRecords pieces
   -- A line and its record give one packet, and its data view is cut once.
-  pub one-packet : OnePacket
+  pub one-packet : OnePacket pieces

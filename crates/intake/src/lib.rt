@@ -8,6 +8,7 @@ mod room;
 use crate::room::at_most_256;
 use crate::room::copy;
 use scan::Answer;
+use scan::Pieces;
 use scan::parse;
 use text::place::byte_at;
 ghost use mathlib.Core.Path.{_≡_};
@@ -25,14 +26,14 @@ pub enum What {
     Neither(u8),
 }
 
-// The entry of a text, its dwords in the first slots; or the one number that refuses it, with no slot touched.
-pub fn read(text: &[u8], slots: &mut [u32]) -> Answer
-    ensures { λ r. ⌜ Taken (now (text .entry)) (now (slots .entry)) (now (slots .exit)) r ⌝ }
+// The entry of a text, its dwords in the first slots; or the one number that refuses it, with no slot touched. A record is read whatever the choice.
+pub fn read(text: &[u8], pieces: Pieces, slots: &mut [u32]) -> Answer
+    ensures { λ r. ⌜ Taken pieces (now (text .entry)) (now (slots .entry)) (now (slots .exit)) r ⌝ }
 {
     if starts_a1(text) {
         return read_record(text, slots);
     }
-    parse(text, slots)
+    parse(text, pieces, slots)
 }
 
 // Byte A1 is first, as it is in every record and in no line.
@@ -53,12 +54,18 @@ fn read_record(text: &[u8], slots: &mut [u32]) -> Answer
 
 // The packet of a text over a book, its dwords in the first slots and the place of each one's entry in the first places; or the one number that
 // refuses the text or the packet, with no slot and no place touched. The dwords wait in an array until the packet is judged.
-pub fn packet(text: &[u8], book: &[u8], slots: &mut [u32], places: &mut [u32]) -> packet::Answer
-    ensures { λ r. ⌜ PacketTaken (now (text .entry)) (now (book .entry)) (now (slots .entry)) (now (slots .exit)) (now (places .entry)) (now (places .exit)) r ⌝ }
+pub fn packet(
+    text: &[u8],
+    pieces: Pieces,
+    book: &[u8],
+    slots: &mut [u32],
+    places: &mut [u32],
+) -> packet::Answer
+    ensures { λ r. ⌜ PacketTaken pieces (now (text .entry)) (now (book .entry)) (now (slots .entry)) (now (slots .exit)) (now (places .entry)) (now (places .exit)) r ⌝ }
 {
     let mut dwords = [0u32; 256];
     let room = at_most_256(slots.len());
-    match read(text, &mut dwords[..room]) {
+    match read(text, pieces, &mut dwords[..room]) {
         Answer::Entry(e) => hand_over(e.kind, book, &dwords[..e.dwords], slots, places),
         Answer::Refused(number) => packet::Answer::Refused(number),
     }
@@ -85,11 +92,11 @@ fn hand_over(
 }
 
 // What a text is. It is read into slots of the call's own, 256 of them, so no text is refused for want of slots, and nothing is lent for writing.
-pub fn what_is(text: &[u8]) -> What
-    ensures { λ r. ⌜ whatTold r ≡ whatOf (now (text .entry)) ⌝ }
+pub fn what_is(text: &[u8], pieces: Pieces) -> What
+    ensures { λ r. ⌜ whatTold r ≡ whatOf pieces (now (text .entry)) ⌝ }
 {
     let mut slots = [0u32; 256];
-    match read(text, &mut slots[..256]) {
+    match read(text, pieces, &mut slots[..256]) {
         Answer::Entry(_) => grammar_of(text),
         Answer::Refused(number) => What::Neither(number),
     }

@@ -15,7 +15,7 @@ same-length : tie.Need-same-length
 same-length c = search needs
 
 returns : tie.Need-returns
-returns c = taken-record _ _ (sym (c .before .before .before .before .before .starts-a1 .ensures) ∙ c .before .before .before .before .if1 .taken) (c .before .before .read-record .ensures)
+returns c = taken-record _ _ _ (sym (c .before .before .before .before .before .starts-a1 .ensures) ∙ c .before .before .before .before .if1 .taken) (c .before .before .read-record .ensures)
 
 parse-requires : tie.Need-parse-requires
 parse-requires c κs = search needs
@@ -24,7 +24,7 @@ same-length-2 : tie.Need-same-length-2
 same-length-2 c = search needs
 
 returns-2 : tie.Need-returns-2
-returns-2 c = taken-line _ _ (sym (c .before .before .before .before .before .starts-a1 .ensures) ∙ c .before .before .before .before .if1 .left) (c .before .before .parse .ensures)
+returns-2 c = taken-line _ _ _ (sym (c .before .before .before .before .before .starts-a1 .ensures) ∙ c .before .before .before .before .if1 .left) (c .before .before .parse .ensures)
 
 pub read-spec : {M : Type 1} → statement M
 read-spec =

@@ -21,10 +21,10 @@ enum-known-number : tie.Need-enum-known-number
 enum-known-number c = search needs
 
 returns : tie.Need-returns
-returns c = what-accepted (c .before .before .before .before .before .before .before .args .text .now) (c .before .before .before .before .read .ensures) refl (c .before .enum-told .given .1) (c .grammar-of .ensures)
+returns c = what-accepted (c .before .before .before .before .before .before .before .args .text .now) _ (c .before .before .before .before .read .ensures) refl (c .before .enum-told .given .1) (c .grammar-of .ensures)
 
 returns-2 : tie.Need-returns-2
-returns-2 c = what-refused (c .before .before .before .before .before .before .before .args .text .now) (c .before .before .before .before .read .ensures) refl (c .before .number .given .1)
+returns-2 c = what-refused (c .before .before .before .before .before .before .before .args .text .now) _ (c .before .before .before .before .read .ensures) refl (c .before .number .given .1)
 
 pub what-is-spec : {M : Type 1} → statement M
 what-is-spec =

@@ -25,13 +25,7 @@ ghost use Rattle.filters.specs.Calls.{UnitPut};
 
 // From a line that starts with A1 on nothing is packed: it is a record, and what follows may be pieces of it. Asked
 // for: room for a record and its row, which `turn` and `finish` have seen to.
-pub fn pack_line(
-    line: &[u8],
-    pieces: Pieces,
-    out: &mut [u8],
-    told: &mut [u8],
-    run: Run,
-) -> Run
+pub fn pack_line(line: &[u8], pieces: Pieces, out: &mut [u8], told: &mut [u8], run: Run) -> Run
     requires { ⌜ Room (length (now out)) (length (now told)) run ⌝ }
     ensures { λ r. ⌜ UnitPut (F.Pack pieces) (now (line .entry)) (now (out .entry)) (now (told .entry)) run (now (out .exit)) (now (told .exit)) r ⌝ }
 {

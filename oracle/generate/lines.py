@@ -446,11 +446,12 @@ CLASSES = {
     "soup": soup, "hostile": hostile,
 }
 CLASSES.update((f"damaged, {name}", damaged_by(members)) for name, members in BYTE_CLASSES.items())
-# Behind the others, so that their lines stay as they are.
-CLASSES.update({
+# Those on which strict hangs; behind the others, so that their lines stay as they are.
+ABOUT_PIECES = {
     "good pieces": good_pieces, "bad piece": bad_piece, "bad pieces": bad_pieces, "bad among many": bad_among_many,
-    "data twice": data_twice, "bad behind a fault": bad_behind_fault})
-# What gets another share than the others: classes of long lines, the twenty of damage, and those on which strict hangs.
+    "data twice": data_twice, "bad behind a fault": bad_behind_fault}
+CLASSES.update(ABOUT_PIECES)
+# What gets another share than the others: classes of long lines, the twenty of damage, and two about pieces.
 SHARE = {"hostile": 0.02, "long": 0.1, "dwords": 0.1, "bad among many": 0.1, "good pieces": 2, "bad piece": 2}
 SHARE.update((f"damaged, {name}", 0.2) for name in BYTE_CLASSES)
 

@@ -14,14 +14,14 @@ see-line-requires c κs = search needs
 put-row-requires : tie.Need-put-row-requires
 put-row-requires c κs = search needs
 
-enum-told-2 : tie.Need-enum-told-2
-enum-told-2 c = search needs
+enum-known-filter : tie.Need-enum-known-filter
+enum-known-filter c = search needs
 
 pack-line-requires : tie.Need-pack-line-requires
 pack-line-requires c κs = search needs
 
-enum-told-3 : tie.Need-enum-told-3
-enum-told-3 c = search needs
+enum-told-2 : tie.Need-enum-told-2
+enum-told-2 c = search needs
 
 see-record-requires : tie.Need-see-record-requires
 see-record-requires c κs = search needs
@@ -42,13 +42,13 @@ same-length-3 : tie.Need-same-length-3
 same-length-3 c = search needs
 
 returns-2 : tie.Need-returns-2
-returns-2 c = rw (c .before .before .before .before .before .before .before .enum-told2 .given .1) (c .before .before .before .before .pack-line .ensures)
+returns-2 c = rw (c .before .before .before .before .before .before .before .before .filter .given .1) (c .before .before .before .before .pack-line .ensures)
 
 same-length-4 : tie.Need-same-length-4
 same-length-4 c = search needs
 
 returns-3 : tie.Need-returns-3
-returns-3 c = rw (c .before .before .before .before .before .enum-told3 .given .1) (unpacked-unit _ _ _ (c .before .before .before .before .before .before .before .before .before .before .args .run) _ _ (omega (arith, c .before .before .before .before .before .before .before .before .before .before .pre .told-at)) (rw (c .before .before .before .before .see-record .ensures) at (c .before .before .put-row2 .ensures)))
+returns-3 c = rw (c .before .before .before .before .before .enum-told2 .given .1) (unpacked-unit _ _ _ (c .before .before .before .before .before .before .before .before .before .before .args .run) _ _ (omega (arith, c .before .before .before .before .before .before .before .before .before .before .pre .told-at)) (rw (c .before .before .before .before .see-record .ensures) at (c .before .before .put-row2 .ensures)))
 
 pub put-unit-spec : {M : Type 1} → statement M
 put-unit-spec =
@@ -57,9 +57,9 @@ put-unit-spec =
     enum-told
     see-line-requires
     put-row-requires
-    enum-told-2
+    enum-known-filter
     pack-line-requires
-    enum-told-3
+    enum-told-2
     see-record-requires
     put-row-requires-2
     same-length

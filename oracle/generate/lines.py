@@ -261,8 +261,17 @@ def many_dwords(seed):
     for _ in range(seed.pick((0, 0, 1, 3))):
         bad = seed.pick((b"zz", b"", b"0x", b"100000000", b" 1"))
         some.insert(seed.below(len(some) + 1), bad)
+    return with_data(seed, bracketed(some))
+
+
+def bracketed(some):
+    return b"[" + b", ".join(some) + b"]"
+
+
+def with_data(seed, value):
+    """A line with this value of `data`."""
     found = parts.pairs(seed)
-    found[b"data"] = b"[" + b", ".join(some) + b"]"
+    found[b"data"] = value
     return parts.line(seed, None, found)
 
 
@@ -275,8 +284,79 @@ def pieces(seed):
     text = seed.pick(some)
     for _ in range(seed.below(7)):
         text += seed.pick(glue) + seed.pick(some)
+    return with_data(seed, b"[" + text + b"]")
+
+
+# Pieces that are no hex number of 32 bits: empty, with a bad digit, too wide, with a blank, two joined, with another prefix.
+BAD_PIECES = (
+    b"", b"0x", b"zz", b"0x04zz", b"none", b"0xg", b"1g", b"100000000", b"0x100000000", b"0x1ffffffff", b"0000000100000000",
+    b"123456789abcdef01", b"1ffffffffg", b" 1", b"1 ", b"0x1 ", b"1 2", b"0x 1", b"\t1", b"1\n", b"0x1,0x2", b"1,2", b"1,",
+    b",", b"0X1", b"0x0x1", b"00x1", b"-1", b"+1", b"1_0", b"x1", b"[1", b"a=1")
+
+
+def good_piece(seed):
+    """A hex number of 32 bits, in any of its forms."""
+    digits = b"%x" % seed.pick((seed.below(2 ** seed.within(1, 32)), seed.below(2**32), 2**32 - 1, 0))
+    digits = digits.upper() if seed.one_in(3) else digits
+    return seed.pick((b"0x", b"0x", b"")) + b"0" * seed.pick((0, 0, 0, 1, 7, 20)) + digits
+
+
+def good_pieces(seed):
+    """Pieces that are all read."""
+    return with_data(seed, bracketed(seed.several(1, 12, good_piece)))
+
+
+def with_bad(seed, some):
+    """These pieces and a bad one: first, in the middle or last, or alone where there are none."""
+    place = seed.pick((0, seed.below(len(some) + 1), len(some)))
+    return bracketed([*some[:place], seed.pick(BAD_PIECES), *some[place:]])
+
+
+def bad_piece(seed):
+    """One bad piece, among good ones or alone."""
+    return with_data(seed, with_bad(seed, seed.several(0, 6, good_piece)))
+
+
+def bad_pieces(seed):
+    """Several bad pieces, and good ones or none between them."""
+    some = seed.several(2, 4, lambda s: s.pick(BAD_PIECES)) + seed.several(0, 4, good_piece)
+    return with_data(seed, bracketed(seed.shuffled(some)))
+
+
+def bad_among_many(seed):
+    """255 to 258 good pieces and a bad one."""
+    count = seed.within(255, 258)
+    return with_data(seed, with_bad(seed, [b"%x" % seed.below(2 ** seed.within(1, 32)) for _ in range(count)]))
+
+
+def data_twice(seed):
+    """Two `data`, one of them with a bad piece; the last counts."""
+    both = seed.shuffled((bracketed(seed.several(1, 4, good_piece)), with_bad(seed, seed.several(0, 3, good_piece))))
+    return with_data(seed, both[0] + b", data=" + both[1])
+
+
+# Headers without task, pid, CPU, timestamp and function.
+FAULTY_HEADS = (
+    b"a [002] 1.2: f", b"a-b [002] 1.2: f", b"a-1 002 1.2: f", b"a-1 [002] 1 2: f", b"a-1 [002] 1.2: f.")
+
+
+def bad_behind_fault(seed):
+    """A bad piece in a line that an earlier number refuses: for the whole of it, its header, a key, or `data` itself."""
     found = parts.pairs(seed)
-    found[b"data"] = b"[" + text + b"]"
+    found[b"data"] = with_bad(seed, seed.several(0, 3, good_piece))
+    how = seed.below(4)
+    if how == 0:
+        text = parts.line(seed, None, found)
+        return seed.pick((b"#" + text, text.ljust(LONGEST + 1), text + b"\x80", text.replace(b":", b";")))
+    if how == 1:
+        return parts.line(seed, seed.pick(FAULTY_HEADS), found)
+    if how == 2:
+        return parts.line(seed, None, found | {b"data": found[b"data"] + b", data=1"})
+    key = seed.pick([key for key in parts.REQUIRED if key != b"data"])
+    del found[key]
+    # A type is never unreadable.
+    if key != b"type" and seed.one_in(2):
+        found[key] = b"z"
     return parts.line(seed, None, found)
 
 
@@ -366,8 +446,13 @@ CLASSES = {
     "soup": soup, "hostile": hostile,
 }
 CLASSES.update((f"damaged, {name}", damaged_by(members)) for name, members in BYTE_CLASSES.items())
-# What gets another share than the others: classes of long lines, and the twenty of damage.
-SHARE = {"hostile": 0.02, "long": 0.1, "dwords": 0.1}
+# Those on which strict hangs; behind the others, so that their lines stay as they are.
+ABOUT_PIECES = {
+    "good pieces": good_pieces, "bad piece": bad_piece, "bad pieces": bad_pieces, "bad among many": bad_among_many,
+    "data twice": data_twice, "bad behind a fault": bad_behind_fault}
+CLASSES.update(ABOUT_PIECES)
+# What gets another share than the others: classes of long lines, the twenty of damage, and two about pieces.
+SHARE = {"hostile": 0.02, "long": 0.1, "dwords": 0.1, "bad among many": 0.1, "good pieces": 2, "bad piece": 2}
 SHARE.update((f"damaged, {name}", 0.2) for name in BYTE_CLASSES)
 
 

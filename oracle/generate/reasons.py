@@ -21,8 +21,8 @@ BAD_WORDS = b"gGxXhzZ_"
 BAD_OTHERS = b"[,\t -+/;@`.=#'\n\v\0\x1f\x7f{|~^?"
 # Headers of which most are none, some with what would be pairs behind the colon.
 HEADS = (b"", b" ", b"a", b"a-b", b"a-1 [002]", b"a-1 [002] 1.2: f", b"[1]", b"route=1", b"data=[1]", b"offset=0x", b"x:offset=1")
-# Another generator's lines, but the long ones.
-HARD = [make for name, make in lines.CLASSES.items() if name not in ("hostile", "long", "dwords")]
+# Another generator's lines, but the long ones and those about pieces, of which there are classes here.
+HARD = [make for name, make in lines.CLASSES.items() if name not in ("hostile", "long", "dwords", *lines.ABOUT_PIECES)]
 
 
 # Texts

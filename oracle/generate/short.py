@@ -21,6 +21,7 @@ PARTS = {
     "short pairs": (GOOD_LINE, (b"size", b"=", b"[", b"]", b"4", b" "), b"", 0),
     "short first pairs": (b"a-1 [002] 1.2: f: ", (b"a", b"=", b"[", b"]", b" "), GOOD, 0),
     "short data": (GOOD_LINE + b" data=[", (b"0x", b"1", b",", b" ", b"g"), b"]", 0),
+    "short pieces": (GOOD_LINE + b" data=[", (b"ffff", b"1", b"0", b", "), b"]", 1),
     "short data value": (GOOD_LINE + b" data=", (b"[", b"]", b"1", b", "), b"", 1),
     "short hex": (GOOD_LINE + b" offset=", (b"0", b"x", b"F", b"g", b"_"), b"", 0),
     "short route": (GOOD_LINE + b" route=", (b"0x", b"ffff", b"1", b"0", b"g"), b"", 0),

@@ -1,4 +1,6 @@
-"""Lines of the frozen sample that were chosen one by one: document 01's cases and the edges."""
+"""Lines of the frozen sample that were chosen one by one: the documents' cases and the edges."""
+
+from generate.lines import BAD_PIECES, FAULTY_HEADS
 
 HEAD = b"a-1 [002] 1.2: f: "
 BODY = b"type=t size=3 domain=0 route=0 data=[1]"
@@ -77,6 +79,10 @@ PAYLOADS = [
 TYPES = [b"TB_CFG_PKG_" + name for name in (
     b"READ", b"WRITE", b"ERROR", b"NOTIFY_ACK", b"EVENT", b"XDOMAIN_REQ", b"XDOMAIN_RESP",
     b"ICM_EVENT", b"ICM_CMD", b"ICM_RESP", b"", b"READ_", b"OVERRIDE")]
+# Values of `data` whose pieces are all read, and some in which one is bad or there is none.
+DATA = (
+    b"[0]", b"[ffffffff]", b"[0xFFFFFFFF, 0xffffffff]", b"[00000000000000000000000ffffffff]", b"[0x000000000000001, 1]",
+    b"[1, 2, 3, 4, 5, 6, 7, 8]", b"[]", b"[z] data=[]", b"[z] data=[1]", b"[1] data=[z]", b"[z] data=1", b"[1]]", b"[1, 2 ]")
 UNREADABLE = (b"z", b"[1]", b"0x", b"65536")
 OPTIONAL = (b"offset", b"error", b"len", b"port", b"config", b"seq", b"unplug", b"dropped")
 
@@ -86,6 +92,30 @@ def pieces(*counts):
     good, bad = counts
     dwords = [b"%x" % (i * 2654435761 % 2**32 >> i % 32) for i in range(good)]
     return b"data=[" + b", ".join(dwords + [b"zz"] * bad) + b"]"
+
+
+def around(bad):
+    """Brackets with a bad piece: alone, first, in the middle and last."""
+    for some in ([bad], [bad, b"1"], [b"1", bad, b"2"], [b"1", bad]):
+        yield b"[" + b", ".join(some) + b"]"
+
+
+def data_lines():
+    """Lines that hang on their pieces."""
+    start = HEAD + b"type=t size=3 domain=0 route=0 data="
+    yield from (start + text for text in DATA)
+    yield from (start + text for bad in BAD_PIECES for text in around(bad))
+
+
+def earlier():
+    """A bad piece, with slots and without, in lines that an earlier number refuses: each of 1 to 15, but 10."""
+    keys = [b"type=t", b"size=3", b"domain=0", b"route=0"]
+    bad = b" ".join(keys) + b" data=[1, z]"
+    lines = [b"#" + HEAD + bad, (HEAD + bad).ljust(4097), HEAD + bad + b"\x80", (HEAD + bad).replace(b":", b";")]
+    lines += [head + b": " + bad for head in FAULTY_HEADS]
+    lines += [HEAD + b" ".join(key for key in keys if key != missing) + b" data=[1, z]" for missing in keys]
+    lines += [HEAD + bad + b" " + key for key in (b"size=z", b"domain=z", b"route=z", b"data=1")]
+    return [(line, slots) for line in lines for slots in (256, 0)]
 
 
 def plain_lines():
@@ -112,9 +142,9 @@ def with_slots():
     """Lines with the number of dword slots lent, around what each needs."""
     for count in (0, 1, 2, 3, 7, 12):
         text = GOOD + b" " + pieces(count, 1)
-        around = sorted({0, max(count - 1, 0), count, count + 1, 256})
-        yield from ((text, slots) for slots in around)
-    for good, bad in ((255, 0), (256, 0), (256, 1), (257, 0), (258, 0)):
+        near = sorted({0, max(count - 1, 0), count, count + 1, 256})
+        yield from ((text, slots) for slots in near)
+    for good, bad in ((255, 0), (256, 0), (256, 1), (257, 0), (258, 0), (257, 1)):
         yield from ((HEAD + BODY + b" " + pieces(good, bad), slots) for slots in (256, 255, 1, 300))
     # A refusal of the line comes before any of the slots.
     refused = (b"", b"x", GOOD, GOOD + b" size=z", GOOD + b" data=[]", HEAD, b"\x80")

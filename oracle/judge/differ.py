@@ -8,7 +8,7 @@ import tempfile
 from generate import books, lines as generator, packets as packet_generator
 from generate.tree import encoded
 from judge import packets
-from judge.lines import beyond
+from judge.lines import bad_piece, beyond, both
 from judge.tally import Tally, ask, in_parts
 from reading import line as reading, packet as packet_reading
 from reading.book import read_book
@@ -37,29 +37,32 @@ def run(program, parts, count):
 
 # Lines
 
-def replay(texts):
-    """The program's answers, one a line, with 256 slots lent for each."""
-    frames = (struct.pack("<II", len(text), SLOTS) + text for text in texts)
-    return run("replay", frames, len(texts))
+def line_frame(line, slots, strict):
+    """A line as `replay` takes it: its length, the slots lent, the choice, and the line."""
+    return struct.pack("<IIB", len(line), slots, strict) + line
+
+
+def replay(texts, strict):
+    """The program's answers by one choice, one a line, with 256 slots lent for each."""
+    return run("replay", (line_frame(text, SLOTS, strict) for text in texts), len(texts))
 
 
 def judge(tally, name, line, oracle, ours):
-    """Inside the limits the Rust decides, beyond them document 01, by the second reading."""
+    """Lenient: inside the limits the Rust decides, beyond them document 01, by the second reading. Strict: the same where no piece is bad, else the reading."""
     outside = beyond(line, oracle)
-    if outside is None:
-        expected = oracle.replace("none ", "refused ")
-    else:
-        expected = reading.answer(line)
-    if ours != expected:
-        return tally.differ(name, line, expected, ours)
+    lenient = oracle.replace("none ", "refused ") if outside is None else reading.answer(line)
+    strict = reading.answer(line, strict=True) if bad_piece(line) else lenient
+    if ours != (lenient, strict):
+        return tally.differ(name, line, (lenient, strict), ours)
     if outside is not None:
-        return tally.beyond(name, f"{outside[0]}: {ours}")
-    return tally.same(name, "entry" if ours.startswith("entry ") else ours)
+        return tally.beyond(name, f"{outside[0]}: {', '.join(both(*ours))}")
+    return tally.all_same(name, both(*ours))
 
 
 def judge_all(tally, some):
     texts = [line for _, line in some]
-    for (name, line), oracle, ours in zip(some, ask("lines", texts), replay(texts)):
+    rows = zip(replay(texts, strict=False), replay(texts, strict=True))
+    for (name, line), oracle, ours in zip(some, ask("lines", texts), rows):
         judge(tally, name, line, oracle, ours)
 
 
@@ -67,6 +70,7 @@ def compare(seed, count, short):
     tally = Tally()
     for some in in_parts(generator.generate(seed, count, short), AT_ONCE):
         judge_all(tally, some)
+    tally.must_meet("strict refused 18")
     return tally
 
 

@@ -10,8 +10,8 @@ from generate.broken import RULES
 from generate.seed import Seed, frame
 from generate.tree import encoded
 from judge import chosen, chosen_books, chosen_reasons, chosen_records
-from judge.differ import group
-from judge.lines import beyond
+from judge.differ import group, line_frame
+from judge.lines import beyond, strictly
 from judge.tally import ask
 from reading import book as book_reading, line as line_reading, packet as packet_reading, pending, reasons, record as record_reading
 
@@ -29,8 +29,10 @@ def unsigned(number):
 EACH_CLASS = 40
 EACH_DAMAGE = 7
 LONGEST_TAKEN = 250
-FEW = {"long": 8, "dwords": 4, "hostile": 5}
+FEW = {"long": 8, "dwords": 4, "hostile": 5, "bad among many": 4}
 EACH_SHORT = 88
+# Lines of each number before 15 that are read strictly too.
+EACH_EARLIER = 5
 
 
 def class_lines():
@@ -59,27 +61,52 @@ def line_cases():
     cases.update(dict.fromkeys(chosen.with_slots()))
     cases.update(dict.fromkeys((line, SLOTS) for line in class_lines()))
     cases.update(dict.fromkeys((line, SLOTS) for line in short_lines()))
+    cases.update(dict.fromkeys((line, SLOTS) for line in chosen.data_lines()))
+    cases.update(dict.fromkeys(chosen.earlier()))
     return list(cases)
 
 
-def line_answer(line, slots, oracle, origin):
+def lenient_answer(line, slots, oracle, origin):
     """The judged file's answer where it has one, else the reading's."""
     ours = line_reading.answer(line, slots)
     if beyond(line, oracle) is None and ours != "refused 17":
         if ours != oracle.replace("none ", "refused "):
             raise ValueError(f"{line!r}: {oracle} against {ours}")
-        origin["the Rust"] += 1
+        origin["the Rust, lenient"] += 1
         return ours
-    origin[f"the reading, {ours}"] += 1
+    origin[f"the reading, lenient {ours}"] += 1
     return ours
 
 
+def strict_answer(line, slots, lenient, origin):
+    """The reading's answer, which is lenient's but for 18."""
+    ours = line_reading.answer(line, slots, strict=True)
+    if ours != strictly(line, lenient):
+        raise ValueError(f"{line!r}: strict {ours} where lenient is {lenient}")
+    origin["the lenient answer, strict" if ours == lenient else f"the reading, strict {ours}"] += 1
+    return ours
+
+
+def read_strictly(answered):
+    """The cases of which strict is asked too: all that come as far as their data, the chosen ones that an earlier number refuses, and a few of each such number."""
+    taken, chosen_ones = Counter(), set(chosen.earlier())
+    for case, lenient in answered:
+        taken[lenient] += 1
+        as_far = lenient.startswith("entry ") or int(lenient.split(" ")[1]) >= 15
+        if as_far or case in chosen_ones or taken[lenient] <= EACH_EARLIER:
+            yield case, lenient
+
+
 def freeze_lines(origin):
+    """Every case by lenient, then some by strict; an answer is a pair, of the choice and the row."""
     cases = line_cases()
     oracle = ask("lines", [line for line, _ in cases])
-    answers = [line_answer(line, slots, said, origin) for (line, slots), said in zip(cases, oracle)]
-    data = b"".join(unsigned(len(line)) + unsigned(slots) + line for line, slots in cases)
-    return {"lines.bin": data, "lines.txt": text(answers)}, answers
+    answered = [((line, slots), lenient_answer(line, slots, said, origin)) for (line, slots), said in zip(cases, oracle)]
+    rows = [(*case, False, lenient) for case, lenient in answered]
+    rows += [(*case, True, strict_answer(*case, lenient, origin)) for case, lenient in read_strictly(answered)]
+    data = b"".join(line_frame(line, slots, strict) for line, slots, strict, _ in rows)
+    answers = [(strict, row) for _, _, strict, row in rows]
+    return {"lines.bin": data, "lines.txt": text(row for _, row in answers)}, answers
 
 
 def text(answers):

@@ -42,6 +42,6 @@ class Hexes(Calls):
     def piece(self, index):
         return heard(self.call_piece(self.text, self.length, index))
 
-    def entry(self, slots):
-        """What the line's reader says: number, struct and the bytes of the dwords."""
-        return self.read("ck_parse", self.text[:self.length], slots)
+    def entry(self, name, slots):
+        """What a reader of lines says: number, struct and the bytes of the dwords."""
+        return self.read(name, self.text[:self.length], slots)

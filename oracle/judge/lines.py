@@ -1,8 +1,8 @@
-"""Lines: inside the limits both must say the same, beyond them each by its own rule."""
+"""Lines: inside the limits lenient must say the same as the Rust, beyond them each by its own rule; strict must be lenient where no piece is bad."""
 
 from generate import lines as generator
 from judge.tally import Tally, ask, in_parts
-from reading import line as reading
+from reading import line as reading, reasons
 
 AT_ONCE = 20_000
 
@@ -27,24 +27,44 @@ def beyond(line, oracle):
     return None
 
 
+def bad_piece(line):
+    """Is a piece of the line's data no hex number of 32 bits? As the reading of reasons finds and reads the pieces, in its own way."""
+    return any(said.what != "value" for said in reasons.Line(line).pieces)
+
+
+def strictly(line, lenient):
+    """Strict by what lenient says: 1 to 15 are the same; else 18 if a piece is bad; else the same."""
+    as_far = lenient.startswith("entry ") or lenient in ("refused 16", "refused 17")
+    return "refused 18" if as_far and bad_piece(line) else lenient
+
+
+def word(answer):
+    """An answer as it is counted."""
+    return "entry" if answer.startswith("entry ") else answer
+
+
+def both(lenient, strict):
+    """The answers of both choices as they are counted."""
+    return f"lenient {word(lenient)}", f"strict {word(strict)}"
+
+
 def judge(tally, name, line, oracle):
-    ours = reading.answer(line)
+    """Lenient by the Rust, and strict by that."""
     outside = beyond(line, oracle)
+    expected = oracle.replace("none ", "refused ") if outside is None else f"refused {outside[1]}"
+    said = reading.answer(line), reading.answer(line, strict=True)
+    if said != (expected, strictly(line, expected)):
+        return tally.differ(name, line, (oracle, strictly(line, expected)), said)
     if outside is not None:
-        reason, number = outside
-        if ours != f"refused {number}":
-            return tally.differ(name, line, oracle, ours)
-        said = "entry" if oracle.startswith("entry ") else oracle
-        return tally.beyond(name, f"{reason}: reading {ours}, oracle {said}")
-    if ours == oracle.replace("none ", "refused "):
-        return tally.same(name, "entry" if ours.startswith("entry ") else ours)
-    return tally.differ(name, line, oracle, ours)
+        return tally.beyond(name, f"{outside[0]}: reading {', '.join(both(*said))}, oracle {word(oracle)}")
+    return tally.all_same(name, both(*said))
 
 
 def compare(seed, count, short):
     tally = Tally()
     for some in in_parts(generator.generate(seed, count, short), AT_ONCE):
         judge_all(tally, some)
+    tally.must_meet("strict refused 18")
     return tally
 
 

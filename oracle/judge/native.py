@@ -94,7 +94,7 @@ class Calls:
             [os.environ.get("CC", "cc"), "-shared", "-o", shared, "-Wl,--whole-archive", archive,
              "-Wl,--no-whole-archive"], check=True)
         self.library = ctypes.CDLL(shared)
-        for name in ("ck_parse", "ck_record_read", "ck_read"):
+        for name in ("ck_parse", "ck_parse_lenient", "ck_record_read", "ck_read", "ck_read_lenient"):
             call = getattr(self.library, name)
             call.restype = EntryAnswer
             call.argtypes = [

@@ -6,6 +6,7 @@ from generate import reasons as generator
 from generate.seed import Seed
 from judge.hexes import Hexes
 from judge.native import value
+from judge.records import many
 from judge.tally import Tally
 from reading import reasons
 from reading.line import MOST_DWORDS
@@ -54,7 +55,7 @@ def number_of(answer):
 
 
 def fits(said, line, heard, slots):
-    """Does what the line's reader says fit the answers of the keys and pieces?"""
+    """Does what the lenient reader says fit the answers of the keys and pieces?"""
     number, entry, dwords = said
     keys, pieces = heard[0][:len(FIELDS)], heard[1]
     if isinstance(keys[0], int):
@@ -69,25 +70,40 @@ def fits(said, line, heard, slots):
     return behind.get(number, number in (5, 6, 7, 8, 9, 11, 12, 13))
 
 
+def fits_strict(strict, lenient, line, pieces):
+    """Does what the strict reader says fit? It is 18 exactly where neither of 1 to 15 comes and a piece is no number; else it says the same."""
+    if lenient[0] in (0, 16, 17) and any(answer.what not in ("value", "absent") for answer in pieces):
+        return strict[0] == 18
+    said = [number if number else value(line, entry, dwords) for number, entry, dwords in (strict, lenient)]
+    return said[0] == said[1]
+
+
+def branch(choice, number):
+    """What a reader said, to be counted."""
+    return f"{choice}: line refused {number}" if number else f"{choice}: line accepted"
+
+
 def judge_line(hexes, tally, reading, name, line, turn, slots):
-    """Every answer beside the reading's; then all of them beside the line's reader."""
+    """Every answer beside the reading's; then all of them beside the line's readers."""
     hexes.lend(line)
     known = reading.Line(line)
     keys, indexes = questions(turn, known)
     expected, got = answers(known, keys, indexes), answers(hexes, keys, indexes)
     if expected != got:
         return tally.differ(name, line, *first_difference(keys, indexes, expected, got))
-    said = hexes.entry(slots)
-    if not fits(said, line, got, slots):
-        return tally.differ(name, line, f"{got}", f"the line's reader with {slots} slots: {said[0]}")
-    tally.branches[f"line refused {said[0]}" if said[0] else "line accepted"] += 1
+    lenient, strict = hexes.entry("ck_parse_lenient", slots), hexes.entry("ck_parse", slots)
+    if not fits(lenient, line, got, slots) or not fits_strict(strict, lenient, line, got[1]):
+        return tally.differ(name, line, f"{got}", f"the line's readers with {slots} slots: lenient {lenient[0]}, strict {strict[0]}")
+    tally.branches.update((branch("lenient", lenient[0]), branch("strict", strict[0])))
     return tally.all_same(name, words(keys, got))
 
 
 def compare(seed, most_lines, short=0, reading=reasons, hexes=None, most=None):
     """All texts of up to `short` tokens, if any; then so many generated lines. Ends earlier with `most` differences."""
     tally, source, hexes = Tally(), Seed(seed + 1), hexes or Hexes()
-    given = chain(generator.all_short(short), islice(generator.generate(seed), most_lines))
+    # A generated line of too many pieces has a bad one mostly.
+    first = [("257 good pieces", many(257))]
+    given = chain(first, generator.all_short(short), islice(generator.generate(seed), most_lines))
     for turn, (name, line) in zip(count(), given):
         slots = source.below(4) if source.one_in(20) else MOST_DWORDS
         judge_line(hexes, tally, reading, name, line, turn, slots)

@@ -30,7 +30,7 @@ def many(count):
 
 
 def run_cases():
-    """Document 01's cases to be run: length and number of dwords at their limits, and few slots."""
+    """Document 01's cases to be run: length and number of dwords at their limits, and few slots. Then document 02's two of a bad piece beyond them."""
     fill = HEAD + b"data=[1] k="
     yield "4,096 bytes", fill + b"x" * (4096 - len(fill)), 256
     yield "4,097 bytes", fill + b"x" * (4097 - len(fill)), 256
@@ -38,36 +38,51 @@ def run_cases():
     yield "256 dwords, 255 slots", many(256), 255
     yield "257 dwords", many(257), 256
     yield "257 dwords, 3 slots", many(257), 3
+    yield "257 dwords and a bad piece", many(257)[:-1] + b", z]", 256
+    yield "a bad piece, no slot", HEAD + b"data=[1, z]", 0
+
+
+class Differs(Exception):
+    """What was expected, and what came."""
+
+
+def must_be(expected, got):
+    if got != expected:
+        raise Differs(expected, got)
+
+
+# Which calls read a line, and a line or a record, by each choice.
+CHOICES = {"lenient": ("ck_parse_lenient", "ck_read_lenient"), "strict": ("ck_parse", "ck_read")}
+
+
+def trip(calls, line, slots, choice):
+    """A line by a choice to its entry, its record, the record's entry and that one's record; what came of it."""
+    parse, read = CHOICES[choice]
+    expected = outcome(line_reading.read_line, line, slots, choice == "strict")
+    number, entry, dwords = calls.read(parse, line, slots)
+    must_be(expected, number if number != 0 else value(line, entry, dwords))
+    must_be(expected if line[:1] != b"\xa1" else outcome(reading.read_record, line, slots), ours(calls, read, line, slots))
+    if number != 0:
+        return f"refused {number}"
+    must_be((line_reading.adapter(expected), line_reading.unplugged(expected), line_reading.event_name(expected["event"])), calls.questions(entry))
+    made = reading.write_record(expected)
+    must_be((0, made), calls.write(line, entry, dwords, 5227))
+    must_be((36, b""), calls.write(line, entry, dwords, len(made) - 1))
+    must_be(expected, ours(calls, "ck_record_read", made, slots))
+    # A record has no pieces: either intake reads it, whatever its line was read by.
+    for _, intake in CHOICES.values():
+        must_be(expected, ours(calls, intake, made, slots))
+    _, again, copied = calls.read("ck_record_read", made, slots)
+    must_be((0, made), calls.write(made, again, copied, len(made)))
+    return "line, record, entry, record"
 
 
 def judge_trip(calls, tally, name, line, slots):
-    """A line to its entry, its record, the record's entry and that one's record."""
-    expected = outcome(line_reading.read_line, line, slots)
-    number, entry, dwords = calls.read("ck_parse", line, slots)
-    got = number if number != 0 else value(line, entry, dwords)
-    if got != expected or ours(calls, "ck_read", line, slots) != (
-            expected if line[:1] != b"\xa1" else outcome(reading.read_record, line, slots)):
-        return tally.differ(name, line, expected, got)
-    if number != 0:
-        return tally.same(name, f"refused {number}")
-    asked = (line_reading.adapter(expected), line_reading.unplugged(expected),
-             line_reading.event_name(expected["event"]))
-    if calls.questions(entry) != asked:
-        return tally.differ(name, line, asked, calls.questions(entry))
-    made = reading.write_record(expected)
-    written, data = calls.write(line, entry, dwords, 5227)
-    if (written, data) != (0, made):
-        return tally.differ(name, line, made, (written, data))
-    if calls.write(line, entry, dwords, len(made) - 1) != (36, b""):
-        return tally.differ(name, line, 36, "a record in a buffer that is too short")
-    number, again, copied = calls.read("ck_record_read", made, slots)
-    if number != 0 or value(made, again, copied) != expected:
-        return tally.differ(name, line, expected, number)
-    if ours(calls, "ck_read", made, slots) != expected:
-        return tally.differ(name, line, expected, "another answer of the intake")
-    if calls.write(made, again, copied, len(made)) != (0, made):
-        return tally.differ(name, line, made, "another record from the record")
-    return tally.same(name, "line, record, entry, record")
+    try:
+        said = [f"{choice}: {trip(calls, line, slots, choice)}" for choice in CHOICES]
+    except Differs as found:
+        return tally.differ(name, line, *found.args)
+    return tally.all_same(name, said)
 
 
 def trips(seed, count, short):
@@ -77,6 +92,7 @@ def trips(seed, count, short):
         judge_trip(calls, tally, name, line, slots)
     for name, line in line_generator.generate(seed, count, short):
         judge_trip(calls, tally, name, line, source.below(4) if source.one_in(20) else 256)
+    tally.must_meet("strict: refused 18")
     return tally
 
 

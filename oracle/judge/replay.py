@@ -22,12 +22,12 @@ def answers(folder, name):
 
 
 def line_cases(data):
-    """Line and slots lent."""
+    """Line, slots lent, and whether it is read strictly."""
     at = 0
     while at < len(data):
-        length, slots = numbers(data, at, 2)
-        yield data[at + 8:at + 8 + length], slots
-        at += 8 + length
+        length, slots, choice = struct.unpack_from("<IIB", data, at)
+        yield data[at + 9:at + 9 + length], slots, choice != 0
+        at += 9 + length
 
 
 def frames(data):

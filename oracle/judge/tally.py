@@ -49,6 +49,7 @@ class Tally:
         self.branches = Counter()
         self.compared = 0
         self.differences = []
+        self.unmet = []
 
     def same(self, name, answer):
         self.classes[name] += 1
@@ -69,6 +70,14 @@ class Tally:
         self.classes[name] += 1
         self.differences.append((len(given), name, given, oracle, reading))
 
+    def must_meet(self, answer):
+        """An answer that no case gave counts against the run, since nothing was seen of it."""
+        if not self.answers[answer]:
+            self.unmet.append(answer)
+
+    def good(self):
+        return not self.differences and not self.unmet
+
     def show(self):
         for title in ("books", "classes", "answers", "branches", "outside"):
             counts = getattr(self, title)
@@ -78,6 +87,8 @@ class Tally:
         for _, name, given, oracle, reading in sorted(self.differences)[:SHOWN]:
             print(f"difference in {name}: {given[:5000]!r}")
             print(f"  oracle  {oracle}\n  reading {reading}")
+        for answer in self.unmet:
+            print(f"not met: {answer}")
         print(f"given {sum(self.classes.values())} compared {self.compared} outside "
               f"{sum(self.outside.values())} differences {len(self.differences)} "
               f"seconds {time.monotonic() - self.start:.0f}")

@@ -1,4 +1,4 @@
-"""The line grammar: a line to its entry, or the number of its refusal."""
+"""The line grammar, strict and lenient: a line to its entry, or the number of its refusal."""
 
 from reading.texts import (
     BLANKS, DIGITS, WORDS, Refused, decimal, hexadecimal, listed, or_none, run_end, stripped)
@@ -150,17 +150,19 @@ def required(found, key, number, reader, bits):
     return value
 
 
-def data(found):
-    """The bracket's pieces between comma-spaces, those left out that are not hex."""
+def numbers(found):
+    """What each of the bracket's pieces between comma-spaces reads as; none of a bad one, which is no hex number of 32 bits."""
     text = found.get(b"data", b"")
     if text[:1] != b"[":
         raise Refused(15)
-    dwords = []
-    for piece in text[1:-1].split(b", "):
-        value = hexadecimal(piece, 2**32)
-        if value is not None:
-            dwords.append(value)
-    return dwords
+    return [hexadecimal(piece, 2**32) for piece in text[1:-1].split(b", ")]
+
+
+def dwords(values, strict):
+    """The choice of document 02 c): a bad piece refuses the line in strict, and is left out in lenient."""
+    if strict and None in values:
+        raise Refused(18)
+    return [value for value in values if value is not None]
 
 
 def read_header(header):
@@ -181,12 +183,12 @@ def read_payload(payload, function_name):
     entry["route"] = required(found, b"route", 14, hexadecimal, 64)
     for field, (key, reader, bits) in OPTIONAL.items():
         entry[field] = reader(found[key], 2**bits) if key in found else None
-    entry["data"] = data(found)
+    entry["data"] = numbers(found)
     return entry
 
 
-def read_line(line, slots=MOST_DWORDS):
-    """The entry as a dictionary, or `Refused` with the first number that applies."""
+def read_line(line, slots=MOST_DWORDS, strict=False):
+    """The entry as a dictionary, or `Refused` with the first number that applies: 18 stands behind 15, before 16 and 17."""
     if line in (b"", b"\n") or line[:1] == b"#":
         raise Refused(1)
     if len(line) > LONGEST:
@@ -198,6 +200,7 @@ def read_line(line, slots=MOST_DWORDS):
         raise Refused(4)
     entry = read_header(stripped(line[:colon]))
     entry.update(read_payload(stripped(line[colon + 1:]), entry["function"]))
+    entry["data"] = dwords(entry["data"], strict)
     if len(entry["data"]) > MOST_DWORDS:
         raise Refused(16)
     if len(entry["data"]) > slots:
@@ -233,8 +236,8 @@ def printed(entry):
     return "entry " + " ".join(parts)
 
 
-def answer(line, slots=MOST_DWORDS):
+def answer(line, slots=MOST_DWORDS, strict=False):
     try:
-        return printed(read_line(line, slots))
+        return printed(read_line(line, slots, strict))
     except Refused as refusal:
         return f"refused {refusal.number}"

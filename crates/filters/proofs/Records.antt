@@ -11,6 +11,7 @@ use Rattle.text.specs.Told as T
 use Rattle.tlv.specs.Number.{Bytes}
 use Rattle.entry.specs.declared.Entry.{Entry}
 use Rattle.entry.specs.Entry.{EntryValue, valueOf}
+use Rattle.scan.specs.declared.Pieces.{Pieces}
 use Rattle.scan.specs.declared.Answer.the-variants as A
 use Rattle.scan.specs.Parse.{Parsed, parseOf, lineDwords}
 use Rattle.scan.specs.Line.{Line}
@@ -30,14 +31,14 @@ use Rattle.filters.specs.Rows.{Recorded}
 use Rattle.filters.specs.Texts.{recordOf, recordBy}
 
 -- the line's entry has a record, and it is the line's record
-module _ (t slots left : List ℕ) {e : Entry} (bytes : Bytes t) (first : startsA1 t ≡ false) (size : length slots ≡ 256) (p : Parsed t slots left (A.Entry e)) where
-  call : ReadCall t slots (A.Entry e) left
-  call = record { bytes = bytes; enough = omega arith; contract = taken-line t slots first p }
+module _ (pieces : Pieces) (t slots left : List ℕ) {e : Entry} (bytes : Bytes t) (first : startsA1 t ≡ false) (size : length slots ≡ 256) (p : Parsed pieces t slots left (A.Entry e)) where
+  call : ReadCall pieces t slots (A.Entry e) left
+  call = record { bytes = bytes; enough = omega arith; contract = taken-line pieces t slots first p }
 
   pub line-recorded : Recorded t e left
   unfolding bytesOf
   line-recorded =
-      let h = line-has-a-record t slots e left first call in
+      let h = line-has-a-record pieces t slots e left first call in
       let same : valueOf e t left ≡ h .0 = h .2 .says .is in
       record {
         short = rw same (h .2 .short);
@@ -48,12 +49,12 @@ module _ (t slots left : List ℕ) {e : Entry} (bytes : Bytes t) (first : starts
             rw same (rw n at (sym (r .1) ∙ ap writtenTold (w .number)));
       }
 
-  pub line-record : recordOf t ≡ bytesOf t e left
+  pub line-record : recordOf pieces t ≡ bytesOf t e left
   unfolding recordOf recordBy bytesOf
   line-record =
-      let h = line-has-a-record t slots e left first call in
-      let q : parseOf t 256 ≡ T.is e = sym (p .answer ∙ rw size) in
-      let v : valueOf e t (lineDwords t) ≡ h .0 = one-line-reading t (line-entry-is t 256 q) (h .1) in
+      let h = line-has-a-record pieces t slots e left first call in
+      let q : parseOf pieces t 256 ≡ T.is e = sym (p .answer ∙ rw size) in
+      let v : valueOf e t (lineDwords t) ≡ h .0 = one-line-reading pieces t (line-entry-is pieces t 256 q) (h .1) in
       rw q (ap recordBytes (v ∙ sym (h .2 .says .is)))
 
 -- a record written into the rest of a buffer

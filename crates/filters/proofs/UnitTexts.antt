@@ -8,6 +8,8 @@ use lib.ListN.{length, length-append}
 use Rattle.text.specs.Decimal.{decimalText}
 use Rattle.text.specs.Quote.{bytes}
 use Rattle.entry.specs.declared.Entry.{Entry}
+use Rattle.scan.specs.declared.Pieces.{Pieces}
+use Rattle.scan.specs.declared.Pieces.the-variants.{Lenient}
 use Rattle.scan.specs.declared.Answer.{Answer}
 use Rattle.scan.specs.declared.Answer.the-variants as A
 use Rattle.scan.specs.Parse.{answerTold, parseOf}
@@ -33,14 +35,6 @@ use Rattle.filters.proofs.Parts.{put-none}
 
 -- what a row says, from the answer of the reader
 module _ (u : List ℕ) {k : ℕ} (enough : k ≡ 256) where
-  pub line-entry : {r : Answer} {e : Entry} → answerTold r ≡ parseOf u k → r ≡ A.Entry e → S.Entry (e .kind) (e .dwords) ≡ seenLine u
-  unfolding seenLine seenBy
-  line-entry a q = rw (← enough, ← a, q)
-
-  pub line-refused : {r : Answer} {n : ℕ} → answerTold r ≡ parseOf u k → r ≡ A.Refused n → S.Refused n ≡ seenLine u
-  unfolding seenLine seenBy
-  line-refused a q = rw (← enough, ← a, q)
-
   pub record-entry : {r : Record.Answer} {e : Entry} → recordTold r ≡ readOf u k → r ≡ R.Entry e → S.Entry (e .kind) (e .dwords) ≡ seenRecord u
   unfolding seenRecord seenBy
   record-entry a q = rw (← enough, ← a, q)
@@ -49,9 +43,18 @@ module _ (u : List ℕ) {k : ℕ} (enough : k ≡ 256) where
   unfolding seenRecord seenBy
   record-refused a q = rw (← enough, ← a, q)
 
-  pub refused-record : {r : Answer} {n : ℕ} → answerTold r ≡ parseOf u k → r ≡ A.Refused n → recordOf u ≡ []
-  unfolding recordOf recordBy
-  refused-record a q = rw (← enough, ← a, q)
+  module _ (pieces : Pieces) where
+    pub line-entry : {r : Answer} {e : Entry} → answerTold r ≡ parseOf pieces u k → r ≡ A.Entry e → S.Entry (e .kind) (e .dwords) ≡ seenLine pieces u
+    unfolding seenLine seenBy
+    line-entry a q = rw (← enough, ← a, q)
+
+    pub line-refused : {r : Answer} {n : ℕ} → answerTold r ≡ parseOf pieces u k → r ≡ A.Refused n → S.Refused n ≡ seenLine pieces u
+    unfolding seenLine seenBy
+    line-refused a q = rw (← enough, ← a, q)
+
+    pub refused-record : {r : Answer} {n : ℕ} → answerTold r ≡ parseOf pieces u k → r ≡ A.Refused n → recordOf pieces u ≡ []
+    unfolding recordOf recordBy
+    refused-record a q = rw (← enough, ← a, q)
 
 -- one unit more
 module _ (c : Counts) {seen : Seen} {n : ℕ} (a : n ≡ oneMore (c .units)) where
@@ -152,7 +155,7 @@ module _ (told : List ℕ) (run : Run) (told′ : List ℕ) {next : Counts} (r :
 
 -- a unit, by its row
 module _ (u out told : List ℕ) (run : Run) (out′ : List ℕ) (r : Run) (room : run .told ≤ length told) where
-  pub listed-unit : RowPut (seenLine u) out run out′ r → UnitPut F.Listing u out told run out′ told r
+  pub listed-unit : RowPut (seenLine Lenient u) out run out′ r → UnitPut F.Listing u out told run out′ told r
   unfolding outText toldText nextCounts
   listed-unit p =
       record {
@@ -183,8 +186,8 @@ if-not : {A : Type 0} {b : Bool} (x y : A) → b ≡ false → cond b x y ≡ y
 if-not x y e = rw e
 
 -- a line that is packed
-module _ (u out told : List ℕ) (run : Run) (at-room : run .at ≤ length out) (told-room : run .told ≤ length told) where
-  pub stopped-unit : run .counts .stopped ≡ true → UnitPut F.Pack u out told run out told run
+module _ (pieces : Pieces) (u out told : List ℕ) (run : Run) (at-room : run .at ≤ length out) (told-room : run .told ≤ length told) where
+  pub stopped-unit : run .counts .stopped ≡ true → UnitPut (F.Pack pieces) u out told run out told run
   unfolding outText toldText nextCounts
   stopped-unit q =
       record {
@@ -197,7 +200,7 @@ module _ (u out told : List ℕ) (run : Run) (at-room : run .at ≤ length out) 
       }
 
   module _ (goes : run .counts .stopped ≡ false) where
-    pub stopping-unit : startsA1 u ≡ true → {told′ : List ℕ} {r : Run} → Stopped told run told′ r → UnitPut F.Pack u out told run out told′ r
+    pub stopping-unit : startsA1 u ≡ true → {told′ : List ℕ} {r : Run} → Stopped told run told′ r → UnitPut (F.Pack pieces) u out told run out told′ r
     unfolding outText toldText nextCounts
     stopping-unit q p =
         record {
@@ -210,24 +213,24 @@ module _ (u out told : List ℕ) (run : Run) (at-room : run .at ≤ length out) 
         }
 
     module _ (line : startsA1 u ≡ false) where
-      pub refused-unit : {k : ℕ} → S.Refused k ≡ seenLine u → recordOf u ≡ [] → {told′ : List ℕ} {r : Run} → Told (S.Refused k) told run told′ r → UnitPut F.Pack u out told run out told′ r
+      pub refused-unit : {k : ℕ} → S.Refused k ≡ seenLine pieces u → recordOf pieces u ≡ [] → {told′ : List ℕ} {r : Run} → Told (S.Refused k) told run told′ r → UnitPut (F.Pack pieces) u out told run out told′ r
       unfolding outText toldText nextCounts
       refused-unit q none p =
           record {
             from-is = p .from-is;
-            counts-is = p .counts-is ∙ ap (counted (run .counts)) q ∙ sym (if-not (run .counts) _ goes ∙ if-not (stoppedAt (run .counts)) (counted (run .counts) (seenLine u)) line);
+            counts-is = p .counts-is ∙ ap (counted (run .counts)) q ∙ sym (if-not (run .counts) _ goes ∙ if-not (stoppedAt (run .counts)) (counted (run .counts) (seenLine pieces u)) line);
             put = rw (goes, line, none, p .at-is) (put-none out (run .at) at-room);
             tells = rw (goes, line, ← q) (p .tells);
             short = omega (arith, p .at-is);
             told-short = omega (arith, p .short);
           }
 
-      pub packed-unit : {e : Entry} {dwords : List ℕ} → S.Entry (e .kind) (e .dwords) ≡ seenLine u → recordOf u ≡ bytesOf u e dwords → Recorded u e dwords → {out′ : List ℕ} {r : Run} → RecordPut u e dwords out run out′ r → UnitPut F.Pack u out told run out′ told r
+      pub packed-unit : {e : Entry} {dwords : List ℕ} → S.Entry (e .kind) (e .dwords) ≡ seenLine pieces u → recordOf pieces u ≡ bytesOf u e dwords → Recorded u e dwords → {out′ : List ℕ} {r : Run} → RecordPut u e dwords out run out′ r → UnitPut (F.Pack pieces) u out told run out′ told r
       unfolding outText toldText nextCounts toldBy
       packed-unit q is has p =
           record {
             from-is = p .from-is;
-            counts-is = p .counts-is ∙ ap (counted (run .counts)) q ∙ sym (if-not (run .counts) _ goes ∙ if-not (stoppedAt (run .counts)) (counted (run .counts) (seenLine u)) line);
+            counts-is = p .counts-is ∙ ap (counted (run .counts)) q ∙ sym (if-not (run .counts) _ goes ∙ if-not (stoppedAt (run .counts)) (counted (run .counts) (seenLine pieces u)) line);
             put = rw (goes, line, is) (p .put);
             tells = rw (goes, line, ← q, p .told-is) (put-none told (run .told) told-room);
             short = omega (arith, p .put .place, has .short);
@@ -244,13 +247,13 @@ module _ (out told : List ℕ) (run : Run) (at-room : run .at ≤ length out) (t
   unfolding lastOut lastTold
   last-unpack p = record { counts-is = refl; put = p; tells = put-none told (run .told) told-room }
 
-  pub last-pack : run .counts .stopped ≡ false → {told′ : List ℕ} {r : ℕ} → Put told (run .told) (totalsRow (run .counts .units) (run .counts .entries)) told′ r → LastPut F.Pack out told run out told′ (record { from = run .from; held = run .held; at = run .at; told = r; counts = run .counts })
+  pub last-pack : (pieces : Pieces) → run .counts .stopped ≡ false → {told′ : List ℕ} {r : ℕ} → Put told (run .told) (totalsRow (run .counts .units) (run .counts .entries)) told′ r → LastPut (F.Pack pieces) out told run out told′ (record { from = run .from; held = run .held; at = run .at; told = r; counts = run .counts })
   unfolding lastOut lastTold
-  last-pack q p = record { counts-is = refl; put = put-none out (run .at) at-room; tells = rw q p }
+  last-pack pieces q p = record { counts-is = refl; put = put-none out (run .at) at-room; tells = rw q p }
 
-  pub last-stopped : run .counts .stopped ≡ true → LastPut F.Pack out told run out told run
+  pub last-stopped : (pieces : Pieces) → run .counts .stopped ≡ true → LastPut (F.Pack pieces) out told run out told run
   unfolding lastOut lastTold
-  last-stopped q = record { counts-is = refl; put = put-none out (run .at) at-room; tells = rw q (put-none told (run .told) told-room) }
+  last-stopped pieces q = record { counts-is = refl; put = put-none out (run .at) at-room; tells = rw q (put-none told (run .told) told-room) }
 
 -- the size of a record that was written
 pub bytes-size : {m n : ℕ} → W.Bytes m ≡ W.Bytes n → m ≡ n

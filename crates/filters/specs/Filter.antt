@@ -3,6 +3,7 @@ use Prim.Native.Nat.{ℕ, min, _+_, _-_, _^_}
 use mathlib.Core.Bool.{Bool, true, cond}
 use mathlib.Core.List.{List, [], _∷_, _++_}
 use Rattle.listing_rows.specs.Rows.{totalsRow, stopRow}
+use Rattle.scan.specs.declared.Pieces.the-variants.{Lenient}
 use Rattle.intake.specs.Intake.{startsA1}
 use Rattle.filters.specs.declared.Filter.{Filter}
 use Rattle.filters.specs.declared.Filter.the-variants as F
@@ -29,32 +30,32 @@ stoppedAt c = record { units = oneMore (c .units); entries = c .entries; stopped
 
 -- what a unit puts out
 unfoldable pub outText : Filter → Counts → List ℕ → List ℕ
-outText F.Listing c u = rowOf (oneMore (c .units)) (seenLine u)
-outText F.Pack c u = cond (c .stopped) [] (cond (startsA1 u) [] (recordOf u))
+outText F.Listing c u = rowOf (oneMore (c .units)) (seenLine Lenient u)
+outText (F.Pack pieces) c u = cond (c .stopped) [] (cond (startsA1 u) [] (recordOf pieces u))
 outText F.Unpack c u = rowOf (oneMore (c .units)) (seenRecord u)
 
 -- what is told of it
 unfoldable pub toldText : Filter → Counts → List ℕ → List ℕ
 toldText F.Listing c u = []
-toldText F.Pack c u = cond (c .stopped) [] (cond (startsA1 u) (stopRow (oneMore (c .units))) (toldBy (oneMore (c .units)) (seenLine u)))
+toldText (F.Pack pieces) c u = cond (c .stopped) [] (cond (startsA1 u) (stopRow (oneMore (c .units))) (toldBy (oneMore (c .units)) (seenLine pieces u)))
 toldText F.Unpack c u = []
 
 -- the counts after it
 unfoldable pub nextCounts : Filter → Counts → List ℕ → Counts
-nextCounts F.Listing c u = counted c (seenLine u)
-nextCounts F.Pack c u = cond (c .stopped) c (cond (startsA1 u) (stoppedAt c) (counted c (seenLine u)))
+nextCounts F.Listing c u = counted c (seenLine Lenient u)
+nextCounts (F.Pack pieces) c u = cond (c .stopped) c (cond (startsA1 u) (stoppedAt c) (counted c (seenLine pieces u)))
 nextCounts F.Unpack c u = counted c (seenRecord u)
 
 -- what the end puts out
 unfoldable pub lastOut : Filter → Counts → List ℕ
 lastOut F.Listing c = totalsRow (c .units) (c .entries)
-lastOut F.Pack c = []
+lastOut (F.Pack pieces) c = []
 lastOut F.Unpack c = totalsRow (c .units) (c .entries)
 
 -- and what it tells
 unfoldable pub lastTold : Filter → Counts → List ℕ
 lastTold F.Listing c = []
-lastTold F.Pack c = cond (c .stopped) [] (totalsRow (c .units) (c .entries))
+lastTold (F.Pack pieces) c = cond (c .stopped) [] (totalsRow (c .units) (c .entries))
 lastTold F.Unpack c = []
 
 module _ {S : Type 0} (next : S → List ℕ → S) where

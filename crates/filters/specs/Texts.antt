@@ -5,6 +5,7 @@ use mathlib.Core.List.{List, []}
 use Rattle.text.specs.Told.{Told, is, absent, refused}
 use Rattle.entry.specs.declared.Entry.{Entry}
 use Rattle.entry.specs.Entry.{valueOf}
+use Rattle.scan.specs.declared.Pieces.{Pieces}
 use Rattle.scan.specs.Parse.{parseOf, lineDwords}
 use Rattle.record.specs.Grammar.{recordBytes}
 use Rattle.record.specs.Reading.{readOf}
@@ -22,9 +23,9 @@ seenBy (is e) = S.Entry (e .kind) (e .dwords)
 seenBy absent = S.Refused 0
 seenBy (refused k) = S.Refused k
 
--- of a line, and of a record
-unfoldable pub seenLine : List ℕ → Seen
-seenLine u = seenBy (parseOf u 256)
+-- of a line by a choice, and of a record
+unfoldable pub seenLine : Pieces → List ℕ → Seen
+seenLine pieces u = seenBy (parseOf pieces u 256)
 
 unfoldable pub seenRecord : List ℕ → Seen
 seenRecord u = seenBy (readOf u 256)
@@ -45,8 +46,8 @@ recordBy u (is e) = recordBytes (valueOf e u (lineDwords u))
 recordBy u absent = []
 recordBy u (refused k) = []
 
-unfoldable pub recordOf : List ℕ → List ℕ
-recordOf u = recordBy u (parseOf u 256)
+unfoldable pub recordOf : Pieces → List ℕ → List ℕ
+recordOf pieces u = recordBy u (parseOf pieces u 256)
 
 -- what is told of the n-th line where lines are packed: the row of one that is refused
 unfoldable pub toldBy : ℕ → Seen → List ℕ
@@ -56,10 +57,10 @@ toldBy n (S.Refused k) = refusedRow n k
 -- how a filter's input is cut, and how what it puts out is
 abbrev pub framingOf : Filter → Framing
 framingOf F.Listing = Framed.Lines
-framingOf F.Pack = Framed.Lines
+framingOf (F.Pack pieces) = Framed.Lines
 framingOf F.Unpack = Framed.Records
 
 abbrev pub putFraming : Filter → Framing
 putFraming F.Listing = Framed.Lines
-putFraming F.Pack = Framed.Records
+putFraming (F.Pack pieces) = Framed.Records
 putFraming F.Unpack = Framed.Lines

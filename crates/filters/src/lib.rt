@@ -14,6 +14,7 @@ use framing::Framing;
 use framing::feed;
 use framing::units_in;
 use listing_rows::put_totals;
+use scan::Pieces;
 ghost use mathlib.Core.Path.{_≡_};
 ghost use mathlib.Core.Bool.{false};
 ghost use Prim.Native.Nat.{_+_, _≤_, _<_};
@@ -23,9 +24,10 @@ ghost use Rattle.filters.specs.Bounds.{Room, Within, Goes, Stops};
 ghost use Rattle.filters.specs.Texts.{framingOf, putFraming};
 ghost use Rattle.filters.specs.Calls.{UnitPut, LastPut, Took, Finished};
 
+// The listing reads lines leniently, always; what is packed is read by a choice.
 pub enum Filter {
     Listing,
-    Pack,
+    Pack(Pieces),
     Unpack,
 }
 
@@ -61,7 +63,7 @@ fn framing_of(filter: Filter) -> Framing
 {
     match filter {
         Filter::Listing => Framing::Lines,
-        Filter::Pack => Framing::Lines,
+        Filter::Pack(_) => Framing::Lines,
         Filter::Unpack => Framing::Records,
     }
 }
@@ -72,7 +74,7 @@ pub fn whole_in(filter: Filter, put: &[u8]) -> usize
 {
     match filter {
         Filter::Listing => units_in(Framing::Lines, put),
-        Filter::Pack => units_in(Framing::Records, put),
+        Filter::Pack(_) => units_in(Framing::Records, put),
         Filter::Unpack => units_in(Framing::Lines, put),
     }
 }
@@ -83,8 +85,8 @@ fn put_unit(filter: Filter, unit: &[u8], out: &mut [u8], told: &mut [u8], run: R
     ensures { λ r. ⌜ UnitPut filter (now (unit .entry)) (now (out .entry)) (now (told .entry)) run (now (out .exit)) (now (told .exit)) r ⌝ }
 {
     match filter {
-        Filter::Listing => put_row(see_line(unit), out, run),
-        Filter::Pack => pack_line(unit, out, told, run),
+        Filter::Listing => put_row(see_line(unit, Pieces::Lenient), out, run),
+        Filter::Pack(pieces) => pack_line(unit, pieces, out, told, run),
         Filter::Unpack => put_row(see_record(unit), out, run),
     }
 }
@@ -172,7 +174,7 @@ fn put_last(filter: Filter, out: &mut [u8], told: &mut [u8], run: Run) -> Run
             done.at = put_totals(out, run.at, units, entries);
             return done;
         }
-        Filter::Pack => {
+        Filter::Pack(_) => {
             if !run.counts.stopped {
                 done.told = put_totals(told, run.told, units, entries);
                 return done;

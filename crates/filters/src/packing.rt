@@ -9,6 +9,7 @@ use intake::starts_a1;
 use listing_rows::put_refused;
 use listing_rows::put_stop;
 use scan::Answer;
+use scan::Pieces;
 use scan::parse;
 use writer::Written;
 use writer::write;
@@ -24,9 +25,9 @@ ghost use Rattle.filters.specs.Calls.{UnitPut};
 
 // From a line that starts with A1 on nothing is packed: it is a record, and what follows may be pieces of it. Asked
 // for: room for a record and its row, which `turn` and `finish` have seen to.
-pub fn pack_line(line: &[u8], out: &mut [u8], told: &mut [u8], run: Run) -> Run
+pub fn pack_line(line: &[u8], pieces: Pieces, out: &mut [u8], told: &mut [u8], run: Run) -> Run
     requires { ⌜ Room (length (now out)) (length (now told)) run ⌝ }
-    ensures { λ r. ⌜ UnitPut F.Pack (now (line .entry)) (now (out .entry)) (now (told .entry)) run (now (out .exit)) (now (told .exit)) r ⌝ }
+    ensures { λ r. ⌜ UnitPut (F.Pack pieces) (now (line .entry)) (now (out .entry)) (now (told .entry)) run (now (out .exit)) (now (told .exit)) r ⌝ }
 {
     if run.counts.stopped {
         return run;
@@ -35,7 +36,7 @@ pub fn pack_line(line: &[u8], out: &mut [u8], told: &mut [u8], run: Run) -> Run
         return stop(told, run);
     }
     let mut slots = [0u32; 256];
-    match parse(line, &mut slots) {
+    match parse(line, pieces, &mut slots) {
         Answer::Entry(e) => put_record(line, e, &slots, out, run),
         Answer::Refused(number) => tell(told, run, number),
     }

@@ -4,6 +4,7 @@ use crate::Run;
 use listing_rows::put_entry;
 use listing_rows::put_refused;
 use scan::Answer;
+use scan::Pieces;
 use scan::parse;
 ghost use mathlib.Core.Path.{_≡_};
 ghost use Prim.Native.Nat.{_+_, _≤_};
@@ -18,11 +19,11 @@ pub enum Seen {
     Refused(u8),
 }
 
-pub fn see_line(line: &[u8]) -> Seen
-    ensures { λ r. ⌜ r ≡ seenLine (now (line .entry)) ⌝ }
+pub fn see_line(line: &[u8], pieces: Pieces) -> Seen
+    ensures { λ r. ⌜ r ≡ seenLine pieces (now (line .entry)) ⌝ }
 {
     let mut slots = [0u32; 256];
-    match parse(line, &mut slots) {
+    match parse(line, pieces, &mut slots) {
         Answer::Entry(e) => Seen::Entry {
             kind: e.kind,
             dwords: e.dwords,

@@ -22,11 +22,11 @@ module _ (pieces : Pieces) (t out : List ℕ) {exit : List ℕ} where
   unfolding takenOf takenDwords
   taken-line e p = record { answer = p .answer ∙ rw e; slots = p .slots ∙ rw e }
 
-  module _ {q : Record.Answer} (read : Reading.Reading t out q exit) where
-    pub record-entry : {e : Entry} → q ≡ R.Entry e → RecordTaken t out exit (A.Entry e)
-    unfolding Line.slotsBy Reading.slotsBy
-    record-entry e = record { answer = rw (← read .answer, e); slots = read .slots-left ∙ rw e }
+module _ (t out : List ℕ) {exit : List ℕ} {q : Record.Answer} (read : Reading.Reading t out q exit) where
+  pub record-entry : {e : Entry} → q ≡ R.Entry e → RecordTaken t out exit (A.Entry e)
+  unfolding Line.slotsBy Reading.slotsBy
+  record-entry e = record { answer = rw (← read .answer, e); slots = read .slots-left ∙ rw e }
 
-    pub record-refused : {k : ℕ} → q ≡ R.Refused k → RecordTaken t out exit (A.Refused k)
-    unfolding Line.slotsBy Reading.slotsBy
-    record-refused e = record { answer = rw (← read .answer, e); slots = read .slots-left ∙ rw e }
+  pub record-refused : {k : ℕ} → q ≡ R.Refused k → RecordTaken t out exit (A.Refused k)
+  unfolding Line.slotsBy Reading.slotsBy
+  record-refused e = record { answer = rw (← read .answer, e); slots = read .slots-left ∙ rw e }

@@ -77,9 +77,9 @@ pub record Counted (lines : ℕ) (stopped : Bool) (s r : State) : Type 0 where
 -- how many records stand whole in what `pack` puts out, and how many rows in what the others do
 abbrev pub wholeIn : Program → List ℕ → ℕ
 wholeIn P.Listing s = unitsIn Framed.Lines s
-wholeIn P.Pack s = unitsIn Framed.Records s
+wholeIn (P.Pack pieces) s = unitsIn Framed.Records s
 wholeIn P.Unpack s = unitsIn Framed.Lines s
-wholeIn P.Show s = rowsIn s
+wholeIn (P.Show pieces) s = rowsIn s
 
 -- what waited was written, all of it or a front: the fault of that write is the state's, and what is whole in the front is counted
 pub record OutWritten (program : Program) (out : List ℕ) (s r : State) : Type 0 where

@@ -13,6 +13,7 @@ use channel::status::Status;
 use channel::status::give_status;
 use filters::Filter;
 use filters::finish;
+use scan::Pieces;
 ghost use mathlib.Core.Path.{_≡_};
 ghost use Prim.Native.Nat.{_+_, _≤_};
 ghost use lib.ListN.{length};
@@ -47,9 +48,9 @@ fn end_by(
 {
     match program {
         Program::Listing => end_filter(Filter::Listing, unit, out, told, state),
-        Program::Pack => end_filter(Filter::Pack, unit, out, told, state),
+        Program::Pack(pieces) => end_filter(Filter::Pack(pieces), unit, out, told, state),
         Program::Unpack => end_filter(Filter::Unpack, unit, out, told, state),
-        Program::Show => end_show(book, unit, out, state),
+        Program::Show(pieces) => end_show(book, pieces, unit, out, state),
     }
 }
 
@@ -63,12 +64,12 @@ fn end_filter(filter: Filter, unit: &[u8], out: &mut [u8], told: &mut [u8], stat
 }
 
 // A last line with no newline counts if it has a byte.
-fn end_show(book: &[u8], unit: &[u8], out: &mut [u8], state: State) -> State
+fn end_show(book: &[u8], pieces: Pieces, unit: &[u8], out: &mut [u8], state: State) -> State
     requires { ⌜ (state .held ≤ length (now unit)) × (state .at + 5400 ≤ length (now out)) ⌝ }
     ensures { λ r. ⌜ (r .held ≤ length (now (unit .entry))) × (r .at ≤ length (now (out .entry))) × (r .told ≡ state .told) ⌝ }
 {
     if 0 < state.held {
-        return show_held(book, unit, out, state);
+        return show_held(book, pieces, unit, out, state);
     }
     state
 }
@@ -108,9 +109,9 @@ pub fn tell_end(program: Program, state: State) {
 fn tell_moved(program: Program, what: &[u8], errno: u32, whole: u64) {
     match program {
         Program::Listing => tell_fault(b"listing", what, errno, b"rows", whole),
-        Program::Pack => tell_fault(b"pack", what, errno, b"records", whole),
+        Program::Pack(_) => tell_fault(b"pack", what, errno, b"records", whole),
         Program::Unpack => tell_fault(b"unpack", what, errno, b"rows", whole),
-        Program::Show => tell_fault(b"show", what, errno, b"rows", whole),
+        Program::Show(_) => tell_fault(b"show", what, errno, b"rows", whole),
     }
 }
 
@@ -118,9 +119,9 @@ fn tell_moved(program: Program, what: &[u8], errno: u32, whole: u64) {
 fn tell_stop(program: Program, line: u64) {
     match program {
         Program::Listing => {}
-        Program::Pack => {}
+        Program::Pack(_) => {}
         Program::Unpack => {}
-        Program::Show => tell_numbered(
+        Program::Show(_) => tell_numbered(
             b"show: line ",
             line,
             b" starts with A1: it is a record and no line; nothing of it or behind it was shown",
@@ -131,8 +132,8 @@ fn tell_stop(program: Program, line: u64) {
 pub fn tell_usage(program: Program) {
     match program {
         Program::Listing => tell(b"usage: listing < LINES\n"),
-        Program::Pack => tell(b"usage: pack < LINES > RECORDS\n"),
+        Program::Pack(_) => tell(b"usage: pack [lenient] < LINES > RECORDS\n"),
         Program::Unpack => tell(b"usage: unpack < RECORDS\n"),
-        Program::Show => tell(b"usage: show BOOK < LINES\n"),
+        Program::Show(_) => tell(b"usage: show BOOK [lenient] < LINES\n"),
     }
 }

@@ -17,16 +17,20 @@ use channel::reading::Got;
 use channel::reading::read_some;
 use channel::status::Status;
 use channel::status::give_status;
+use choice::Asked;
+use choice::ask_choice;
 use libc::STDIN_FILENO;
+use scan::Pieces;
 ghost use Prim.Native.Nat.{_≤_};
 ghost use lib.ListN.{length};
 ghost use Rattle.moving.specs.Bounds.{Fits};
 
+// `pack` and `show` read lines by a choice.
 pub enum Program {
     Listing,
-    Pack,
+    Pack(Pieces),
     Unpack,
-    Show,
+    Show(Pieces),
 }
 
 // A whole program that takes no argument.
@@ -35,6 +39,14 @@ pub fn run_filter(program: Program) {
         run_program(program, b"");
     } else {
         give_usage(program);
+    }
+}
+
+// The program `pack`, which may be told its choice.
+pub fn run_pack() {
+    match ask_choice(1) {
+        Asked::Choice(pieces) => run_program(Program::Pack(pieces), b""),
+        Asked::Wrong => give_usage(Program::Pack(Pieces::Strict)),
     }
 }
 

@@ -94,8 +94,8 @@ fn count_whole(program: Program, put: &[u8]) -> u64
 {
     match program {
         Program::Listing => whole_in(Filter::Listing, put) as u64,
-        Program::Pack => whole_in(Filter::Pack, put) as u64,
+        Program::Pack(pieces) => whole_in(Filter::Pack(pieces), put) as u64,
         Program::Unpack => whole_in(Filter::Unpack, put) as u64,
-        Program::Show => rows_in(put),
+        Program::Show(_) => rows_in(put),
     }
 }

@@ -14,6 +14,7 @@ use filters::take_some;
 use framing::Framing;
 use framing::feed;
 use intake::starts_a1;
+use scan::Pieces;
 use shown::show_line;
 ghost use mathlib.Core.Path.{_≡_};
 ghost use Prim.Native.Nat.{_+_, _≤_, _<_};
@@ -60,9 +61,9 @@ fn move_some(
 {
     match program {
         Program::Listing => filter_some(Filter::Listing, part, unit, out, told, state),
-        Program::Pack => filter_some(Filter::Pack, part, unit, out, told, state),
+        Program::Pack(pieces) => filter_some(Filter::Pack(pieces), part, unit, out, told, state),
         Program::Unpack => filter_some(Filter::Unpack, part, unit, out, told, state),
-        Program::Show => show_some(book, part, unit, out, state),
+        Program::Show(pieces) => show_some(book, pieces, part, unit, out, state),
     }
 }
 
@@ -82,7 +83,14 @@ fn filter_some(
 }
 
 // Up to the end of the next line.
-fn show_some(book: &[u8], part: &[u8], unit: &mut [u8], out: &mut [u8], state: State) -> State
+fn show_some(
+    book: &[u8],
+    pieces: Pieces,
+    part: &[u8],
+    unit: &mut [u8],
+    out: &mut [u8],
+    state: State,
+) -> State
     requires { ⌜ (state .from < length (now part)) × (65539 ≤ length (now unit)) × (state .held ≤ length (now unit)) × (state .at ≤ length (now out)) ⌝ }
     ensures { λ r. ⌜ (state .from < r .from) × (r .from ≤ length (now (part .entry))) × (r .held ≤ length (now (unit .entry))) × (r .at ≤ length (now (out .entry))) × (r .told ≡ state .told) ⌝ }
 {
@@ -91,13 +99,13 @@ fn show_some(book: &[u8], part: &[u8], unit: &mut [u8], out: &mut [u8], state: S
     next.from = fed.at;
     next.held = fed.held;
     if fed.whole {
-        return show_held(book, unit, out, next);
+        return show_held(book, pieces, unit, out, next);
     }
     next
 }
 
 // What is shown of the line that is held. One that starts with A1 is a record, and what follows may be pieces of it: nothing more is shown.
-pub fn show_held(book: &[u8], unit: &[u8], out: &mut [u8], state: State) -> State
+pub fn show_held(book: &[u8], pieces: Pieces, unit: &[u8], out: &mut [u8], state: State) -> State
     requires { ⌜ (state .held ≤ length (now unit)) × (state .at ≤ length (now out)) ⌝ }
     ensures { λ r. ⌜ (r .from ≡ state .from) × (r .held ≡ 0) × (r .at ≤ length (now (out .entry))) × (r .told ≡ state .told) ⌝ }
 {
@@ -110,6 +118,7 @@ pub fn show_held(book: &[u8], unit: &[u8], out: &mut [u8], state: State) -> Stat
     let sink = show_line(
         book,
         line,
+        pieces,
         lines,
         out,
         Sink {

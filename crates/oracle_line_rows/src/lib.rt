@@ -19,17 +19,18 @@ use entry::optional::MaybeFlag;
 use entry::task;
 use entry::unplug;
 use scan::Answer;
+use scan::Pieces;
 use scan::parse;
 ghost use Prim.Native.Nat.{_≤_};
 ghost use lib.ListN.{length};
 
-// The row of a line, read into the lent slots. It asks for a place inside the buffer, as all that it calls does: the program that has the
+// The row of a line, read by the choice into the lent slots. It asks for a place inside the buffer, as all that it calls does: the program that has the
 // buffer goes on from where the last row ended.
-pub fn put_answer(out: &mut [u8], at: usize, line: &[u8], slots: &mut [u32]) -> usize
+pub fn put_answer(out: &mut [u8], at: usize, line: &[u8], pieces: Pieces, slots: &mut [u32]) -> usize
     requires { ⌜ at ≤ length (now out) ⌝ }
     ensures { λ r. ⌜ r ≤ length (now (out .entry)) ⌝ }
 {
-    match parse(line, slots) {
+    match parse(line, pieces, slots) {
         Answer::Entry(e) => {
             let end = put_row(out, at, line, slots, e);
             put_text(out, end, b"\n")

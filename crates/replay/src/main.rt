@@ -1,8 +1,9 @@
-// Answers frames of standard input: each is its length and the dword slots lent, four bytes each, low byte first, then the line. For
-// each it writes a row with every field of the line's entry, or the number that refuses it.
+// Answers frames of standard input: each is its length and the dword slots lent, four bytes each, low byte first, a byte for the choice,
+// then the line. For each it writes a row with every field of the line's entry, or the number that refuses it.
 use libc::STDIN_FILENO;
 use libc::STDOUT_FILENO;
 use oracle_line_rows::put_answer;
+use scan::Pieces;
 ghost use mathlib.Core.Path.{_≡_};
 ghost use Prim.Native.Nat.{_+_, _≤_, _<_};
 ghost use lib.ListN.{length};
@@ -10,6 +11,7 @@ ghost use lib.ListN.{length};
 struct Head {
     length: usize,
     slots: usize,
+    pieces: Pieces,
 }
 
 enum HeadAnswer {
@@ -86,7 +88,7 @@ fn answer_frame(line: &mut [u8], slots: &mut [u32], out: &mut [u8], at: usize, h
     }
     let lent = least(head.slots, slots.len());
     let room = make_room(out, at);
-    let end = put_answer(out, room, &line[..n], &mut slots[..lent]);
+    let end = put_answer(out, room, &line[..n], head.pieces, &mut slots[..lent]);
     Step {
         at: end,
         more: true,
@@ -94,9 +96,9 @@ fn answer_frame(line: &mut [u8], slots: &mut [u32], out: &mut [u8], at: usize, h
 }
 
 fn read_head() -> HeadAnswer {
-    let mut bytes = [0u8; 8];
+    let mut bytes = [0u8; 9];
     let got = io::read_full(STDIN_FILENO, &mut bytes);
-    if got < 8 {
+    if got < 9 {
         return HeadAnswer::End;
     }
     let length = number(bytes[0], bytes[1], bytes[2], bytes[3]);
@@ -104,7 +106,16 @@ fn read_head() -> HeadAnswer {
     HeadAnswer::Got(Head {
         length: length,
         slots: slots,
+        pieces: choice(bytes[8]),
     })
+}
+
+// Lenient is 0. Every other byte is strict, which is what holds where nothing is asked for.
+fn choice(b: u8) -> Pieces {
+    if b == 0 {
+        return Pieces::Lenient;
+    }
+    Pieces::Strict
 }
 
 // The number of four bytes, low byte first.

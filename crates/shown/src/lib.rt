@@ -16,12 +16,20 @@ use entry::function;
 use saying::say_hex;
 use saying::say_number;
 use scan::Answer;
+use scan::Pieces;
 use scan::parse;
 
 // The block of the line with that number. The book is taken as it is: who shows many lines checks it once.
-pub fn show_line(book: &[u8], line: &[u8], number: u64, out: &mut [u8], sink: Sink) -> Sink {
+pub fn show_line(
+    book: &[u8],
+    line: &[u8],
+    pieces: Pieces,
+    number: u64,
+    out: &mut [u8],
+    sink: Sink,
+) -> Sink {
     let mut slots = [0u32; 256];
-    let answer = parse(line, &mut slots);
+    let answer = parse(line, pieces, &mut slots);
     let counted = say_number(out, sink, b"", number);
     match answer {
         Answer::Entry(e) => {

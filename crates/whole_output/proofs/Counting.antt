@@ -5,6 +5,7 @@ use mathlib.Core.Bool.{Bool, true, false, cond}
 use mathlib.Core.List.{List, [], _∷_, _++_, append-assoc, append-nil}
 use native.Mathlib.Omega.{arith}
 use lib.ListN.{length}
+use Rattle.scan.specs.declared.Pieces.{Pieces}
 use Rattle.listing_rows.specs.Rows.{totalsRow, stopRow}
 use Rattle.intake.specs.Intake.{startsA1}
 use Rattle.filters.specs.declared.Filter.{Filter}
@@ -77,75 +78,76 @@ tells-nothing f none last c (u ∷ us) = rw (none c u) (tells-nothing f none las
 if-so : {A : Type 0} {b : Bool} (x y : A) → b ≡ true → cond b x y ≡ x
 if-so x y e = rw e
 
--- packing, once it has stopped
-module _ (c : Counts) (stopped : c .stopped ≡ true) where
-  next-stopped : (u : List ℕ) → nextCounts F.Pack c u ≡ c
+module _ (pieces : Pieces) where
+  -- packing, once it has stopped
+  module _ (c : Counts) (stopped : c .stopped ≡ true) where
+    next-stopped : (u : List ℕ) → nextCounts (F.Pack pieces) c u ≡ c
+    unfolding nextCounts
+    next-stopped u = if-so c _ stopped
+
+    no-text : (u : List ℕ) → outText (F.Pack pieces) c u ≡ []
+    unfolding outText
+    no-text u = if-so [] _ stopped
+
+    nothing-told : (u : List ℕ) → toldText (F.Pack pieces) c u ≡ []
+    unfolding toldText
+    nothing-told u = if-so [] _ stopped
+
+    pub out-stopped : (us : List (List ℕ)) → texts (nextCounts (F.Pack pieces)) (outText (F.Pack pieces)) c us ≡ []
+    unfolding texts
+    out-stopped [] = refl
+    out-stopped (u ∷ us) = rw (no-text u) (ap (λ (d : Counts). texts (nextCounts (F.Pack pieces)) (outText (F.Pack pieces)) d us) (next-stopped u) ∙ out-stopped us)
+
+    pub told-stopped : (us : List (List ℕ)) → texts (nextCounts (F.Pack pieces)) (toldText (F.Pack pieces)) c us ≡ []
+    unfolding texts
+    told-stopped [] = refl
+    told-stopped (u ∷ us) = rw (nothing-told u) (ap (λ (d : Counts). texts (nextCounts (F.Pack pieces)) (toldText (F.Pack pieces)) d us) (next-stopped u) ∙ told-stopped us)
+
+    pub after-stopped : (us : List (List ℕ)) → after (nextCounts (F.Pack pieces)) c us ≡ c
+    unfolding after
+    after-stopped [] = refl
+    after-stopped (u ∷ us) = ap (λ (d : Counts). after (nextCounts (F.Pack pieces)) d us) (next-stopped u) ∙ after-stopped us
+
+  -- packing, line by line
+  packs : (n m : ℕ) (u : List ℕ) → startsA1 u ≡ false → n + 1 < 2 ^ 64 → m + 1 < 2 ^ 64 → nextCounts (F.Pack pieces) (counts n m false) u ≡ counts (n + 1) (m + isEntry (seenLine pieces u)) false
   unfolding nextCounts
-  next-stopped u = if-so c _ stopped
+  packs n m u line a b = rw line (counted-is n m (seenLine pieces u) a b)
 
-  no-text : (u : List ℕ) → outText F.Pack c u ≡ []
-  unfolding outText
-  no-text u = if-so [] _ stopped
+  stops : (n m : ℕ) (u : List ℕ) → startsA1 u ≡ true → n + 1 < 2 ^ 64 → nextCounts (F.Pack pieces) (counts n m false) u ≡ counts (n + 1) m true
+  unfolding nextCounts stoppedAt
+  stops n m u line a = rw (line, one-more n a)
 
-  nothing-told : (u : List ℕ) → toldText F.Pack c u ≡ []
-  unfolding toldText
-  nothing-told u = if-so [] _ stopped
+  pub records-are : (us : List (List ℕ)) (n m : ℕ) → n + length us < 2 ^ 64 → m + length us < 2 ^ 64 → texts (nextCounts (F.Pack pieces)) (outText (F.Pack pieces)) (counts n m false) us ≡ recordsOf pieces (linesBefore us)
+  unfolding texts outText recordsOf linesBefore
+  records-are [] n m a b = refl
+  records-are (u ∷ us) n m a b =
+      let small : isEntry (seenLine pieces u) ≤ 1 = more-by (seenLine pieces u) m (omega arith) .1 in
+      go (startsA1 u) refl (records-are us (n + 1) (m + isEntry (seenLine pieces u)) (omega arith) (omega (arith, small)))
+    where
+      go : (t : Bool) → startsA1 u ≡ t → texts (nextCounts (F.Pack pieces)) (outText (F.Pack pieces)) (counts (n + 1) (m + isEntry (seenLine pieces u)) false) us ≡ recordsOf pieces (linesBefore us) → cond t [] (recordOf pieces u) ++ texts (nextCounts (F.Pack pieces)) (outText (F.Pack pieces)) (nextCounts (F.Pack pieces) (counts n m false) u) us ≡ recordsOf pieces (cond t [] (u ∷ linesBefore us))
+      go true q rest = rw (stops n m u q (omega arith)) (out-stopped (counts (n + 1) m true) refl us)
+      go false q rest = rw (packs n m u q (omega arith) (omega arith)) (ap (λ (t : List ℕ). recordOf pieces u ++ t) rest)
 
-  pub out-stopped : (us : List (List ℕ)) → texts (nextCounts F.Pack) (outText F.Pack) c us ≡ []
-  unfolding texts
-  out-stopped [] = refl
-  out-stopped (u ∷ us) = rw (no-text u) (ap (λ (d : Counts). texts (nextCounts F.Pack) (outText F.Pack) d us) (next-stopped u) ∙ out-stopped us)
-
-  pub told-stopped : (us : List (List ℕ)) → texts (nextCounts F.Pack) (toldText F.Pack) c us ≡ []
-  unfolding texts
-  told-stopped [] = refl
-  told-stopped (u ∷ us) = rw (nothing-told u) (ap (λ (d : Counts). texts (nextCounts F.Pack) (toldText F.Pack) d us) (next-stopped u) ∙ told-stopped us)
-
-  pub after-stopped : (us : List (List ℕ)) → after (nextCounts F.Pack) c us ≡ c
-  unfolding after
-  after-stopped [] = refl
-  after-stopped (u ∷ us) = ap (λ (d : Counts). after (nextCounts F.Pack) d us) (next-stopped u) ∙ after-stopped us
-
--- packing, line by line
-packs : (n m : ℕ) (u : List ℕ) → startsA1 u ≡ false → n + 1 < 2 ^ 64 → m + 1 < 2 ^ 64 → nextCounts F.Pack (counts n m false) u ≡ counts (n + 1) (m + isEntry (seenLine u)) false
-unfolding nextCounts
-packs n m u line a b = rw line (counted-is n m (seenLine u) a b)
-
-stops : (n m : ℕ) (u : List ℕ) → startsA1 u ≡ true → n + 1 < 2 ^ 64 → nextCounts F.Pack (counts n m false) u ≡ counts (n + 1) m true
-unfolding nextCounts stoppedAt
-stops n m u line a = rw (line, one-more n a)
-
-pub records-are : (us : List (List ℕ)) (n m : ℕ) → n + length us < 2 ^ 64 → m + length us < 2 ^ 64 → texts (nextCounts F.Pack) (outText F.Pack) (counts n m false) us ≡ recordsOf (linesBefore us)
-unfolding texts outText recordsOf linesBefore
-records-are [] n m a b = refl
-records-are (u ∷ us) n m a b =
-    let small : isEntry (seenLine u) ≤ 1 = more-by (seenLine u) m (omega arith) .1 in
-    go (startsA1 u) refl (records-are us (n + 1) (m + isEntry (seenLine u)) (omega arith) (omega (arith, small)))
-  where
-    go : (t : Bool) → startsA1 u ≡ t → texts (nextCounts F.Pack) (outText F.Pack) (counts (n + 1) (m + isEntry (seenLine u)) false) us ≡ recordsOf (linesBefore us) → cond t [] (recordOf u) ++ texts (nextCounts F.Pack) (outText F.Pack) (nextCounts F.Pack (counts n m false) u) us ≡ recordsOf (cond t [] (u ∷ linesBefore us))
-    go true q rest = rw (stops n m u q (omega arith)) (out-stopped (counts (n + 1) m true) refl us)
-    go false q rest = rw (packs n m u q (omega arith) (omega arith)) (ap (λ (t : List ℕ). recordOf u ++ t) rest)
-
--- what packing tells: the refused lines' rows, then the totals or that it stopped
-pub tells-are : (us : List (List ℕ)) (n m : ℕ) → n + length us < 2 ^ 64 → m + length us < 2 ^ 64 → texts (nextCounts F.Pack) (toldText F.Pack) (counts n m false) us ++ lastTold F.Pack (after (nextCounts F.Pack) (counts n m false) us) ≡ refusedRows n (linesBefore us) ++ cond (hasRecord us) (stopRow (n + length (linesBefore us) + 1)) (totalsRow (n + length us) (m + entriesIn seenLine us))
-unfolding texts after toldText refusedRows linesBefore hasRecord entriesIn lastTold
-tells-are [] n m a b =
-    let x : n + 0 ≡ n = omega arith in
-    let y : m + 0 ≡ m = omega arith in
-    rw (x, y)
-tells-are (u ∷ us) n m a b =
-    let small : isEntry (seenLine u) ≤ 1 = more-by (seenLine u) m (omega arith) .1 in
-    go (startsA1 u) refl (tells-are us (n + 1) (m + isEntry (seenLine u)) (omega arith) (omega (arith, small)))
-  where
-    go : (t : Bool) → startsA1 u ≡ t → texts (nextCounts F.Pack) (toldText F.Pack) (counts (n + 1) (m + isEntry (seenLine u)) false) us ++ lastTold F.Pack (after (nextCounts F.Pack) (counts (n + 1) (m + isEntry (seenLine u)) false) us) ≡ refusedRows (n + 1) (linesBefore us) ++ cond (hasRecord us) (stopRow (n + 1 + length (linesBefore us) + 1)) (totalsRow (n + 1 + length us) (m + isEntry (seenLine u) + entriesIn seenLine us)) → (cond t (stopRow (oneMore n)) (toldBy (oneMore n) (seenLine u)) ++ texts (nextCounts F.Pack) (toldText F.Pack) (nextCounts F.Pack (counts n m false) u) us) ++ lastTold F.Pack (after (nextCounts F.Pack) (nextCounts F.Pack (counts n m false) u) us) ≡ refusedRows n (cond t [] (u ∷ linesBefore us)) ++ cond (cond t true (hasRecord us)) (stopRow (n + length (cond t [] (u ∷ linesBefore us)) + 1)) (totalsRow (n + suc (length us)) (m + (isEntry (seenLine u) + entriesIn seenLine us)))
-    go true q rest =
-        let x : n + 0 + 1 ≡ n + 1 = omega arith in
-        rw (stops n m u q (omega arith), told-stopped (counts (n + 1) m true) refl us, after-stopped (counts (n + 1) m true) refl us, one-more n (omega arith), x, append-nil (stopRow (n + 1)), append-nil (stopRow (n + 1)))
-    go false q rest =
-        let x : n + suc (length us) ≡ n + 1 + length us = omega arith in
-        let y : m + (isEntry (seenLine u) + entriesIn seenLine us) ≡ m + isEntry (seenLine u) + entriesIn seenLine us = omega arith in
-        let z : n + suc (length (linesBefore us)) + 1 ≡ n + 1 + length (linesBefore us) + 1 = omega arith in
-        rw (packs n m u q (omega arith) (omega arith), one-more n (omega arith), x, y, z)
-        (append-assoc (toldBy (n + 1) (seenLine u)) (texts (nextCounts F.Pack) (toldText F.Pack) (counts (n + 1) (m + isEntry (seenLine u)) false) us) (lastTold F.Pack (after (nextCounts F.Pack) (counts (n + 1) (m + isEntry (seenLine u)) false) us))
-        ∙ ap (λ (t : List ℕ). toldBy (n + 1) (seenLine u) ++ t) rest
-        ∙ sym (append-assoc (toldBy (n + 1) (seenLine u)) (refusedRows (n + 1) (linesBefore us)) (cond (hasRecord us) (stopRow (n + 1 + length (linesBefore us) + 1)) (totalsRow (n + 1 + length us) (m + isEntry (seenLine u) + entriesIn seenLine us)))))
+  -- what packing tells: the refused lines' rows, then the totals or that it stopped
+  pub tells-are : (us : List (List ℕ)) (n m : ℕ) → n + length us < 2 ^ 64 → m + length us < 2 ^ 64 → texts (nextCounts (F.Pack pieces)) (toldText (F.Pack pieces)) (counts n m false) us ++ lastTold (F.Pack pieces) (after (nextCounts (F.Pack pieces)) (counts n m false) us) ≡ refusedRows pieces n (linesBefore us) ++ cond (hasRecord us) (stopRow (n + length (linesBefore us) + 1)) (totalsRow (n + length us) (m + entriesIn (seenLine pieces) us))
+  unfolding texts after toldText refusedRows linesBefore hasRecord entriesIn lastTold
+  tells-are [] n m a b =
+      let x : n + 0 ≡ n = omega arith in
+      let y : m + 0 ≡ m = omega arith in
+      rw (x, y)
+  tells-are (u ∷ us) n m a b =
+      let small : isEntry (seenLine pieces u) ≤ 1 = more-by (seenLine pieces u) m (omega arith) .1 in
+      go (startsA1 u) refl (tells-are us (n + 1) (m + isEntry (seenLine pieces u)) (omega arith) (omega (arith, small)))
+    where
+      go : (t : Bool) → startsA1 u ≡ t → texts (nextCounts (F.Pack pieces)) (toldText (F.Pack pieces)) (counts (n + 1) (m + isEntry (seenLine pieces u)) false) us ++ lastTold (F.Pack pieces) (after (nextCounts (F.Pack pieces)) (counts (n + 1) (m + isEntry (seenLine pieces u)) false) us) ≡ refusedRows pieces (n + 1) (linesBefore us) ++ cond (hasRecord us) (stopRow (n + 1 + length (linesBefore us) + 1)) (totalsRow (n + 1 + length us) (m + isEntry (seenLine pieces u) + entriesIn (seenLine pieces) us)) → (cond t (stopRow (oneMore n)) (toldBy (oneMore n) (seenLine pieces u)) ++ texts (nextCounts (F.Pack pieces)) (toldText (F.Pack pieces)) (nextCounts (F.Pack pieces) (counts n m false) u) us) ++ lastTold (F.Pack pieces) (after (nextCounts (F.Pack pieces)) (nextCounts (F.Pack pieces) (counts n m false) u) us) ≡ refusedRows pieces n (cond t [] (u ∷ linesBefore us)) ++ cond (cond t true (hasRecord us)) (stopRow (n + length (cond t [] (u ∷ linesBefore us)) + 1)) (totalsRow (n + suc (length us)) (m + (isEntry (seenLine pieces u) + entriesIn (seenLine pieces) us)))
+      go true q rest =
+          let x : n + 0 + 1 ≡ n + 1 = omega arith in
+          rw (stops n m u q (omega arith), told-stopped (counts (n + 1) m true) refl us, after-stopped (counts (n + 1) m true) refl us, one-more n (omega arith), x, append-nil (stopRow (n + 1)), append-nil (stopRow (n + 1)))
+      go false q rest =
+          let x : n + suc (length us) ≡ n + 1 + length us = omega arith in
+          let y : m + (isEntry (seenLine pieces u) + entriesIn (seenLine pieces) us) ≡ m + isEntry (seenLine pieces u) + entriesIn (seenLine pieces) us = omega arith in
+          let z : n + suc (length (linesBefore us)) + 1 ≡ n + 1 + length (linesBefore us) + 1 = omega arith in
+          rw (packs n m u q (omega arith) (omega arith), one-more n (omega arith), x, y, z)
+          (append-assoc (toldBy (n + 1) (seenLine pieces u)) (texts (nextCounts (F.Pack pieces)) (toldText (F.Pack pieces)) (counts (n + 1) (m + isEntry (seenLine pieces u)) false) us) (lastTold (F.Pack pieces) (after (nextCounts (F.Pack pieces)) (counts (n + 1) (m + isEntry (seenLine pieces u)) false) us))
+          ∙ ap (λ (t : List ℕ). toldBy (n + 1) (seenLine pieces u) ++ t) rest
+          ∙ sym (append-assoc (toldBy (n + 1) (seenLine pieces u)) (refusedRows pieces (n + 1) (linesBefore us)) (cond (hasRecord us) (stopRow (n + 1 + length (linesBefore us) + 1)) (totalsRow (n + 1 + length us) (m + isEntry (seenLine pieces u) + entriesIn (seenLine pieces) us)))))

@@ -12,6 +12,7 @@ use Rattle.tlv.specs.Number.{Bytes}
 use Rattle.tlv.specs.Grammar.{All}
 use Rattle.tlv.proofs.Pieces.{both-true}
 use Rattle.entry.specs.Entry.{EntryValue}
+use Rattle.scan.specs.declared.Pieces.{Pieces}
 use Rattle.scan.specs.Line.{Line}
 use Rattle.record.specs.Grammar.{recordBytes, IsRecord}
 use Rattle.intake.proofs.Made.{record-bytes}
@@ -29,10 +30,6 @@ use Rattle.whole_output.specs.Joined.{keptBy, kept, packedLines, entryLi
 use Rattle.whole_output.proofs.Meaning.{line-seen, line-row, line-record, no-line-no-record, record-seen, open-is-refused}
 use Rattle.whole_output.proofs.Whole.{packing-is-whole, unpacking-is-whole}
 
--- a line of the grammar
-abbrev IsLine : List ℕ → Type 0
-IsLine u = (v : EntryValue) × Line u v
-
 -- what is whole as a record is so at no byte before its last
 whole-is-unit : (u : List ℕ) → isWhole Records u ≡ true → IsUnit Records u
 unfolding isWhole
@@ -44,94 +41,99 @@ whole-is-unit u w =
     never true = refl
     never false = refl
 
--- ---- the record of one line
+module _ (pieces : Pieces) where
+  -- a line of the grammar
+  abbrev IsLine : List ℕ → Type 0
+  IsLine u = (v : EntryValue) × Line pieces u v
 
-module _ (u : List ℕ) (v : EntryValue) (a : Line u v) where
-  made : IsRecord (recordBytes v) v
-  made = record { ranged = line-ranged u a; bytes = refl }
+  -- ---- the record of one line
 
-  made-bytes : Bytes (recordBytes v)
-  made-bytes = record-bytes v (line-ranged u a)
+  module _ (u : List ℕ) (v : EntryValue) (a : Line pieces u v) where
+    made : IsRecord (recordBytes v) v
+    made = record { ranged = line-ranged pieces u a; bytes = refl }
 
-  -- a record is whole: open, it would be refused
-  made-whole : isWhole Records (recordBytes v) ≡ true
-  made-whole = go (isWhole Records (recordBytes v)) refl
+    made-bytes : Bytes (recordBytes v)
+    made-bytes = record-bytes v (line-ranged pieces u a)
+
+    -- a record is whole: open, it would be refused
+    made-whole : isWhole Records (recordBytes v) ≡ true
+    made-whole = go (isWhole Records (recordBytes v)) refl
+      where
+        go : (b : Bool) → isWhole Records (recordBytes v) ≡ b → b ≡ true
+        go true w = refl
+        go false w =
+            let seen = record-seen (recordBytes v) made-bytes v made in
+            let refused = open-is-refused (recordBytes v) made-bytes w in
+            absurd (let z : _≡_ {A = ℕ} 0 1 = cc in omega arith)
+
+    line-unit : IsUnit Records (recordOf pieces u)
+    line-unit = rw (line-record pieces u v a) (whole-is-unit (recordBytes v) made-whole)
+
+    -- it reads back as the line does
+    line-reads-back : seenRecord (recordOf pieces u) ≡ seenLine pieces u
+    line-reads-back =
+        rw (line-record pieces u v a)
+        (record-seen (recordBytes v) made-bytes v made ∙ sym (line-seen pieces u v a))
+
+  -- ---- the records of lines
+
+  -- a line that is refused is none of the grammar
+  refused-no-line : (u : List ℕ) (k : ℕ) → seenLine pieces u ≡ S.Refused k → (v : EntryValue) → Line pieces u v → ⊥
+  refused-no-line u k q v a =
+      let seen = line-seen pieces u v a in
+      absurd (let z : _≡_ {A = ℕ} 0 1 = cc in omega arith)
+
+  kept-lines : (us : List (List ℕ)) → All IsLine (kept pieces us)
+  unfolding kept keptBy
+  kept-lines [] = tt
+  kept-lines (u ∷ us) = go (seenLine pieces u) refl (kept-lines us)
     where
-      go : (b : Bool) → isWhole Records (recordBytes v) ≡ b → b ≡ true
-      go true w = refl
-      go false w =
-          let seen = record-seen (recordBytes v) made-bytes v made in
-          let refused = open-is-refused (recordBytes v) made-bytes w in
-          absurd (let z : _≡_ {A = ℕ} 0 1 = cc in omega arith)
+      go : (s : Seen) → seenLine pieces u ≡ s → All IsLine (kept pieces us) → All IsLine (keptBy s u (kept pieces us))
+      go (S.Entry kind dwords) q rest = let t = line-row pieces u kind dwords .0 q in ((t .value, t .says), rest)
+      go (S.Refused k) q rest = rest
 
-  line-unit : IsUnit Records (recordOf u)
-  line-unit = rw (line-record u v a) (whole-is-unit (recordBytes v) made-whole)
+  records-units : (us : List (List ℕ)) → Units Records (recordsOf pieces us) (map (recordOf pieces) (kept pieces us))
+  unfolding recordsOf kept keptBy
+  records-units [] = Units.none
+  records-units (u ∷ us) = go (seenLine pieces u) refl (records-units us)
+    where
+      go : (s : Seen) → seenLine pieces u ≡ s → Units Records (recordsOf pieces us) (map (recordOf pieces) (kept pieces us)) → Units Records (recordOf pieces u ++ recordsOf pieces us) (map (recordOf pieces) (keptBy s u (kept pieces us)))
+      go (S.Entry kind dwords) q rest = let t = line-row pieces u kind dwords .0 q in Units.next (recordOf pieces u) (recordsOf pieces us) (line-unit u (t .value) (t .says)) refl rest
+      go (S.Refused k) q rest = rw (no-line-no-record pieces u (refused-no-line u k q)) rest
 
-  -- it reads back as the line does
-  line-reads-back : seenRecord (recordOf u) ≡ seenLine u
-  line-reads-back =
-      rw (line-record u v a)
-      (record-seen (recordBytes v) made-bytes v made ∙ sym (line-seen u v a))
+  -- ---- their listing
 
--- ---- the records of lines
+  same-rows : (n : ℕ) (us : List (List ℕ)) → All IsLine us → rowsFrom seenRecord n (map (recordOf pieces) us) ≡ rowsFrom (seenLine pieces) n us
+  unfolding rowsFrom
+  same-rows n [] lines = refl
+  same-rows n (u ∷ us) lines = rw (line-reads-back u (lines .0 .0) (lines .0 .1)) (ap (λ (t : List ℕ). rowOf (n + 1) (seenLine pieces u) ++ t) (same-rows (n + 1) us (lines .1)))
 
--- a line that is refused is none of the grammar
-refused-no-line : (u : List ℕ) (k : ℕ) → seenLine u ≡ S.Refused k → (v : EntryValue) → Line u v → ⊥
-refused-no-line u k q v a =
-    let seen = line-seen u v a in
-    absurd (let z : _≡_ {A = ℕ} 0 1 = cc in omega arith)
+  all-entries : (us : List (List ℕ)) → All IsLine us → entriesIn seenRecord (map (recordOf pieces) us) ≡ length us
+  unfolding entriesIn isEntry
+  all-entries [] lines = refl
+  all-entries (u ∷ us) lines =
+      rw (line-reads-back u (lines .0 .0) (lines .0 .1), line-seen pieces u (lines .0 .0) (lines .0 .1)) (omega (arith, all-entries us (lines .1)))
 
-kept-lines : (us : List (List ℕ)) → All IsLine (kept us)
-unfolding kept keptBy
-kept-lines [] = tt
-kept-lines (u ∷ us) = go (seenLine u) refl (kept-lines us)
-  where
-    go : (s : Seen) → seenLine u ≡ s → All IsLine (kept us) → All IsLine (keptBy s u (kept us))
-    go (S.Entry kind dwords) q rest = let t = line-row u kind dwords .0 q in ((t .value, t .says), rest)
-    go (S.Refused k) q rest = rest
+  same-number : (us : List (List ℕ)) → length (map (recordOf pieces) us) ≡ length us
+  same-number [] = refl
+  same-number (u ∷ us) = omega (arith, same-number us)
 
-records-units : (us : List (List ℕ)) → Units Records (recordsOf us) (map recordOf (kept us))
-unfolding recordsOf kept keptBy
-records-units [] = Units.none
-records-units (u ∷ us) = go (seenLine u) refl (records-units us)
-  where
-    go : (s : Seen) → seenLine u ≡ s → Units Records (recordsOf us) (map recordOf (kept us)) → Units Records (recordOf u ++ recordsOf us) (map recordOf (keptBy s u (kept us)))
-    go (S.Entry kind dwords) q rest = let t = line-row u kind dwords .0 q in Units.next (recordOf u) (recordsOf us) (line-unit u (t .value) (t .says)) refl rest
-    go (S.Refused k) q rest = rw (no-line-no-record u (refused-no-line u k q)) rest
+  -- what `pack` puts out, through `unpack`
+  pub pack-into-unpack : (s : List ℕ) → PackIntoUnpack pieces s
+  unfolding packedLines packingOf unpackingOf listed entryListing
+  pack-into-unpack s =
+      record {
+        records-are = records;
+        listing-is = listing;
+        all-lines = lines;
+        piped = λ packed told out told′ p q. unpacking-is-whole packed out told′ q .0 ∙ ap unpackingOf (packing-is-whole pieces s packed told p .0) ∙ listing;
+      }
+    where
+      lines : All IsLine (packedLines pieces s)
+      lines = kept-lines (linesBefore (unitsOf Lines s))
 
--- ---- their listing
+      records : unitsOf Records (packingOf pieces s) ≡ map (recordOf pieces) (packedLines pieces s)
+      records = units-all Records (records-units (linesBefore (unitsOf Lines s)))
 
-same-rows : (n : ℕ) (us : List (List ℕ)) → All IsLine us → rowsFrom seenRecord n (map recordOf us) ≡ rowsFrom seenLine n us
-unfolding rowsFrom
-same-rows n [] lines = refl
-same-rows n (u ∷ us) lines = rw (line-reads-back u (lines .0 .0) (lines .0 .1)) (ap (λ (t : List ℕ). rowOf (n + 1) (seenLine u) ++ t) (same-rows (n + 1) us (lines .1)))
-
-all-entries : (us : List (List ℕ)) → All IsLine us → entriesIn seenRecord (map recordOf us) ≡ length us
-unfolding entriesIn isEntry
-all-entries [] lines = refl
-all-entries (u ∷ us) lines =
-    rw (line-reads-back u (lines .0 .0) (lines .0 .1), line-seen u (lines .0 .0) (lines .0 .1)) (omega (arith, all-entries us (lines .1)))
-
-same-number : (us : List (List ℕ)) → length (map recordOf us) ≡ length us
-same-number [] = refl
-same-number (u ∷ us) = omega (arith, same-number us)
-
--- what `pack` puts out, through `unpack`
-pub pack-into-unpack : (s : List ℕ) → PackIntoUnpack s
-unfolding packedLines packingOf unpackingOf listed entryListing
-pack-into-unpack s =
-    record {
-      records-are = records;
-      listing-is = listing;
-      all-lines = lines;
-      piped = λ packed told out told′ p q. unpacking-is-whole packed out told′ q .0 ∙ ap unpackingOf (packing-is-whole s packed told p .0) ∙ listing;
-    }
-  where
-    lines : All IsLine (packedLines s)
-    lines = kept-lines (linesBefore (unitsOf Lines s))
-
-    records : unitsOf Records (packingOf s) ≡ map recordOf (packedLines s)
-    records = units-all Records (records-units (linesBefore (unitsOf Lines s)))
-
-    listing : unpackingOf (packingOf s) ≡ entryListing (packedLines s)
-    listing = rw (records, same-rows 0 (packedLines s) lines, all-entries (packedLines s) lines, same-number (packedLines s))
+      listing : unpackingOf (packingOf pieces s) ≡ entryListing pieces (packedLines pieces s)
+      listing = rw (records, same-rows 0 (packedLines pieces s) lines, all-entries (packedLines pieces s) lines, same-number (packedLines pieces s))

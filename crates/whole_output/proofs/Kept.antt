@@ -7,6 +7,8 @@ use native.Mathlib.Omega.{arith}
 use lib.Dec.{eqb}
 use lib.ListN.{length, getD, take, length-take, length-append, List·getD-append}
 use lib.Seq.{take-all, getD-take, getD-append-add}
+use Rattle.scan.specs.declared.Pieces.{Pieces}
+use Rattle.scan.specs.declared.Pieces.the-variants.{Lenient}
 use Rattle.text.proofs.Places.{by-order}
 use Rattle.tlv.specs.Number.{Bytes}
 use Rattle.tlv.specs.Grammar.{All}
@@ -33,26 +35,28 @@ module _ (cap : ℕ) (enough : 65539 ≤ cap) (u : List ℕ) (bytes : Bytes u) w
   long-kept : cap < length u → 65539 ≤ length (take cap u)
   long-kept h = omega (arith, length-take cap u)
 
-  pub line-kept : parseOf (take cap u) 256 ≡ parseOf u 256
-  line-kept = kept (λ (t : List ℕ). parseOf t 256) (λ h. long-line (take cap u) (bytes-take u cap bytes) (long-kept h) ∙ rw first-kept (sym (long-line u bytes (omega arith))))
+  pub line-kept : (pieces : Pieces) → parseOf pieces (take cap u) 256 ≡ parseOf pieces u 256
+  line-kept pieces =
+      kept (λ (t : List ℕ). parseOf pieces t 256) (λ h. long-line pieces (take cap u) (bytes-take u cap bytes) (long-kept h) ∙ rw first-kept (sym (long-line pieces u bytes (omega arith))))
 
   pub record-kept : readOf (take cap u) 256 ≡ readOf u 256
-  record-kept = kept (λ (t : List ℕ). readOf t 256) (λ h. long-record (take cap u) (bytes-take u cap bytes) (long-kept h) ∙ sym (long-record u bytes (omega arith)))
+  record-kept = kept (λ (t : List ℕ). readOf t 256) (λ h. long-record Lenient (take cap u) (bytes-take u cap bytes) (long-kept h) ∙ sym (long-record Lenient u bytes (omega arith)))
 
   pub start-kept : startsA1 (take cap u) ≡ startsA1 u
   unfolding startsA1
   start-kept = rw first-kept
 
-  long-none : (t : List ℕ) → Bytes t → 65539 ≤ length t → recordOf t ≡ []
+  long-none : (pieces : Pieces) (t : List ℕ) → Bytes t → 65539 ≤ length t → recordOf pieces t ≡ []
   unfolding recordOf recordBy
-  long-none t b h = rw (long-line t b h)
+  long-none pieces t b h = rw (long-line pieces t b h)
 
-  packing-kept : recordOf (take cap u) ≡ recordOf u
-  packing-kept = kept recordOf (λ h. long-none (take cap u) (bytes-take u cap bytes) (long-kept h) ∙ sym (long-none u bytes (omega arith)))
+  packing-kept : (pieces : Pieces) → recordOf pieces (take cap u) ≡ recordOf pieces u
+  packing-kept pieces =
+      kept (recordOf pieces) (λ h. long-none pieces (take cap u) (bytes-take u cap bytes) (long-kept h) ∙ sym (long-none pieces u bytes (omega arith)))
 
-  seen-line-kept : seenLine (take cap u) ≡ seenLine u
+  seen-line-kept : (pieces : Pieces) → seenLine pieces (take cap u) ≡ seenLine pieces u
   unfolding seenLine
-  seen-line-kept = rw line-kept
+  seen-line-kept pieces = rw (line-kept pieces)
 
   seen-record-kept : seenRecord (take cap u) ≡ seenRecord u
   unfolding seenRecord
@@ -60,20 +64,20 @@ module _ (cap : ℕ) (enough : 65539 ≤ cap) (u : List ℕ) (bytes : Bytes u) w
 
   pub out-kept : (f : Filter) (c : Counts) → outText f c (take cap u) ≡ outText f c u
   unfolding outText
-  out-kept F.Listing c = rw seen-line-kept
-  out-kept F.Pack c = rw (start-kept, packing-kept)
+  out-kept F.Listing c = rw (seen-line-kept Lenient)
+  out-kept (F.Pack pieces) c = rw (start-kept, packing-kept pieces)
   out-kept F.Unpack c = rw seen-record-kept
 
   pub told-kept : (f : Filter) (c : Counts) → toldText f c (take cap u) ≡ toldText f c u
   unfolding toldText
   told-kept F.Listing c = refl
-  told-kept F.Pack c = rw (start-kept, seen-line-kept)
+  told-kept (F.Pack pieces) c = rw (start-kept, seen-line-kept pieces)
   told-kept F.Unpack c = refl
 
   pub next-kept : (f : Filter) (c : Counts) → nextCounts f c (take cap u) ≡ nextCounts f c u
   unfolding nextCounts
-  next-kept F.Listing c = rw seen-line-kept
-  next-kept F.Pack c = rw (start-kept, seen-line-kept)
+  next-kept F.Listing c = rw (seen-line-kept Lenient)
+  next-kept (F.Pack pieces) c = rw (start-kept, seen-line-kept pieces)
   next-kept F.Unpack c = rw seen-record-kept
 
 -- the units of bytes are bytes

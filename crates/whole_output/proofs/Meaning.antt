@@ -15,6 +15,7 @@ use Rattle.tlv.specs.Number.{Bytes}
 use Rattle.tlv.proofs.Fields.{Found, two-bytes, found-field, field-found, field-is, field-all}
 use Rattle.entry.specs.declared.Entry.{Entry}
 use Rattle.entry.specs.Entry.{EntryValue, valueOf}
+use Rattle.scan.specs.declared.Pieces.{Pieces}
 use Rattle.scan.specs.Parse.{parseOf, lineDwords, slotsBy}
 use Rattle.scan.specs.Line.{Line, Applies}
 use Rattle.scan.proofs.Theorems.{one-line-reading, line-entry-is, line-entry-all, line-number-exactly, Handed, parsed-entry}
@@ -41,28 +42,28 @@ slots-256 = length-replicate {A = ℕ} 256 0
 
 -- ---- lines
 
-module _ (u : List ℕ) where
+module _ (pieces : Pieces) (u : List ℕ) where
   -- an entry's kind and count are those of what the line says
-  line-tells : (e : Entry) → parseOf u 256 ≡ T.is e → Tells (Line u) (e .kind) (e .dwords)
+  line-tells : (e : Entry) → parseOf pieces u 256 ≡ T.is e → Tells (Line pieces u) (e .kind) (e .dwords)
   unfolding valueOf
   line-tells e q =
-      let h : Handed u slots (slotsBy (T.is e) (lineDwords u) slots) e = parsed-entry u slots (record { answer = rw slots-256 (sym q); slots = refl }) in
+      let h : Handed pieces u slots (slotsBy (T.is e) (lineDwords u) slots) e = parsed-entry pieces u slots (record { answer = rw slots-256 (sym q); slots = refl }) in
       record { value = _; says = h .line; kind-is = refl; dwords-are = sym (h .count) }
 
   -- reading a line gives its kind and count
-  pub line-seen : (v : EntryValue) → Line u v → seenLine u ≡ S.Entry (v .kind) (length (v .dwords))
+  pub line-seen : (v : EntryValue) → Line pieces u v → seenLine pieces u ≡ S.Entry (v .kind) (length (v .dwords))
   unfolding seenLine seenBy
   line-seen v a =
-      let f = line-entry-all u a in
+      let f = line-entry-all pieces u a in
       let t = line-tells (f .0) (f .1) in
-      let same : t .value ≡ v = one-line-reading u (t .says) a in
+      let same : t .value ≡ v = one-line-reading pieces u (t .says) a in
       rw (f .1, ← t .kind-is, ← t .dwords-are, same)
 
-  pub line-row : (kind dwords : ℕ) → (seenLine u ≡ S.Entry kind dwords) ↔ Tells (Line u) kind dwords
+  pub line-row : (kind dwords : ℕ) → (seenLine pieces u ≡ S.Entry kind dwords) ↔ Tells (Line pieces u) kind dwords
   unfolding seenLine seenBy
-  line-row kind dwords = (λ x. is (parseOf u 256) refl x, λ t. line-seen (t .value) (t .says) ∙ rw (t .kind-is, t .dwords-are))
+  line-row kind dwords = (λ x. is (parseOf pieces u 256) refl x, λ t. line-seen (t .value) (t .says) ∙ rw (t .kind-is, t .dwords-are))
     where
-      is : (r : T.Told Entry) → parseOf u 256 ≡ r → seenBy r ≡ S.Entry kind dwords → Tells (Line u) kind dwords
+      is : (r : T.Told Entry) → parseOf pieces u 256 ≡ r → seenBy r ≡ S.Entry kind dwords → Tells (Line pieces u) kind dwords
       is (T.is e) q x =
           let a : e .kind ≡ kind = cc in
           let b : e .dwords ≡ dwords = cc in
@@ -70,25 +71,25 @@ module _ (u : List ℕ) where
       is T.absent q x = absurd (let z : _≡_ {A = ℕ} 0 1 = cc in omega arith)
       is (T.refused k) q x = absurd (let z : _≡_ {A = ℕ} 0 1 = cc in omega arith)
 
-  pub line-refused : (k : ℕ) → (seenLine u ≡ S.Refused k) ↔ Applies u 256 k
+  pub line-refused : (k : ℕ) → (seenLine pieces u ≡ S.Refused k) ↔ Applies pieces u 256 k
   unfolding seenLine seenBy
-  line-refused k = (λ x. is (parseOf u 256) refl x, λ a. rw (line-number-exactly u 256 k .1 a))
+  line-refused k = (λ x. is (parseOf pieces u 256) refl x, λ a. rw (line-number-exactly pieces u 256 k .1 a))
     where
-      is : (r : T.Told Entry) → parseOf u 256 ≡ r → seenBy r ≡ S.Refused k → Applies u 256 k
+      is : (r : T.Told Entry) → parseOf pieces u 256 ≡ r → seenBy r ≡ S.Refused k → Applies pieces u 256 k
       is (T.is e) q x = absurd (let z : _≡_ {A = ℕ} 0 1 = cc in omega arith)
-      is T.absent q x = absurd (line-never-none u 256 q)
-      is (T.refused j) q x = let same : j ≡ k = cc in line-number-exactly u 256 k .0 (q ∙ ap T.refused same)
+      is T.absent q x = absurd (line-never-none pieces u 256 q)
+      is (T.refused j) q x = let same : j ≡ k = cc in line-number-exactly pieces u 256 k .0 (q ∙ ap T.refused same)
 
-  pub line-record : (v : EntryValue) → Line u v → recordOf u ≡ recordBytes v
+  pub line-record : (v : EntryValue) → Line pieces u v → recordOf pieces u ≡ recordBytes v
   unfolding recordOf recordBy
-  line-record v a = let f = line-entry-all u a in rw (f .1) (ap recordBytes (f .2))
+  line-record v a = let f = line-entry-all pieces u a in rw (f .1) (ap recordBytes (f .2))
 
-  pub no-line-no-record : ((v : EntryValue) → Line u v → ⊥) → recordOf u ≡ []
+  pub no-line-no-record : ((v : EntryValue) → Line pieces u v → ⊥) → recordOf pieces u ≡ []
   unfolding recordOf recordBy
-  no-line-no-record none = go (parseOf u 256) refl
+  no-line-no-record none = go (parseOf pieces u 256) refl
     where
-      go : (r : T.Told Entry) → parseOf u 256 ≡ r → recordBy u r ≡ []
-      go (T.is e) q = absurd (none _ (line-entry-is u 256 q))
+      go : (r : T.Told Entry) → parseOf pieces u 256 ≡ r → recordBy u r ≡ []
+      go (T.is e) q = absurd (none _ (line-entry-is pieces u 256 q))
       go T.absent q = refl
       go (T.refused k) q = refl
 

@@ -7,6 +7,7 @@ use mathlib.Core.List.{List, [], _∷_, _++_}
 use Rattle.text.specs.Place.{foundBelow, firstOf, firstIn, firstPlace, lastPlace, byteBefore, lastByte}
 use Rattle.text.specs.Quote.{bytes}
 use Rattle.text.specs.Decimal.{digitsWithin, decimalText}
+use Rattle.scan.specs.declared.Pieces.the-variants.{Lenient}
 use Rattle.scan.specs.Frame.{idle, firstHigh, frameColon, frameAscii, frameOf}
 use Rattle.scan.specs.Parse.{withFrame, parseOf}
 use Rattle.scan.proofs.Cases.{fwd}
@@ -33,15 +34,15 @@ prints : Unit {0}
 unfolding digitsWithin decimalText wordAndNumber refusedRow entryRow totalsRow rowOf isEntry rowsFrom entriesIn listed listingOf
 prints = tt
 
-comment-seen : seenLine (line "# tracer: nop") ≡ S.Refused 1
+comment-seen : seenLine Lenient (line "# tracer: nop") ≡ S.Refused 1
 unfolding reads
 comment-seen = refl
 
-fwd-seen : seenLine fwdLine ≡ S.Entry 1 3
+fwd-seen : seenLine Lenient fwdLine ≡ S.Entry 1 3
 unfolding seenLine seenBy
-fwd-seen = rw (fwd .entry)
+fwd-seen = rw (fwd Lenient .entry)
 
-nonsense-seen : seenLine (line "nonsense") ≡ S.Refused 4
+nonsense-seen : seenLine Lenient (line "nonsense") ≡ S.Refused 4
 unfolding reads
 nonsense-seen = refl
 

@@ -6,6 +6,8 @@ use mathlib.Core.Bool.{Bool, true, false, cond}
 use mathlib.Core.List.{List, [], _∷_, _++_, append-assoc, append-nil}
 use native.Mathlib.Omega.{arith}
 use lib.ListN.{length, take}
+use Rattle.scan.specs.declared.Pieces.{Pieces}
+use Rattle.scan.specs.declared.Pieces.the-variants.{Lenient}
 use Rattle.tlv.specs.Number.{Bytes}
 use Rattle.listing_rows.specs.Rows.{totalsRow, stopRow}
 use Rattle.framing.specs.Units.{closed, unitsOf}
@@ -69,60 +71,61 @@ module _ (f : Filter) {input put told : List ℕ} (w : Went f input put told) wh
 pub listing-is-whole : (input put told : List ℕ) → Went F.Listing input put told → (put ≡ listingOf input) × (told ≡ [])
 unfolding outText toldText nextCounts lastOut lastTold listingOf
 listing-is-whole input put told w =
-    (put-whole F.Listing w ∙ listed-is F.Listing seenLine (λ c u. refl) (λ c u. refl) (λ c. refl) (unitsOf (framingOf F.Listing) input) (w .few), told-whole F.Listing w ∙ tells-nothing F.Listing (λ c u. refl) (λ c. refl) fresh (unitsOf (framingOf F.Listing) input))
+    (put-whole F.Listing w ∙ listed-is F.Listing (seenLine Lenient) (λ c u. refl) (λ c u. refl) (λ c. refl) (unitsOf (framingOf F.Listing) input) (w .few), told-whole F.Listing w ∙ tells-nothing F.Listing (λ c u. refl) (λ c. refl) fresh (unitsOf (framingOf F.Listing) input))
 
 pub unpacking-is-whole : (input put told : List ℕ) → Went F.Unpack input put told → (put ≡ unpackingOf input) × (told ≡ [])
 unfolding outText toldText nextCounts lastOut lastTold unpackingOf
 unpacking-is-whole input put told w =
     (put-whole F.Unpack w ∙ listed-is F.Unpack seenRecord (λ c u. refl) (λ c u. refl) (λ c. refl) (unitsOf (framingOf F.Unpack) input) (w .few), told-whole F.Unpack w ∙ tells-nothing F.Unpack (λ c u. refl) (λ c. refl) fresh (unitsOf (framingOf F.Unpack) input))
 
--- the definitions of packing, from the texts of all lines
-module _ (input : List ℕ) (few : length (unitsOf (framingOf F.Pack) input) < 2 ^ 64) where
-  abbrev lines : List (List ℕ)
-  lines = unitsOf (framingOf F.Pack) input
+module _ (pieces : Pieces) where
+  -- the definitions of packing, from the texts of all lines
+  module _ (input : List ℕ) (few : length (unitsOf (framingOf (F.Pack pieces)) input) < 2 ^ 64) where
+    abbrev lines : List (List ℕ)
+    lines = unitsOf (framingOf (F.Pack pieces)) input
 
-  small : 0 + length (unitsOf (framingOf F.Pack) input) < 2 ^ 64
-  small = omega (arith, few)
+    small : 0 + length (unitsOf (framingOf (F.Pack pieces)) input) < 2 ^ 64
+    small = omega (arith, few)
 
-  records-packed : texts (nextCounts F.Pack) (outText F.Pack) fresh lines ≡ packingOf input
-  unfolding packingOf
-  records-packed = records-are lines 0 0 small small
+    records-packed : texts (nextCounts (F.Pack pieces)) (outText (F.Pack pieces)) fresh lines ≡ packingOf pieces input
+    unfolding packingOf
+    records-packed = records-are pieces lines 0 0 small small
 
-  tells-packed : texts (nextCounts F.Pack) (toldText F.Pack) fresh lines ++ lastTold F.Pack (after (nextCounts F.Pack) fresh lines) ≡ packingTells input
-  unfolding packingTells
-  tells-packed =
-      let a : 0 + length (unitsOf (framingOf F.Pack) input) ≡ length (unitsOf (framingOf F.Pack) input) = omega arith in
-      let b : 0 + entriesIn seenLine (unitsOf (framingOf F.Pack) input) ≡ entriesIn seenLine (unitsOf (framingOf F.Pack) input) = omega arith in
-      let d : 0 + length (linesBefore (unitsOf (framingOf F.Pack) input)) + 1 ≡ length (linesBefore (unitsOf (framingOf F.Pack) input)) + 1 = omega arith in
-      tells-are lines 0 0 small small ∙ rw (a, b, d)
+    tells-packed : texts (nextCounts (F.Pack pieces)) (toldText (F.Pack pieces)) fresh lines ++ lastTold (F.Pack pieces) (after (nextCounts (F.Pack pieces)) fresh lines) ≡ packingTells pieces input
+    unfolding packingTells
+    tells-packed =
+        let a : 0 + length (unitsOf (framingOf (F.Pack pieces)) input) ≡ length (unitsOf (framingOf (F.Pack pieces)) input) = omega arith in
+        let b : 0 + entriesIn (seenLine pieces) (unitsOf (framingOf (F.Pack pieces)) input) ≡ entriesIn (seenLine pieces) (unitsOf (framingOf (F.Pack pieces)) input) = omega arith in
+        let d : 0 + length (linesBefore (unitsOf (framingOf (F.Pack pieces)) input)) + 1 ≡ length (linesBefore (unitsOf (framingOf (F.Pack pieces)) input)) + 1 = omega arith in
+        tells-are pieces lines 0 0 small small ∙ rw (a, b, d)
 
-pub packing-is-whole : (input put told : List ℕ) → Went F.Pack input put told → (put ≡ packingOf input) × (told ≡ packingTells input)
-unfolding lastOut
-packing-is-whole input put told w =
-    (put-whole F.Pack w ∙ append-nil (texts (nextCounts F.Pack) (outText F.Pack) fresh (unitsOf (framingOf F.Pack) input)) ∙ records-packed input (w .few), told-whole F.Pack w ∙ tells-packed input (w .few))
+  pub packing-is-whole : (input put told : List ℕ) → Went (F.Pack pieces) input put told → (put ≡ packingOf pieces input) × (told ≡ packingTells pieces input)
+  unfolding lastOut
+  packing-is-whole input put told w =
+      (put-whole (F.Pack pieces) w ∙ append-nil (texts (nextCounts (F.Pack pieces)) (outText (F.Pack pieces)) fresh (unitsOf (framingOf (F.Pack pieces)) input)) ∙ records-packed input (w .few), told-whole (F.Pack pieces) w ∙ tells-packed input (w .few))
 
--- a stop: what is behind puts out and tells nothing
-pub stopped-is-whole : (taken rest put told : List ℕ) → StoppedAfter taken rest put told → (put ≡ packingOf (taken ++ rest)) × (told ≡ packingTells (taken ++ rest))
-unfolding lastTold
-stopped-is-whole taken rest put told w =
-    let good = units-bytes (framingOf F.Pack) (taken ++ rest) (w .bytes) in
-    let out-same : (c : Counts) (u : List ℕ) → Bytes u → outText F.Pack c (take (w .cap) u) ≡ outText F.Pack c u = λ c u b. out-kept (w .cap) (w .enough) u b F.Pack c in
-    let told-same : (c : Counts) (u : List ℕ) → Bytes u → toldText F.Pack c (take (w .cap) u) ≡ toldText F.Pack c u = λ c u b. told-kept (w .cap) (w .enough) u b F.Pack c in
-    let next-same : (c : Counts) (u : List ℕ) → Bytes u → nextCounts F.Pack c (take (w .cap) u) ≡ nextCounts F.Pack c u = λ c u b. next-kept (w .cap) (w .enough) u b F.Pack c in
-    let x = put-so-far F.Pack (w .calls) in
-    let y = told-so-far F.Pack (w .calls) in
-    let xs = behind (framingOf F.Pack) (w .cap) taken (w .held) rest in
-    let puts = ahead-texts (nextCounts F.Pack) (outText F.Pack) (framingOf F.Pack) (w .cap) fresh (w .enough) Bytes out-same next-same x rest good in
-    let tells = ahead-texts (nextCounts F.Pack) (toldText F.Pack) (framingOf F.Pack) (w .cap) fresh (w .enough) Bytes told-same next-same y rest good in
-    let end = ahead-after (nextCounts F.Pack) (toldText F.Pack) (framingOf F.Pack) (w .cap) fresh (w .enough) Bytes told-same next-same y rest good in
-    let none : lastTold F.Pack (after (nextCounts F.Pack) fresh (unitsOf (framingOf F.Pack) (taken ++ rest))) ≡ [] =
-    ap (lastTold F.Pack) (end ∙ after-stopped (w .counts) (w .stopped) xs) ∙ rw (w .stopped) in (
-      sym (append-nil put) ∙ sym (puts ∙ ap (λ (t : List ℕ). put ++ t) (out-stopped (w .counts) (w .stopped) _)) ∙ records-packed (taken ++ rest) (w .few),
-      sym (append-nil told)
-          ∙ sym (tells ∙ ap (λ (t : List ℕ). told ++ t) (told-stopped (w .counts) (w .stopped) _))
-          ∙ sym (ap (λ (t : List ℕ). texts (nextCounts F.Pack) (toldText F.Pack) fresh (unitsOf (framingOf F.Pack) (taken ++ rest)) ++ t) none ∙ append-nil _)
-          ∙ tells-packed (taken ++ rest) (w .few),
-    )
+  -- a stop: what is behind puts out and tells nothing
+  pub stopped-is-whole : (taken rest put told : List ℕ) → StoppedAfter pieces taken rest put told → (put ≡ packingOf pieces (taken ++ rest)) × (told ≡ packingTells pieces (taken ++ rest))
+  unfolding lastTold
+  stopped-is-whole taken rest put told w =
+      let good = units-bytes (framingOf (F.Pack pieces)) (taken ++ rest) (w .bytes) in
+      let out-same : (c : Counts) (u : List ℕ) → Bytes u → outText (F.Pack pieces) c (take (w .cap) u) ≡ outText (F.Pack pieces) c u = λ c u b. out-kept (w .cap) (w .enough) u b (F.Pack pieces) c in
+      let told-same : (c : Counts) (u : List ℕ) → Bytes u → toldText (F.Pack pieces) c (take (w .cap) u) ≡ toldText (F.Pack pieces) c u = λ c u b. told-kept (w .cap) (w .enough) u b (F.Pack pieces) c in
+      let next-same : (c : Counts) (u : List ℕ) → Bytes u → nextCounts (F.Pack pieces) c (take (w .cap) u) ≡ nextCounts (F.Pack pieces) c u = λ c u b. next-kept (w .cap) (w .enough) u b (F.Pack pieces) c in
+      let x = put-so-far (F.Pack pieces) (w .calls) in
+      let y = told-so-far (F.Pack pieces) (w .calls) in
+      let xs = behind (framingOf (F.Pack pieces)) (w .cap) taken (w .held) rest in
+      let puts = ahead-texts (nextCounts (F.Pack pieces)) (outText (F.Pack pieces)) (framingOf (F.Pack pieces)) (w .cap) fresh (w .enough) Bytes out-same next-same x rest good in
+      let tells = ahead-texts (nextCounts (F.Pack pieces)) (toldText (F.Pack pieces)) (framingOf (F.Pack pieces)) (w .cap) fresh (w .enough) Bytes told-same next-same y rest good in
+      let end = ahead-after (nextCounts (F.Pack pieces)) (toldText (F.Pack pieces)) (framingOf (F.Pack pieces)) (w .cap) fresh (w .enough) Bytes told-same next-same y rest good in
+      let none : lastTold (F.Pack pieces) (after (nextCounts (F.Pack pieces)) fresh (unitsOf (framingOf (F.Pack pieces)) (taken ++ rest))) ≡ [] =
+      ap (lastTold (F.Pack pieces)) (end ∙ after-stopped pieces (w .counts) (w .stopped) xs) ∙ rw (w .stopped) in (
+        sym (append-nil put) ∙ sym (puts ∙ ap (λ (t : List ℕ). put ++ t) (out-stopped pieces (w .counts) (w .stopped) _)) ∙ records-packed (taken ++ rest) (w .few),
+        sym (append-nil told)
+            ∙ sym (tells ∙ ap (λ (t : List ℕ). told ++ t) (told-stopped pieces (w .counts) (w .stopped) _))
+            ∙ sym (ap (λ (t : List ℕ). texts (nextCounts (F.Pack pieces)) (toldText (F.Pack pieces)) fresh (unitsOf (framingOf (F.Pack pieces)) (taken ++ rest)) ++ t) none ∙ append-nil _)
+            ∙ tells-packed (taken ++ rest) (w .few),
+      )
 
 pub whole-output : WholeOutput
 whole-output = record { listing = listing-is-whole; packing = packing-is-whole; stopped-packing = stopped-is-whole; unpacking = unpacking-is-whole }

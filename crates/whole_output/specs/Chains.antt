@@ -6,6 +6,7 @@ use mathlib.Core.Bool.{true, false}
 use mathlib.Core.List.{List, [], _++_}
 use lib.ListN.{length, take}
 use Rattle.tlv.specs.Number.{Bytes}
+use Rattle.scan.specs.declared.Pieces.{Pieces}
 use Rattle.framing.specs.declared.Framing.the-variants.{Lines}
 use Rattle.framing.specs.Units.{unitsOf}
 use Rattle.framing.specs.Feeding.{between}
@@ -59,7 +60,7 @@ pub record Went (f : Filter) (input put told : List ℕ) : Type 0 where
   pub told-is : told ≡ told-before ++ between tell′ (run .told) (r .told)
 
 -- `pack` stopped: calls took so much of an input, whatever the rest of it is, and counted that a line starts with A1. The loop then makes no call more.
-pub record StoppedAfter (taken rest put told : List ℕ) : Type 0 where
+pub record StoppedAfter (pieces : Pieces) (taken rest put told : List ℕ) : Type 0 where
   -- The input, what was taken and the rest, is bytes, and has fewer lines than 64 bits count.
   pub bytes : Bytes (taken ++ rest)
   pub few : length (unitsOf Lines (taken ++ rest)) < 2 ^ 64
@@ -69,16 +70,16 @@ pub record StoppedAfter (taken rest put told : List ℕ) : Type 0 where
   -- The calls, and that the last of them stopped.
   pub held : List ℕ
   pub counts : Counts
-  pub calls : Calls F.Pack cap taken put told held counts
+  pub calls : Calls (F.Pack pieces) cap taken put told held counts
   pub stopped : counts .stopped ≡ true
 
 -- However the input is cut into parts, and whatever room each call finds, what is put out in order is the definition of the whole input.
 pub record WholeOutput : Type 0 where
   -- The listing puts out the listing of the input, and tells nothing beside it.
   pub listing : (input put told : List ℕ) → Went F.Listing input put told → (put ≡ listingOf input) × (told ≡ [])
-  -- `pack` puts out the records of the input's lines, and tells which were refused and the totals, or where it stopped.
-  pub packing : (input put told : List ℕ) → Went F.Pack input put told → (put ≡ packingOf input) × (told ≡ packingTells input)
+  -- `pack` puts out the records of the input's lines, read by its choice, and tells which were refused and the totals, or where it stopped.
+  pub packing : (pieces : Pieces) (input put told : List ℕ) → Went (F.Pack pieces) input put told → (put ≡ packingOf pieces input) × (told ≡ packingTells pieces input)
   -- A `pack` that stopped has put out and told all that it would with the whole input, whatever the rest of it is.
-  pub stopped-packing : (taken rest put told : List ℕ) → StoppedAfter taken rest put told → (put ≡ packingOf (taken ++ rest)) × (told ≡ packingTells (taken ++ rest))
+  pub stopped-packing : (pieces : Pieces) (taken rest put told : List ℕ) → StoppedAfter pieces taken rest put told → (put ≡ packingOf pieces (taken ++ rest)) × (told ≡ packingTells pieces (taken ++ rest))
   -- `unpack` puts out the listing of the input's records, and tells nothing beside it.
   pub unpacking : (input put told : List ℕ) → Went F.Unpack input put told → (put ≡ unpackingOf input) × (told ≡ [])

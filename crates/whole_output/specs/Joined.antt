@@ -6,6 +6,7 @@ use mathlib.Core.List.{List, [], _∷_, _++_, map}
 use lib.ListN.{length}
 use Rattle.tlv.specs.Grammar.{All}
 use Rattle.entry.specs.Entry.{EntryValue}
+use Rattle.scan.specs.declared.Pieces.{Pieces}
 use Rattle.scan.specs.Line.{Line}
 use Rattle.listing_rows.specs.Rows.{totalsRow}
 use Rattle.framing.specs.declared.Framing.the-variants.{Lines, Records}
@@ -23,25 +24,25 @@ keptBy (S.Entry kind dwords) u us = u ∷ us
 keptBy (S.Refused k) u us = us
 
 -- the lines that are entries
-unfoldable pub kept : List (List ℕ) → List (List ℕ)
-kept [] = []
-kept (u ∷ us) = keptBy (seenLine u) u (kept us)
+unfoldable pub kept : Pieces → List (List ℕ) → List (List ℕ)
+kept pieces [] = []
+kept pieces (u ∷ us) = keptBy (seenLine pieces u) u (kept pieces us)
 
 -- the lines of an input that `pack` packs: the entries before the first line that starts with A1
-unfoldable pub packedLines : List ℕ → List (List ℕ)
-packedLines s = kept (linesBefore (unitsOf Lines s))
+unfoldable pub packedLines : Pieces → List ℕ → List (List ℕ)
+packedLines pieces s = kept pieces (linesBefore (unitsOf Lines s))
 
 -- lines that are entries, listed: a row for each, numbered from 1, then their number, twice
-unfoldable pub entryListing : List (List ℕ) → List ℕ
-entryListing us = rowsFrom seenLine 0 us ++ totalsRow (length us) (length us)
+unfoldable pub entryListing : Pieces → List (List ℕ) → List ℕ
+entryListing pieces us = rowsFrom (seenLine pieces) 0 us ++ totalsRow (length us) (length us)
 
--- What `pack` puts out for an input, as `unpack` takes it.
-pub record PackIntoUnpack (s : List ℕ) : Type 0 where
+-- What `pack` puts out for an input by its choice, as `unpack` takes it.
+pub record PackIntoUnpack (pieces : Pieces) (s : List ℕ) : Type 0 where
   -- Its records are those of the packed lines, in their order: none is split, joined with another, lost or made up.
-  pub records-are : unitsOf Records (packingOf s) ≡ map recordOf (packedLines s)
+  pub records-are : unitsOf Records (packingOf pieces s) ≡ map (recordOf pieces) (packedLines pieces s)
   -- `unpack` lists them as these lines are listed: each with its line's kind and number of dwords; lines and entries are both their number.
-  pub listing-is : unpackingOf (packingOf s) ≡ entryListing (packedLines s)
+  pub listing-is : unpackingOf (packingOf pieces s) ≡ entryListing pieces (packedLines pieces s)
   -- Each of these lines belongs to the grammar, so no row is a refusal.
-  pub all-lines : All (λ u. (v : EntryValue) × Line u v) (packedLines s)
+  pub all-lines : All (λ u. (v : EntryValue) × Line pieces u v) (packedLines pieces s)
   -- The same of the calls: whatever parts and rooms either has, with all that `pack` put out as its input `unpack` puts out that listing.
-  pub piped : (packed told out told′ : List ℕ) → Went F.Pack s packed told → Went F.Unpack packed out told′ → out ≡ entryListing (packedLines s)
+  pub piped : (packed told out told′ : List ℕ) → Went (F.Pack pieces) s packed told → Went F.Unpack packed out told′ → out ≡ entryListing pieces (packedLines pieces s)

@@ -8,6 +8,7 @@ use mathlib.Core.Logic.{_↔_}
 use lib.ListN.{length}
 use Rattle.tlv.specs.Number.{Bytes}
 use Rattle.entry.specs.Entry.{EntryValue}
+use Rattle.scan.specs.declared.Pieces.{Pieces}
 use Rattle.scan.specs.Line.{Line, Applies}
 use Rattle.record.specs.Grammar.{recordBytes, IsRecord}
 use Rattle.record.specs.Conditions.{Framed, Breaks}
@@ -23,16 +24,16 @@ pub record Tells (Says : EntryValue → Type 0) (kind dwords : ℕ) : Type 0 whe
   pub kind-is : value .kind ≡ kind
   pub dwords-are : length (value .dwords) ≡ dwords
 
--- What rows and records say of the lines and records that they are put out for.
+-- What rows and records say of the lines and records that they are put out for, whatever the choice that a line is read by.
 pub record TextsMean : Type 0 where
   -- A row has a line's kind and its number of dwords exactly when the line belongs to the grammar, and these are what it says.
-  pub line-row : (u : List ℕ) (kind dwords : ℕ) → (seenLine u ≡ S.Entry kind dwords) ↔ Tells (Line u) kind dwords
+  pub line-row : (pieces : Pieces) (u : List ℕ) (kind dwords : ℕ) → (seenLine pieces u ≡ S.Entry kind dwords) ↔ Tells (Line pieces u) kind dwords
   -- It says that a line is refused with k exactly when number k applies to it, given 256 slots.
-  pub line-refused : (u : List ℕ) (k : ℕ) → (seenLine u ≡ S.Refused k) ↔ Applies u 256 k
+  pub line-refused : (pieces : Pieces) (u : List ℕ) (k : ℕ) → (seenLine pieces u ≡ S.Refused k) ↔ Applies pieces u 256 k
   -- What is packed for a line of the grammar is the record of what it says.
-  pub line-record : (u : List ℕ) (v : EntryValue) → Line u v → recordOf u ≡ recordBytes v
+  pub line-record : (pieces : Pieces) (u : List ℕ) (v : EntryValue) → Line pieces u v → recordOf pieces u ≡ recordBytes v
   -- Nothing is packed for any other.
-  pub no-line-no-record : (u : List ℕ) → ((v : EntryValue) → Line u v → ⊥) → recordOf u ≡ []
+  pub no-line-no-record : (pieces : Pieces) (u : List ℕ) → ((v : EntryValue) → Line pieces u v → ⊥) → recordOf pieces u ≡ []
   -- A row has a record's kind and its number of dwords exactly when the text belongs to the grammar, and these are what it says.
   pub record-row : (u : List ℕ) → Bytes u → (kind dwords : ℕ) → (seenRecord u ≡ S.Entry kind dwords) ↔ Tells (IsRecord u) kind dwords
   -- It says that a record is refused with k exactly when number k applies to it.

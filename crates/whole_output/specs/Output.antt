@@ -8,6 +8,8 @@ use lib.ListN.{length}
 use Rattle.listing_rows.specs.Rows.{totalsRow, stopRow}
 use Rattle.framing.specs.declared.Framing.the-variants.{Lines, Records}
 use Rattle.framing.specs.Units.{unitsOf}
+use Rattle.scan.specs.declared.Pieces.{Pieces}
+use Rattle.scan.specs.declared.Pieces.the-variants.{Lenient}
 use Rattle.intake.specs.Intake.{startsA1}
 use Rattle.filters.specs.declared.row.Seen.{Seen}
 use Rattle.filters.specs.Texts.{seenLine, seenRecord, rowOf, isEntry, recordOf, toldBy}
@@ -27,9 +29,9 @@ module _ (see : List ℕ → Seen) where
   unfoldable pub listed : List (List ℕ) → List ℕ
   listed us = rowsFrom 0 us ++ totalsRow (length us) (entriesIn us)
 
--- THE LISTING of an input: its lines, listed
+-- THE LISTING of an input: its lines, read leniently, listed
 unfoldable pub listingOf : List ℕ → List ℕ
-listingOf s = listed seenLine (unitsOf Lines s)
+listingOf s = listed (seenLine Lenient) (unitsOf Lines s)
 
 -- WHAT `unpack` PUTS OUT for a stream: its records, listed
 unfoldable pub unpackingOf : List ℕ → List ℕ
@@ -45,22 +47,23 @@ unfoldable pub hasRecord : List (List ℕ) → Bool
 hasRecord [] = false
 hasRecord (u ∷ us) = cond (startsA1 u) true (hasRecord us)
 
--- the records of lines, one behind the other
-unfoldable pub recordsOf : List (List ℕ) → List ℕ
-recordsOf [] = []
-recordsOf (u ∷ us) = recordOf u ++ recordsOf us
+module _ (pieces : Pieces) where
+  -- the records of lines, one behind the other
+  unfoldable pub recordsOf : List (List ℕ) → List ℕ
+  recordsOf [] = []
+  recordsOf (u ∷ us) = recordOf pieces u ++ recordsOf us
 
--- the rows of those that are refused, the first line standing behind n others
-unfoldable pub refusedRows : ℕ → List (List ℕ) → List ℕ
-refusedRows n [] = []
-refusedRows n (u ∷ us) = toldBy (n + 1) (seenLine u) ++ refusedRows (n + 1) us
+  -- the rows of those that are refused, the first line standing behind n others
+  unfoldable pub refusedRows : ℕ → List (List ℕ) → List ℕ
+  refusedRows n [] = []
+  refusedRows n (u ∷ us) = toldBy (n + 1) (seenLine pieces u) ++ refusedRows (n + 1) us
 
--- WHAT `pack` PUTS OUT for an input: the records of its lines, up to one that starts with A1
-unfoldable pub packingOf : List ℕ → List ℕ
-packingOf s = recordsOf (linesBefore (unitsOf Lines s))
+  -- WHAT `pack` PUTS OUT for an input by its choice: the records of its lines, up to one that starts with A1
+  unfoldable pub packingOf : List ℕ → List ℕ
+  packingOf s = recordsOf (linesBefore (unitsOf Lines s))
 
--- and what it tells: the rows of those that are refused, then the totals, or that it stopped at a line that starts with A1
-unfoldable pub packingTells : List ℕ → List ℕ
-packingTells s =
-    refusedRows 0 (linesBefore (unitsOf Lines s))
-    ++ cond (hasRecord (unitsOf Lines s)) (stopRow (length (linesBefore (unitsOf Lines s)) + 1)) (totalsRow (length (unitsOf Lines s)) (entriesIn seenLine (unitsOf Lines s)))
+  -- and what it tells: the rows of those that are refused, then the totals, or that it stopped at a line that starts with A1
+  unfoldable pub packingTells : List ℕ → List ℕ
+  packingTells s =
+      refusedRows 0 (linesBefore (unitsOf Lines s))
+      ++ cond (hasRecord (unitsOf Lines s)) (stopRow (length (linesBefore (unitsOf Lines s)) + 1)) (totalsRow (length (unitsOf Lines s)) (entriesIn (seenLine pieces) (unitsOf Lines s)))

@@ -40,10 +40,10 @@ same-length-3 : tie.Need-same-length-3
 same-length-3 c = search needs
 
 returns-3 : tie.Need-returns-3
-returns-3 c = rw (c .before .before .before .before .before .before .enum-told3 .given .1) (last-pack _ _ (c .before .before .before .before .before .before .before .before .before .before .args .run) (omega (arith, c .before .before .before .before .before .before .before .before .before .before .pre .0)) (omega (arith, c .before .before .before .before .before .before .before .before .before .before .pre .1)) (not-true _ (c .before .before .before .before .if1 .taken)) (c .before .before .put-totals3 .ensures))
+returns-3 c = rw (c .before .before .before .before .before .before .enum-told3 .given .1) (last-pack _ _ (c .before .before .before .before .before .before .before .before .before .before .args .run) (omega (arith, c .before .before .before .before .before .before .before .before .before .before .pre .0)) (omega (arith, c .before .before .before .before .before .before .before .before .before .before .pre .1)) _ (not-true _ (c .before .before .before .before .if1 .taken)) (c .before .before .put-totals3 .ensures))
 
 returns-4 : tie.Need-returns-4
-returns-4 c = rw (c .before .before .enum-told3 .given .1) (last-stopped _ _ (c .before .before .before .before .before .before .args .run) (omega (arith, c .before .before .before .before .before .before .pre .0)) (omega (arith, c .before .before .before .before .before .before .pre .1)) (not-false _ (c .if1 .left)))
+returns-4 c = rw (c .before .before .enum-told3 .given .1) (last-stopped _ _ (c .before .before .before .before .before .before .args .run) (omega (arith, c .before .before .before .before .before .before .pre .0)) (omega (arith, c .before .before .before .before .before .before .pre .1)) _ (not-false _ (c .if1 .left)))
 
 pub put-last-spec : {M : Type 1} → statement M
 put-last-spec =

@@ -22,13 +22,13 @@ enum-known-e : tie.Need-enum-known-e
 enum-known-e c = search needs
 
 array-share-prefix-dwords : tie.Need-array-share-prefix-dwords
-array-share-prefix-dwords c = waits _ (c .before .before .before .before .before .before .before .before .before .before .before .args .text .now) (c .before .before .before .before .before .before .before .before .before .before .before .args .slots .now) _ (λ i. c .before .before .before .before .before .before .before .before .before .before .shared-slice-known .given i .fits) (lent-elements _ (c .before .before .before .before .before .before .at-most-256 .ensures) ∙ c .before .before .before .before .before .before .at-most-256 .ensures) (c .before .before .before .before .read .ensures) _ (c .before .before .before .before .read .kept .1 .0) (c .before .e .given .1) .within
+array-share-prefix-dwords c = waits _ (c .before .before .before .before .before .before .before .before .before .before .before .args .text .now) (c .before .before .before .before .before .before .before .before .before .before .before .args .slots .now) _ (λ i. c .before .before .before .before .before .before .before .before .before .before .shared-slice-known .given i .fits) (lent-elements _ (c .before .before .before .before .before .before .at-most-256 .ensures) ∙ c .before .before .before .before .before .before .at-most-256 .ensures) (c .before .before .before .before .read .ensures) _ (c .before .before .before .before .read .kept .1 .1 .0) (c .before .e .given .1) .within
 
 slice-aggregate-hand-over : tie.Need-slice-aggregate-hand-over
-slice-aggregate-hand-over c = waits _ (c .before .before .before .before .before .before .before .before .before .before .before .before .args .text .now) (c .before .before .before .before .before .before .before .before .before .before .before .before .args .slots .now) _ (λ i. c .before .before .before .before .before .before .before .before .before .before .before .shared-slice-known .given i .fits) (lent-elements _ (c .before .before .before .before .before .before .before .at-most-256 .ensures) ∙ c .before .before .before .before .before .before .before .at-most-256 .ensures) (c .before .before .before .before .before .read .ensures) _ (c .before .before .before .before .before .read .kept .1 .0) (c .before .before .e .given .1) .count
+slice-aggregate-hand-over c = waits _ (c .before .before .before .before .before .before .before .before .before .before .before .before .args .text .now) (c .before .before .before .before .before .before .before .before .before .before .before .before .args .slots .now) _ (λ i. c .before .before .before .before .before .before .before .before .before .before .before .shared-slice-known .given i .fits) (lent-elements _ (c .before .before .before .before .before .before .before .at-most-256 .ensures) ∙ c .before .before .before .before .before .before .before .at-most-256 .ensures) (c .before .before .before .before .before .read .ensures) _ (c .before .before .before .before .before .read .kept .1 .1 .0) (c .before .before .e .given .1) .count
 
 hand-over-requires : tie.Need-hand-over-requires
-hand-over-requires c κs = waits _ (c .before .before .before .before .before .before .before .before .before .before .before .before .before .before .args .text .now) (c .before .before .before .before .before .before .before .before .before .before .before .before .before .before .args .slots .now) _ (λ i. c .before .before .before .before .before .before .before .before .before .before .before .before .before .shared-slice-known .given i .fits) (lent-elements _ (c .before .before .before .before .before .before .before .before .before .at-most-256 .ensures) ∙ c .before .before .before .before .before .before .before .before .before .at-most-256 .ensures) (c .before .before .before .before .before .before .before .read .ensures) _ (c .before .before .before .before .before .before .before .read .kept .1 .0) (c .before .before .before .before .e .given .1) .fits
+hand-over-requires c κs = waits _ (c .before .before .before .before .before .before .before .before .before .before .before .before .before .before .args .text .now) (c .before .before .before .before .before .before .before .before .before .before .before .before .before .before .args .slots .now) _ (λ i. c .before .before .before .before .before .before .before .before .before .before .before .before .before .shared-slice-known .given i .fits) (lent-elements _ (c .before .before .before .before .before .before .before .before .before .at-most-256 .ensures) ∙ c .before .before .before .before .before .before .before .before .before .at-most-256 .ensures) (c .before .before .before .before .before .before .before .read .ensures) _ (c .before .before .before .before .before .before .before .read .kept .1 .1 .0) (c .before .before .before .before .e .given .1) .fits
 
 enum-known-number : tie.Need-enum-known-number
 enum-known-number c = search needs
@@ -41,7 +41,7 @@ same-length-2 c = search needs
 
 returns : tie.Need-returns
 returns c =
-    let w = waits _ (c .before .before .before .before .before .before .before .before .before .before .before .before .before .before .before .before .before .before .before .args .text .now) (c .before .before .before .before .before .before .before .before .before .before .before .before .before .before .before .before .before .before .before .args .slots .now) _ (λ i. c .before .before .before .before .before .before .before .before .before .before .before .before .before .before .before .before .before .before .shared-slice-known .given i .fits) (lent-elements _ (c .before .before .before .before .before .before .before .before .before .before .before .before .before .before .at-most-256 .ensures) ∙ c .before .before .before .before .before .before .before .before .before .before .before .before .before .before .at-most-256 .ensures) (c .before .before .before .before .before .before .before .before .before .before .before .before .read .ensures) _ (c .before .before .before .before .before .before .before .before .before .before .before .before .read .kept .1 .0) (c .before .before .before .before .before .before .before .before .before .e .given .1) in
+    let w = waits _ (c .before .before .before .before .before .before .before .before .before .before .before .before .before .before .before .before .before .before .before .args .text .now) (c .before .before .before .before .before .before .before .before .before .before .before .before .before .before .before .before .before .before .before .args .slots .now) _ (λ i. c .before .before .before .before .before .before .before .before .before .before .before .before .before .before .before .before .before .before .shared-slice-known .given i .fits) (lent-elements _ (c .before .before .before .before .before .before .before .before .before .before .before .before .before .before .at-most-256 .ensures) ∙ c .before .before .before .before .before .before .before .before .before .before .before .before .before .before .at-most-256 .ensures) (c .before .before .before .before .before .before .before .before .before .before .before .before .read .ensures) _ (c .before .before .before .before .before .before .before .before .before .before .before .before .read .kept .1 .1 .0) (c .before .before .before .before .before .before .before .before .before .e .given .1) in
     taken-packet _ (c .before .before .before .before .before .before .before .before .before .before .before .before .before .before .before .before .before .before .before .args .text .now) (c .before .before .before .before .before .before .before .before .before .before .before .before .before .before .before .before .before .before .before .args .book .now) (c .before .before .before .before .before .before .before .before .before .before .before .before .before .before .before .before .before .before .before .args .slots .now) (c .before .before .before .before .before .before .before .before .before .before .before .before .before .before .before .before .before .before .before .args .places .now) (w .answer) (w .front) (c .before .before .before .before .hand-over .ensures)
 
 returns-2 : tie.Need-returns-2

@@ -19,10 +19,10 @@ enum-known-number : tie.Need-enum-known-number
 enum-known-number c = search needs
 
 returns : tie.Need-returns
-returns c = line-entry _ {k = 256} refl (c .before .before .before .before .parse .ensures .answer) (c .before .e .given .1)
+returns c = line-entry _ {k = 256} refl _ (c .before .before .before .before .parse .ensures .answer) (c .before .e .given .1)
 
 returns-2 : tie.Need-returns-2
-returns-2 c = line-refused _ {k = 256} refl (c .before .before .before .before .parse .ensures .answer) (c .before .number .given .1)
+returns-2 c = line-refused _ {k = 256} refl _ (c .before .before .before .before .parse .ensures .answer) (c .before .number .given .1)
 
 pub see-line-spec : {M : Type 1} → statement M
 see-line-spec =

@@ -1,7 +1,8 @@
--- Document 01's cases as one list with a single statement; each was computed or proved where its definitions are. Assumes nothing.
+-- Document 01's cases as one list with a single statement, P6 and P7 in lenient with their strict sides beside them, as document 02 has it; each was
+-- computed or proved where its definitions are. Assumes nothing.
 use Prim.Native.Nat.{ℕ, _+_, _<_, _^_}
-use mathlib.Core.Path.{_≡_}
-use mathlib.Core.List.{[], _∷_}
+use mathlib.Core.Path.{_≡_, refl}
+use mathlib.Core.List.{List, [], _∷_}
 use mathlib.Core.Option.{some}
 use Rattle.text.specs.declared.number.Number.the-variants as N
 use Rattle.text.specs.declared.number.Reading.the-variants as X
@@ -22,12 +23,14 @@ use Rattle.pairs.specs.Pair.{pairsFrom, decimalOf}
 use Rattle.pairs.proofs.PairLists.{placed}
 use Rattle.pairs.proofs.Cases.{case-P4, case-P5, case-P6}
 use mathlib.Core.Bool.{false}
+use Rattle.entry.specs.declared.Entry.{Entry}
 use Rattle.entry.specs.declared.optional.MaybeByte.the-variants as B
 use Rattle.entry.specs.declared.optional.MaybeWord.the-variants as W
+use Rattle.scan.specs.declared.Pieces.the-variants.{Strict, Lenient}
 use Rattle.scan.specs.Body.{textAt}
 use Rattle.scan.specs.Dwords.{payloadData}
-use Rattle.scan.specs.Parse.{parseOf}
-use Rattle.scan.proofs.Cases.{accepted-P7, refused-P8}
+use Rattle.scan.specs.Parse.{parseOf, lineDwords}
+use Rattle.scan.proofs.Cases.{computes, accepted-P7, refused-P8, strict-twins}
 use Rattle.tlv.specs.Grammar.{fieldBytes}
 use Rattle.packet.specs.Packet.{entriesOf}
 use Rattle.packet.proofs.Examples.{threeEntries, threeUuids, fourUuids}
@@ -39,6 +42,19 @@ use Rattle.questions.proofs.Cases.{case-P12, case-P13, case-P14}
 payload-P6 : payloadData (bytes "data=[0x1, zz, 0x2]") ≡ some (1 ∷ 2 ∷ [])
 unfolding payloadData textAt
 payload-P6 = rw (case-P6 .value-at) (case-P6 .dwords)
+
+-- the entry of P6's and P7's lines, by its number of dwords
+abbrev plainEntry : ℕ → Entry
+plainEntry n = record { «task_at» = 0; «task_len» = 1; pid = 1; cpu = 2; seconds = 1; microseconds = 2; «function_at» = 15; «function_len» = 1; kind = 0; size = 3; dropped = false; domain = 0; route = 0; offset = W.Absent; code = B.Absent; len = W.Absent; port = B.Absent; config = B.Absent; seq = B.Absent; unplug = B.Absent; dwords = n }
+
+-- the line of P6 is accepted in lenient, with its two dwords
+accepted-P6 : parseOf Lenient (bytes "a-1 [002] 1.2: f: type=t size=3 domain=0 route=0 data=[0x1, zz, 0x2]") 256 ≡ is (plainEntry 2)
+unfolding computes
+accepted-P6 = refl
+
+dwords-P6 : lineDwords (bytes "a-1 [002] 1.2: f: type=t size=3 domain=0 route=0 data=[0x1, zz, 0x2]") ≡ 1 ∷ 2 ∷ []
+unfolding computes
+dwords-P6 = refl
 
 pub record Cases : Type 0 where
   -- P1: code 38 is link recovery, 3 unknown
@@ -53,12 +69,17 @@ pub record Cases : Type 0 where
   pub P4 : pairsFrom (bytes "a=b=c") 0 ≡ placed 0 1 3 ∷ []
   -- P5: `size=1 size=2`: 2
   pub P5 : decimalOf (bytes "size=1 size=2") (bytes "size") 0xffff ≡ N.Value 2
-  -- P6: `data=[0x1, zz, 0x2]`: 1, 2
+  -- P6: `data=[0x1, zz, 0x2]`: 1, 2 in lenient; 18 in strict
   pub P6 : payloadData (bytes "data=[0x1, zz, 0x2]") ≡ some (1 ∷ 2 ∷ [])
-  -- P7: `data=[0x1,0x2]`: no dwords, accepted
-  pub P7 : parseOf (bytes "a-1 [002] 1.2: f: type=t size=3 domain=0 route=0 data=[0x1,0x2]") 256 ≡ is (record { «task_at» = 0; «task_len» = 1; pid = 1; cpu = 2; seconds = 1; microseconds = 2; «function_at» = 15; «function_len» = 1; kind = 0; size = 3; dropped = false; domain = 0; route = 0; offset = W.Absent; code = B.Absent; len = W.Absent; port = B.Absent; config = B.Absent; seq = B.Absent; unplug = B.Absent; dwords = 0 })
-  -- P8: `data=[]`: 15
-  pub P8 : parseOf (bytes "a-1 [002] 1.2: f: type=t size=3 domain=0 route=0 data=[]") 256 ≡ refused 15
+  pub P6-lenient : parseOf Lenient (bytes "a-1 [002] 1.2: f: type=t size=3 domain=0 route=0 data=[0x1, zz, 0x2]") 256 ≡ is (plainEntry 2)
+  pub P6-dwords : lineDwords (bytes "a-1 [002] 1.2: f: type=t size=3 domain=0 route=0 data=[0x1, zz, 0x2]") ≡ 1 ∷ 2 ∷ []
+  pub P6-strict : parseOf Strict (bytes "a-1 [002] 1.2: f: type=t size=3 domain=0 route=0 data=[0x1, zz, 0x2]") 256 ≡ refused 18
+  -- P7: `data=[0x1,0x2]`: no dwords, accepted in lenient; 18 in strict
+  pub P7-lenient : parseOf Lenient (bytes "a-1 [002] 1.2: f: type=t size=3 domain=0 route=0 data=[0x1,0x2]") 256 ≡ is (plainEntry 0)
+  pub P7-strict : parseOf Strict (bytes "a-1 [002] 1.2: f: type=t size=3 domain=0 route=0 data=[0x1,0x2]") 256 ≡ refused 18
+  -- P8: `data=[]`: 15 in both
+  pub P8-lenient : parseOf Lenient (bytes "a-1 [002] 1.2: f: type=t size=3 domain=0 route=0 data=[]") 256 ≡ refused 15
+  pub P8-strict : parseOf Strict (bytes "a-1 [002] 1.2: f: type=t size=3 domain=0 route=0 data=[]") 256 ≡ refused 15
   -- P9: hex 16: `ffff` read, `10000` not
   pub P9-read : hexOf 0xffff (bytes "ffff") ≡ X.Value 0xffff
   pub P9-not : hexOf 0xffff (bytes "10000") ≡ X.TooWide
@@ -89,8 +110,13 @@ cases =
       P4 = case-P4;
       P5 = case-P5;
       P6 = payload-P6;
-      P7 = accepted-P7;
-      P8 = refused-P8;
+      P6-lenient = accepted-P6;
+      P6-dwords = dwords-P6;
+      P6-strict = strict-twins .P6;
+      P7-lenient = accepted-P7;
+      P7-strict = strict-twins .P7;
+      P8-lenient = refused-P8 .lenient;
+      P8-strict = refused-P8 .strict;
       P9-read = case-P9 .widest;
       P9-not = case-P9 .too-wide;
       P10 = case-P10;

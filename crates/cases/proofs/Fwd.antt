@@ -13,6 +13,8 @@ use Rattle.entry.specs.declared.Entry.{Entry}
 use Rattle.entry.specs.declared.optional.MaybeByte.the-variants as B
 use Rattle.entry.specs.declared.optional.MaybeWord.the-variants as W
 use Rattle.entry.specs.Entry as Value
+use Rattle.scan.specs.declared.Pieces.{Pieces}
+use Rattle.scan.specs.declared.Pieces.the-variants.{Strict}
 use Rattle.scan.specs.Parse.{parseOf, lineDwords}
 use Rattle.scan.proofs.Cases as Lines
 use Rattle.record.specs.Finding as Finding
@@ -77,7 +79,7 @@ abbrev pub fwdInRecord : Entry
 fwdInRecord = record { «task_at» = 6; «task_len» = 3; pid = 7; cpu = 2; seconds = 12; microseconds = 345; «function_at» = 46; «function_len» = 5; kind = 1; size = 3; dropped = false; domain = 0; route = 0; offset = W.Absent; code = B.Absent; len = W.Absent; port = B.Absent; config = B.Absent; seq = B.Absent; unplug = B.Absent; dwords = 3 }
 
 pub record FwdRecord : Type 0 where
-  pub line : parseOf fwdLine 256 ≡ is fwdInLine
+  pub line : (pieces : Pieces) → parseOf pieces fwdLine 256 ≡ is fwdInLine
   pub line-dwords : lineDwords fwdLine ≡ fwdDwords
   pub written : writeOf fwdLine fwdInLine fwdDwords 97 ≡ is 97
   pub bytes-written : bytesOf fwdLine fwdInLine fwdDwords ≡ fwdRecord
@@ -90,8 +92,8 @@ pub fwd-record : FwdRecord
 unfolding records-open
 fwd-record =
     record {
-      line = Lines.fwd .entry;
-      line-dwords = Lines.fwd .dwords;
+      line = λ pieces. Lines.fwd pieces .entry;
+      line-dwords = Lines.fwd Strict .dwords;
       written = refl;
       bytes-written = refl;
       read = refl;

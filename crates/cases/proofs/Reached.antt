@@ -1,5 +1,6 @@
--- Every number of document 01 with an input that is given it, as one list with a single statement; 10 alone has none (`number-10-never` in
--- crates/scan/proofs/Theorems.antt). All are computed. Assumes nothing.
+-- Every number of document 01, and 18 of document 02, with an input that is given it, as one list with a single statement; 10 alone has none
+-- (`number-10-never` in crates/scan/proofs/Theorems.antt). A line's number is given by either choice, 18 by strict alone. All are computed.
+-- Assumes nothing.
 use Prim.Native.Nat.{ℕ, zero, suc}
 use mathlib.Core.Path.{_≡_, refl}
 use mathlib.Core.List.{List, [], _∷_, _++_}
@@ -7,6 +8,8 @@ use lib.ListN.{replicate}
 use Rattle.text.specs.Quote.{bytes}
 use Rattle.text.specs.Told.{refused}
 use Rattle.tlv.specs.Grammar.{fieldBytes}
+use Rattle.scan.specs.declared.Pieces.{Pieces}
+use Rattle.scan.specs.declared.Pieces.the-variants.{Strict, Lenient}
 use Rattle.scan.specs.Parse as Line
 use Rattle.scan.proofs.Cases.{computes}
 use Rattle.book.specs.Reading.{checkOf}
@@ -39,23 +42,37 @@ plainBook = fieldBytes 1 (1 ∷ [])
 abbrev typeBook : List ℕ
 typeBook = fieldBytes 1 (1 ∷ fieldBytes 3 (0 ∷ 0 ∷ packetType))
 
+-- behind 15 the choice is looked at
+many-dwords : (pieces : Pieces) → Line.parseOf pieces (head ++ (front ++ (bytes "data=[" ++ many 256))) 256 ≡ refused 16
+unfolding many computes
+many-dwords Strict = refl
+many-dwords Lenient = refl
+
+few-slots : (pieces : Pieces) → Line.parseOf pieces (head ++ (front ++ bytes "data=[1]")) 0 ≡ refused 17
+unfolding computes
+few-slots Strict = refl
+few-slots Lenient = refl
+
 pub record Reached : Type 0 where
-  pub number-1 : Line.parseOf (bytes "#") 256 ≡ refused 1
-  pub number-2 : Line.parseOf (replicate 4097 97) 256 ≡ refused 2
-  pub number-3 : Line.parseOf (128 ∷ []) 256 ≡ refused 3
-  pub number-4 : Line.parseOf (bytes "nonsense") 256 ≡ refused 4
-  pub number-5 : Line.parseOf (bytes "-1 [002] 1.2: f: ") 256 ≡ refused 5
-  pub number-6 : Line.parseOf (bytes "a-x [002] 1.2: f: ") 256 ≡ refused 6
-  pub number-7 : Line.parseOf (bytes "a-1 [02] 1.2: f: ") 256 ≡ refused 7
-  pub number-8 : Line.parseOf (bytes "a-1 [002] f: ") 256 ≡ refused 8
-  pub number-9 : Line.parseOf (bytes "a-1 [002] 1.2: f g: ") 256 ≡ refused 9
-  pub number-11 : Line.parseOf head 256 ≡ refused 11
-  pub number-12 : Line.parseOf (head ++ bytes "type=t") 256 ≡ refused 12
-  pub number-13 : Line.parseOf (head ++ bytes "type=t size=3") 256 ≡ refused 13
-  pub number-14 : Line.parseOf (head ++ bytes "type=t size=3 domain=0") 256 ≡ refused 14
-  pub number-15 : Line.parseOf (head ++ front) 256 ≡ refused 15
-  pub number-16 : Line.parseOf (head ++ (front ++ (bytes "data=[" ++ many 256))) 256 ≡ refused 16
-  pub number-17 : Line.parseOf (head ++ (front ++ bytes "data=[1]")) 0 ≡ refused 17
+  pub number-1 : (pieces : Pieces) → Line.parseOf pieces (bytes "#") 256 ≡ refused 1
+  pub number-2 : (pieces : Pieces) → Line.parseOf pieces (replicate 4097 97) 256 ≡ refused 2
+  pub number-3 : (pieces : Pieces) → Line.parseOf pieces (128 ∷ []) 256 ≡ refused 3
+  pub number-4 : (pieces : Pieces) → Line.parseOf pieces (bytes "nonsense") 256 ≡ refused 4
+  pub number-5 : (pieces : Pieces) → Line.parseOf pieces (bytes "-1 [002] 1.2: f: ") 256 ≡ refused 5
+  pub number-6 : (pieces : Pieces) → Line.parseOf pieces (bytes "a-x [002] 1.2: f: ") 256 ≡ refused 6
+  pub number-7 : (pieces : Pieces) → Line.parseOf pieces (bytes "a-1 [02] 1.2: f: ") 256 ≡ refused 7
+  pub number-8 : (pieces : Pieces) → Line.parseOf pieces (bytes "a-1 [002] f: ") 256 ≡ refused 8
+  pub number-9 : (pieces : Pieces) → Line.parseOf pieces (bytes "a-1 [002] 1.2: f g: ") 256 ≡ refused 9
+  pub number-11 : (pieces : Pieces) → Line.parseOf pieces head 256 ≡ refused 11
+  pub number-12 : (pieces : Pieces) → Line.parseOf pieces (head ++ bytes "type=t") 256 ≡ refused 12
+  pub number-13 : (pieces : Pieces) → Line.parseOf pieces (head ++ bytes "type=t size=3") 256 ≡ refused 13
+  pub number-14 : (pieces : Pieces) → Line.parseOf pieces (head ++ bytes "type=t size=3 domain=0") 256 ≡ refused 14
+  pub number-15 : (pieces : Pieces) → Line.parseOf pieces (head ++ front) 256 ≡ refused 15
+  pub number-16 : (pieces : Pieces) → Line.parseOf pieces (head ++ (front ++ (bytes "data=[" ++ many 256))) 256 ≡ refused 16
+  pub number-17 : (pieces : Pieces) → Line.parseOf pieces (head ++ (front ++ bytes "data=[1]")) 0 ≡ refused 17
+  pub number-18 : Line.parseOf Strict (head ++ (front ++ bytes "data=[z]")) 256 ≡ refused 18
+  pub number-18-before-16 : Line.parseOf Strict (head ++ (front ++ (bytes "data=[z, " ++ many 256))) 256 ≡ refused 18
+  pub number-18-before-17 : Line.parseOf Strict (head ++ (front ++ bytes "data=[1, z]")) 0 ≡ refused 18
   pub number-20 : Packet.parseOf 1 (1 ∷ []) [] 256 ≡ refused 20
   pub number-20-book : checkOf (1 ∷ []) ≡ refused 20
   pub number-21 : Packet.parseOf 0 plainBook [] 256 ≡ refused 21
@@ -79,22 +96,25 @@ pub reached : Reached
 unfolding many computes packets-open records-open Questions.refusal Questions.answer routeOf typeOf Described.typeIn
 reached =
     record {
-      number-1 = refl;
-      number-2 = refl;
-      number-3 = refl;
-      number-4 = refl;
-      number-5 = refl;
-      number-6 = refl;
-      number-7 = refl;
-      number-8 = refl;
-      number-9 = refl;
-      number-11 = refl;
-      number-12 = refl;
-      number-13 = refl;
-      number-14 = refl;
-      number-15 = refl;
-      number-16 = refl;
-      number-17 = refl;
+      number-1 = λ pieces. refl;
+      number-2 = λ pieces. refl;
+      number-3 = λ pieces. refl;
+      number-4 = λ pieces. refl;
+      number-5 = λ pieces. refl;
+      number-6 = λ pieces. refl;
+      number-7 = λ pieces. refl;
+      number-8 = λ pieces. refl;
+      number-9 = λ pieces. refl;
+      number-11 = λ pieces. refl;
+      number-12 = λ pieces. refl;
+      number-13 = λ pieces. refl;
+      number-14 = λ pieces. refl;
+      number-15 = λ pieces. refl;
+      number-16 = many-dwords;
+      number-17 = few-slots;
+      number-18 = refl;
+      number-18-before-16 = refl;
+      number-18-before-17 = refl;
       number-20 = refl;
       number-20-book = refl;
       number-21 = refl;

@@ -3,6 +3,7 @@ use Prim.Native.Nat.{ℕ}
 use mathlib.Core.Path.{_≡_, sym, ap, _∙_}
 use mathlib.Core.List.{List}
 use Rattle.entry.specs.declared.Entry.{Entry}
+use Rattle.scan.specs.declared.Pieces.{Pieces}
 use Rattle.scan.specs.declared.Answer.{Answer}
 use Rattle.scan.specs.declared.Answer.the-variants as S
 use Rattle.scan.specs.Parse.{answerTold, parseOf}
@@ -31,9 +32,9 @@ module _ (request note : Note) {a b : Moment} {g : Gap} (p : a ≡ momentOf requ
   row-before e = sym (ap (rowByGap (request .line)) (gap-is ∙ e))
 
 -- a line's turn
-module _ (u : List ℕ) {k : ℕ} (size : k ≡ 256) {d : Desk} {r : TurnModule.Turn} where
-  pub turned-entry : {a : Answer} {e : Entry} → answerTold a ≡ parseOf u k → a ≡ S.Entry e → Entered e d r → Turned u d r
+module _ (pieces : Pieces) (u : List ℕ) {k : ℕ} (size : k ≡ 256) {d : Desk} {r : TurnModule.Turn} where
+  pub turned-entry : {a : Answer} {e : Entry} → answerTold a ≡ parseOf pieces u k → a ≡ S.Entry e → Entered e d r → Turned pieces u d r
   turned-entry {e = e} read q x = entry {e = e} (rw (← size, ← read, q)) x
 
-  pub turned-refusal : {a : Answer} {n : ℕ} → answerTold a ≡ parseOf u k → a ≡ S.Refused n → Refusing n d r → Turned u d r
+  pub turned-refusal : {a : Answer} {n : ℕ} → answerTold a ≡ parseOf pieces u k → a ≡ S.Refused n → Refusing n d r → Turned pieces u d r
   turned-refusal {n = n} read q x = refusal {k = n} (rw (← size, ← read, q)) x

@@ -5,6 +5,7 @@ use mathlib.Core.Path.{_≡_}
 use mathlib.Core.List.{List}
 use Rattle.text.specs.Told.{is, refused}
 use Rattle.entry.specs.declared.Entry.{Entry}
+use Rattle.scan.specs.declared.Pieces.{Pieces}
 use Rattle.scan.specs.Parse.{parseOf}
 use Rattle.slots.specs.declared.decide.Report.{Report}
 use Rattle.pending.specs.Step.{Step}
@@ -28,7 +29,7 @@ pub record Refusing (k : ℕ) (d : Desk) (r : TurnModule.Turn) : Type 0 where
   pub counts : r .desk .counts ≡ lineMore (d .counts)
   pub row : r .row ≡ R.Refused k
 
--- a line
-pub data Turned (u : List ℕ) (d : Desk) (r : TurnModule.Turn) : Type 0 where
-  entry : {e : Entry} → parseOf u 256 ≡ is e → Entered e d r → Turned u d r
-  refusal : {k : ℕ} → parseOf u 256 ≡ refused k → Refusing k d r → Turned u d r
+-- a line, read by the choice
+pub data Turned (pieces : Pieces) (u : List ℕ) (d : Desk) (r : TurnModule.Turn) : Type 0 where
+  entry : {e : Entry} → parseOf pieces u 256 ≡ is e → Entered e d r → Turned pieces u d r
+  refusal : {k : ℕ} → parseOf pieces u 256 ≡ refused k → Refusing k d r → Turned pieces u d r

@@ -2,7 +2,7 @@
 // number of lines.
 //
 //     begin       nothing was read
-//     step_line   one more line: what is kept then, and what its row says
+//     step_line   one more line, read by a choice: what is kept then, and what its row says
 //     note_at     the note beside a slot
 mod reports;
 
@@ -12,6 +12,7 @@ use crate::reports::row_of;
 use channel::sink::sum;
 use entry::Entry;
 use scan::Answer;
+use scan::Pieces;
 use scan::parse;
 use table::Table;
 use table::empty;
@@ -64,11 +65,11 @@ pub fn begin() -> Desk
     }
 }
 
-pub fn step_line(line: &[u8], desk: Desk) -> Turn
-    ensures { λ r. ⌜ Turned (now (line .entry)) desk r ⌝ }
+pub fn step_line(line: &[u8], pieces: Pieces, desk: Desk) -> Turn
+    ensures { λ r. ⌜ Turned pieces (now (line .entry)) desk r ⌝ }
 {
     let mut slots = [0u32; 256];
-    match parse(line, &mut slots) {
+    match parse(line, pieces, &mut slots) {
         Answer::Entry(e) => step_entry(e, desk),
         Answer::Refused(number) => refuse(number, desk),
     }

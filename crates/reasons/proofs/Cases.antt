@@ -46,6 +46,9 @@ pub record Cases : Type 0 where
   -- a piece behind the last, and pieces where `data` is not in brackets, are absent
   pub behind-last : pieceAnswer (bytes ":data=[1]") 1 ≡ absent
   pub no-brackets : pieceAnswer (bytes ":data=1") 0 ≡ absent
+  -- 18 does not say which piece is bad, these do: the second of P6, and the one piece of P7
+  pub piece-of-P6 : pieceAnswer (bytes ":data=[0x1, zz, 0x2]") 1 ≡ says 12 14 (BadDigit 0)
+  pub piece-of-P7 : pieceAnswer (bytes ":data=[0x1,0x2]") 0 ≡ says 7 14 (BadDigit 3)
   -- a text that starts with A1 is no line
   pub a-record : keyAnswer (0xa1 ∷ bytes ":route=0") Route ≡ refused 3
 
@@ -71,5 +74,7 @@ cases =
       last-pair = refl;
       behind-last = refl;
       no-brackets = refl;
+      piece-of-P6 = refl;
+      piece-of-P7 = refl;
       a-record = refl;
     }

@@ -16,7 +16,7 @@ use Rattle.reasons.specs.Meaning.{KeyAt, PieceAt, Tells, WhyUnreadable}
 use Rattle.reasons.proofs.Spots.{key-answers}
 use Rattle.reasons.proofs.Pieces.{piece-answers}
 use Rattle.reasons.proofs.Told.{told-exactly}
-use Rattle.reasons.proofs.Entries.{number-exactly, none-exactly, no-route, in-order}
+use Rattle.reasons.proofs.Entries.{number-exactly, none-exactly, no-route, in-order, bad-exactly}
 
 pub key-exactly : (t : List ℕ) (key : Key) (told : Told HexText) → (keyAnswer t key ≡ told) ↔ Tells (KeyAt key) (limitOf key) t told
 unfolding keyAnswer
@@ -53,4 +53,5 @@ why-unreadable =
       no-route = no-route;
       one-answer = one-answer;
       in-order = in-order;
+      bad-exactly = bad-exactly;
     }

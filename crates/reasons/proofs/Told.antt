@@ -2,9 +2,12 @@
 -- the line, and what is told of the payload is what is there. One argument for keys and pieces. Assumes nothing.
 use Prim.Native.Nat.{ℕ, zero, suc, _+_, _-_, _≤_, _<_}
 use mathlib.Core.Path.{_≡_, refl, sym, ap, _∙_}
+use mathlib.Core.Bool.{Bool, true, false, cond}
 use mathlib.Core.List.{List, [], _∷_, _++_}
 use mathlib.Core.Logic.{_↔_}
 use native.Mathlib.Omega.{arith}
+use borrow.Author.Tests.{ne-eqb, lt-ltb}
+use lib.Dec.{ltb, eqb}
 use lib.ListN.{length, take, drop, length-take, length-drop}
 use lib.Seq.{drop-drop, drop-append-add}
 use Rattle.text.specs.Told.{Told, is, absent, refused, andThen}
@@ -14,8 +17,9 @@ use Rattle.text.specs.declared.place.Found.the-variants as P
 use Rattle.text.specs.Place.{lastByte}
 use Rattle.text.proofs.Stripping.{front-size}
 use Rattle.pairs.specs.Pair.{part}
+use Rattle.scan.specs.declared.Pieces.the-variants.{Strict}
 use Rattle.scan.specs.Frame.{Split, frameOf}
-use Rattle.scan.specs.Line.{Condition, Applies}
+use Rattle.scan.specs.Line.{Condition, orderOf, Applies}
 use Rattle.scan.specs.Parse.{payloadOf, headerOf, parseOf}
 use Rattle.scan.proofs.Frames.{frame-passed, frame-colon-within}
 use Rattle.scan.proofs.Splits.{split-is, split-colon, one-payload}
@@ -65,6 +69,23 @@ module _ (t : List ℕ) {colon : ℕ} (f : frameOf t ≡ is colon) where
       place-same : {m n : ℕ} → P.At m ≡ P.At n → m ≡ n
       place-same e = cc
 
+-- ---- the numbers in their order
+
+-- up to 15 the checks run in number order
+pub own-place : (k : ℕ) → k ≤ 15 → orderOf k ≡ k
+unfolding orderOf
+own-place k h = rw (ne-eqb k 18 (λ e. absurd (omega arith)), lt-ltb k 16 (omega arith))
+
+-- and only those come before 18
+pub few-before : (k : ℕ) → orderOf k < 16 → k ≤ 15
+unfolding orderOf
+few-before k = go (eqb k 18) (ltb k 16)
+  where
+    go : (a b : Bool) → cond a 16 (cond b k (k + 1)) < 16 → k ≤ 15
+    go true b h = absurd (omega arith)
+    go false true h = omega arith
+    go false false h = omega arith
+
 -- ---- what is told of a line
 
 module _ (At : Spot) (limit : ℕ) (tell : List ℕ → ℕ → Told HexText) (answers : Answers At limit tell) (t : List ℕ) where
@@ -81,10 +102,10 @@ module _ (At : Spot) (limit : ℕ) (tell : List ℕ → ℕ → Told HexText) (a
   refuses f = rw f
 
   asked : {colon : ℕ} → frameOf t ≡ is colon → Asked t
-  asked f k h c = frame-clear t 0 f k (omega arith) c
+  asked f k h c = frame-clear Strict t 0 f k (omega (arith, own-place k (omega arith))) c
 
   not-refused : {k : ℕ} → k ≤ 4 → frameOf t ≡ refused k → Asked t → ⊥
-  not-refused h f a = a _ h (frame-applies t 0 f .holds)
+  not-refused h f a = a _ h (frame-applies Strict t 0 f .holds)
 
   module _ {colon : ℕ} (f : frameOf t ≡ is colon) where
     -- what sits in the payload, the line says
@@ -139,12 +160,12 @@ module _ (At : Spot) (limit : ℕ) (tell : List ℕ → ℕ → Told HexText) (a
     where
       go : (x : Told ℕ) → frameOf t ≡ x → Framed x → Tells At limit t told
       go x f (Framed.colon k) = payload-tells f told (sym (asks f) ∙ q)
-      go x f (Framed.number k h) = rw (← q, refuses f) (h, frame-applies t 0 f)
+      go x f (Framed.number k h) = rw (← q, refuses f) (h, frame-applies Strict t 0 f)
 
   pub means-told : (told : Told HexText) → Tells At limit t told → toldOf ≡ told
   means-told told m = go told m (frameOf t) refl (framed t)
     where
-      one-number : {j k : ℕ} → parseOf t 0 ≡ refused j → parseOf t 0 ≡ refused k → j ≡ k
+      one-number : {j k : ℕ} → parseOf Strict t 0 ≡ refused j → parseOf Strict t 0 ≡ refused k → j ≡ k
       one-number a b = cc
 
       go : (told : Told HexText) → Tells At limit t told → (x : Told ℕ) → frameOf t ≡ x → Framed x → toldOf ≡ told
@@ -154,7 +175,7 @@ module _ (At : Spot) (limit : ℕ) (tell : List ℕ → ℕ → Told HexText) (a
       go absent m x f (Framed.number k h) = absurd (not-refused h f (m .0))
       go (refused j) m x f (Framed.colon k) = absurd (asked f j (m .0) (m .1 .holds))
       go (refused j) m x f (Framed.number k h) =
-          refuses f ∙ ap refused (one-number (line-number-exactly t 0 k .1 (frame-applies t 0 f)) (line-number-exactly t 0 j .1 (m .1)))
+          refuses f ∙ ap refused (one-number (line-number-exactly Strict t 0 k .1 (frame-applies Strict t 0 f)) (line-number-exactly Strict t 0 j .1 (m .1)))
 
   pub told-exactly : (told : Told HexText) → (toldOf ≡ told) ↔ Tells At limit t told
   told-exactly told = (told-means told, means-told told)

@@ -13,6 +13,8 @@ use Rattle.text.specs.declared.number.Reading.the-variants as R
 use Rattle.entry.specs.Entry.{EntryValue}
 use Rattle.pairs.specs.Pair.{part, LastPair}
 use Rattle.pairs.specs.Data.{Data, PieceIn}
+use Rattle.scan.specs.declared.Pieces.{Pieces}
+use Rattle.scan.specs.declared.Pieces.the-variants.{Strict}
 use Rattle.scan.specs.Frame.{Split}
 use Rattle.scan.specs.Line.{Line, Condition, Applies}
 use Rattle.reasons.specs.declared.Key.{Key}
@@ -65,15 +67,16 @@ pub record Says (At : Spot) (limit : ℕ) (t : List ℕ) (said : HexText) : Type
 abbrev pub NoText : Spot → List ℕ → Type 0
 NoText At t = (header payload text : List ℕ) (a b : ℕ) → Split t header payload → At payload text a b → ⊥
 
--- none of the numbers 1 to 4 applies, so there is a payload to ask; they do not ask for slots, so 0 stands for any number of them
+-- none of the numbers 1 to 4 applies, so there is a payload to ask; they ask neither for slots nor for the choice, so 0 stands for any number of
+-- slots and `Strict` for either choice
 abbrev pub Asked : List ℕ → Type 0
-Asked t = (k : ℕ) → k ≤ 4 → Condition t 0 k → ⊥
+Asked t = (k : ℕ) → k ≤ 4 → Condition Strict t 0 k → ⊥
 
 -- what is told of a line, and what it means
 abbrev pub Tells : Spot → ℕ → List ℕ → Told HexText → Type 0
 Tells At limit t (is said) = Asked t × Says At limit t said
 Tells At limit t absent = Asked t × NoText At t
-Tells At limit t (refused k) = (k ≤ 4) × Applies t 0 k
+Tells At limit t (refused k) = (k ≤ 4) × Applies Strict t 0 k
 
 -- ---- beside the entry
 
@@ -121,6 +124,13 @@ pub record InOrder (t ds : List ℕ) : Type 0 where
   pub behind : (i : ℕ) → count ≤ i → pieceAnswer t i ≡ absent
   pub are : ds ≡ pieceNumbers t count 0
 
+-- one of the line's pieces, by its number from 0, is told of and says no number
+pub record PieceWithout (t : List ℕ) : Type 0 where
+  pub which : ℕ
+  pub said : HexText
+  pub told : pieceAnswer t which ≡ is said
+  pub no-number : NoNumber (is said)
+
 -- ---- the promise, in one place
 
 -- `Answer` is what the calls `ask_key` and `ask_piece` hand out; their contracts are `answerTold r ≡ keyAnswer t key` and `≡ pieceAnswer t i`
@@ -132,13 +142,15 @@ pub record WhyUnreadable : Type 0 where
   pub key-exactly : (t : List ℕ) (key : Key) (told : Told HexText) → (keyAnswer t key ≡ told) ↔ Tells (KeyAt key) (limitOf key) t told
   -- likewise for every line and number of a piece
   pub piece-exactly : (t : List ℕ) (i : ℕ) (told : Told HexText) → (pieceAnswer t i ≡ told) ↔ Tells (PieceAt i) (2 ^ 32 - 1) t told
-  -- of an accepted line a key says a number exactly when the entry's field is that number
-  pub number-exactly : (t : List ℕ) {v : EntryValue} → Line t v → (key : Key) (n : ℕ) → SaysNumber (keyAnswer t key) n ↔ (fieldOf key v ≡ some n)
+  -- of a line that either choice accepts a key says a number exactly when the entry's field is that number
+  pub number-exactly : (pieces : Pieces) (t : List ℕ) {v : EntryValue} → Line pieces t v → (key : Key) (n : ℕ) → SaysNumber (keyAnswer t key) n ↔ (fieldOf key v ≡ some n)
   -- and it is absent or gives a reason exactly when the field is none
-  pub none-exactly : (t : List ℕ) {v : EntryValue} → Line t v → (key : Key) → NoNumber (keyAnswer t key) ↔ (fieldOf key v ≡ none)
+  pub none-exactly : (pieces : Pieces) (t : List ℕ) {v : EntryValue} → Line pieces t v → (key : Key) → NoNumber (keyAnswer t key) ↔ (fieldOf key v ≡ none)
   -- of a line refused with 14 the route is absent or gives a reason
-  pub no-route : (t : List ℕ) (room : ℕ) → Applies t room 14 → NoNumber (keyAnswer t K.Route)
+  pub no-route : (pieces : Pieces) (t : List ℕ) (room : ℕ) → Applies pieces t room 14 → NoNumber (keyAnswer t K.Route)
   -- no second answer meets either contract
   pub one-answer : (a b : Answer) → answerTold a ≡ answerTold b → a ≡ b
   -- the dwords of an accepted line are the numbers that its pieces say, in order
-  pub in-order : (t : List ℕ) {v : EntryValue} → Line t v → InOrder t (v .dwords)
+  pub in-order : (pieces : Pieces) (t : List ℕ) {v : EntryValue} → Line pieces t v → InOrder t (v .dwords)
+  -- strict says 18 of a line exactly when none of 1 to 15 applies and one of its pieces says no number
+  pub bad-exactly : (t : List ℕ) (room : ℕ) → Applies Strict t room 18 ↔ (((k : ℕ) → k ≤ 15 → Condition Strict t room k → ⊥) × PieceWithout t)

@@ -24,10 +24,10 @@ refuse-requires : tie.Need-refuse-requires
 refuse-requires c κs = search needs
 
 returns : tie.Need-returns
-returns c = turned-entry _ {k = 256} refl (c .before .before .before .before .before .parse .ensures .answer) (c .before .before .e .given .1) (c .step-entry .ensures)
+returns c = turned-entry _ _ {k = 256} refl (c .before .before .before .before .before .parse .ensures .answer) (c .before .before .e .given .1) (c .step-entry .ensures)
 
 returns-2 : tie.Need-returns-2
-returns-2 c = turned-refusal _ {k = 256} refl (c .before .before .before .before .before .parse .ensures .answer) (c .before .before .number .given .1) (c .refuse .ensures)
+returns-2 c = turned-refusal _ _ {k = 256} refl (c .before .before .before .before .before .parse .ensures .answer) (c .before .before .number .given .1) (c .refuse .ensures)
 
 pub step-line-spec : {M : Type 1} → statement M
 step-line-spec =

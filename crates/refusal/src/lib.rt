@@ -33,6 +33,8 @@ pub const MANY_DWORDS: u8 = 16;
 
 pub const FEW_SLOTS: u8 = 17;
 
+pub const BAD_PIECE: u8 = 18;
+
 pub const BAD_BOOK: u8 = 20;
 
 pub const NO_KIND: u8 = 21;

@@ -125,9 +125,9 @@ typedef struct ck_event_text {
 
 /* ---- texts
  *
- * The pieces of a line's `data` are parted at each comma and blank; one that is no hex number of 32 bits is bad. The calls are strict: they refuse
- * a line with a bad piece. Those whose names end in `_lenient` leave bad pieces out, so that the dwords behind one move up, and never tell 18. All
- * else is the same in both, and records, which have no pieces, are read alike. */
+ * The pieces of a line's `data` stand between comma-spaces; one that is no hex number of 32 bits is bad. The calls are strict: a line with a bad
+ * piece is refused with 18. Those whose names end in `_lenient` leave bad pieces out, so that the dwords behind one move up. All else is the same in
+ * both, and records, which have no pieces, are read alike. */
 
 /* The entry of a line of trace, its newline lent or not. Numbers 1 to 18. */
 ck_entry_answer ck_parse(const uint8_t *line, size_t length, uint32_t *slots, size_t count);
@@ -455,10 +455,10 @@ ck_place_answer ck_pending_oldest(const ck_slot *slots, size_t count, uint32_t k
 
 /* ---- why a hex number was unreadable
  *
- * An entry says CK_NONE for an offset that is absent and for one that is no number, 14 refuses a line for either route, and a piece of `data`
- * that is no dword is left out. These calls tell them apart, on every line that has a payload, accepted or not. A line without a payload answers
- * its number, 1 to 4. A text is empty if it is nothing or a bare `0x`. Its first bad digit goes before its width, however late it stands, and
- * its place counts from the text's own start, a leading `0x` counted. Zeros in front are never too wide. */
+ * An entry says CK_NONE for an offset that is absent and for one that is no number, 14 refuses a line for either route, and 18 does not say which
+ * piece of `data` is bad. These calls tell it, on every line that has a payload, accepted or not. A line without a payload answers its number,
+ * 1 to 4. A text is empty if it is nothing or a bare `0x`. Its first bad digit goes before its width, however late it stands, and its place
+ * counts from the text's own start, a leading `0x` counted. Zeros in front are never too wide. */
 
 /* The keys of a line that are read as hex. */
 enum {

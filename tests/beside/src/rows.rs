@@ -7,9 +7,9 @@ use crate::tally::Said;
 use chomkadieu::Book;
 use std::io::{self, BufRead, Error, Write};
 
-/// Each line behind its length and the number of slots lent, four bytes each.
+/// Each line behind its length and the number of slots lent, four bytes each. The reading is lenient, as the frozen rows are.
 pub fn lines(from: impl BufRead, mut to: impl Write) -> io::Result<()> {
-    let (mut frames, mut ours) = (Frames::new(from), Lines::new());
+    let (mut frames, mut ours) = (Frames::new(from), Lines::lenient());
     while !frames.is_done()? {
         let (length, slots) = (frames.number()?, frames.number()?);
         let said = ours.answer(frames.bytes(length)?, slots);

@@ -90,9 +90,6 @@ WRAP(size_t, ck_packet_all, codes[0] ^= 1,
           const uint32_t *dwords, size_t count, uint32_t *places, size_t places_len, uint32_t *codes, size_t codes_len),
      LIST(book, book_len, kinds, kinds_len, counts, counts_len, dwords, count, places, places_len, codes, codes_len))
 
-WRAP(ck_entry_answer, ck_read_lenient, a.entry.seq ^= 1, LIST(const uint8_t *text, size_t len, uint32_t *slots, size_t count),
-     LIST(text, len, slots, count))
-
 /* The strict calls, and what they would be if they let a bad piece through. */
 ck_what_answer __real_ck_what(const uint8_t *, size_t);
 ck_what_answer __wrap_ck_what(const uint8_t *, size_t);
@@ -112,11 +109,39 @@ ck_text_packet __wrap_ck_read_packet(TEXT, uint32_t *places, size_t places_len) 
     return a;
 }
 
+ck_entry_answer __real_ck_parse(const uint8_t *, size_t, uint32_t *, size_t);
 ck_entry_answer __real_ck_read(const uint8_t *, size_t, uint32_t *, size_t);
+
+/* A lenient reader that refuses a bad piece, alone or with the other one. */
+#define LENIENT(call, strict, fault)                                                                                                                 \
+    ck_entry_answer __real_##call(const uint8_t *, size_t, uint32_t *, size_t);                                                                      \
+    ck_entry_answer __wrap_##call(const uint8_t *, size_t, uint32_t *, size_t);                                                                      \
+    ck_entry_answer __wrap_##call(const uint8_t *text, size_t len, uint32_t *slots, size_t count) {                                                  \
+        int refuses = is("a bad piece refused by lenient") && strict(text, len, slots, 0).number == CK_BAD_PIECE;                                    \
+        ck_entry_answer a = refuses ? strict(text, len, slots, count) : __real_##call(text, len, slots, count);                                      \
+        if (is(#call)) fault;                                                                                                                        \
+        return a;                                                                                                                                    \
+    }
+LENIENT(ck_parse_lenient, __real_ck_parse, a.entry.route ^= 1)
+LENIENT(ck_read_lenient, __real_ck_read, a.entry.seq ^= 1)
+
+/* The strict readers, both wrong alike about a bad piece, so that a plain reading must tell. */
+static void put_18(ck_entry_answer *a, const uint8_t *text, size_t len, uint32_t *slots, size_t count) {
+    static uint32_t scratch[512];
+    if (is("18 for 15") && a->number == CK_NO_DATA) a->number = CK_BAD_PIECE;
+    if (a->number != CK_BAD_PIECE) return;
+    uint8_t lenient = __real_ck_read_lenient(text, len, scratch, count).number;
+    if (is("16 before 18") && lenient == CK_MANY_DWORDS) a->number = lenient;
+    if (is("17 before 18") && lenient == CK_FEW_SLOTS) a->number = lenient;
+    if (is("a slot after a bad piece") && count) slots[0] ^= 1;
+    if (is("a bad piece let through")) *a = __real_ck_read_lenient(text, len, slots, count);
+}
+
 ck_entry_answer __wrap_ck_read(const uint8_t *, size_t, uint32_t *, size_t);
 ck_entry_answer __wrap_ck_read(const uint8_t *text, size_t len, uint32_t *slots, size_t count) {
     ck_entry_answer a = __real_ck_read(text, len, slots, count);
     if (is("ck_read")) a.entry.seq ^= 1;
+    put_18(&a, text, len, slots, count);
     if (is("a bad piece at the intake") && a.number == CK_BAD_PIECE) a = __real_ck_read_lenient(text, len, slots, count);
     if (is("a dword at the intake") && a.entry.dwords) slots[0] ^= 1;
     return a;
@@ -170,33 +195,12 @@ ck_write_answer __wrap_ck_record_write(const uint8_t *text, size_t len, ck_entry
     return a;
 }
 
-ck_entry_answer __real_ck_parse(const uint8_t *, size_t, uint32_t *, size_t);
-ck_entry_answer __real_ck_parse_lenient(const uint8_t *, size_t, uint32_t *, size_t);
-ck_entry_answer __wrap_ck_parse_lenient(const uint8_t *, size_t, uint32_t *, size_t);
-ck_entry_answer __wrap_ck_parse_lenient(const uint8_t *line, size_t len, uint32_t *slots, size_t count) {
-    int refuses = is("a bad piece refused by lenient") && __real_ck_parse(line, len, slots, 0).number == CK_BAD_PIECE;
-    ck_entry_answer a = refuses ? __real_ck_parse(line, len, slots, count) : __real_ck_parse_lenient(line, len, slots, count);
-    if (is("ck_parse_lenient")) a.entry.route ^= 1;
-    return a;
-}
-
-/* A line that was refused with 18, with 18 at another place among the numbers. */
-static void move_18(ck_entry_answer *a, const uint8_t *line, size_t len, size_t count) {
-    static uint32_t scratch[512];
-    uint8_t lenient = __real_ck_parse_lenient(line, len, scratch, count).number;
-    if (is("16 before 18") && lenient == CK_MANY_DWORDS) a->number = lenient;
-    if (is("17 before 18") && lenient == CK_FEW_SLOTS) a->number = lenient;
-}
-
 ck_entry_answer __wrap_ck_parse(const uint8_t *, size_t, uint32_t *, size_t);
 ck_entry_answer __wrap_ck_parse(const uint8_t *line, size_t len, uint32_t *slots, size_t count) {
     ck_entry_answer a = __real_ck_parse(line, len + is("line longer than lent"), slots, count + is("slots more than lent"));
     int guarded = second();
     if (is("ck_parse")) a.entry.route ^= 1;
-    if (is("a bad piece let through") && a.number == CK_BAD_PIECE) a = __real_ck_parse_lenient(line, len, slots, count);
-    if (is("a slot after a bad piece") && a.number == CK_BAD_PIECE && count) slots[0] ^= 1;
-    if (is("18 for 15") && a.number == CK_NO_DATA) a.number = CK_BAD_PIECE;
-    if (a.number == CK_BAD_PIECE) move_18(&a, line, len, count);
+    put_18(&a, line, len, slots, count);
     if (is("a number that no line has") && a.number) a.number = CK_NO_EQUALS;
     if (is("an entry with a refusal") && a.number) a.entry.kind = 1;
     if (is("a task outside the line") && !a.number) a.entry.task_at = len;

@@ -21,7 +21,8 @@
 extern "C" {
 #endif
 
-/* A number of 0 is success. All others say why there is no answer, and then all that was lent is as it was found. */
+/* A number of 0 is success. All others say why there is no answer, and then all that was lent is as it was found. Of several the first is told;
+ * 18 comes after 15 and before 16. */
 enum {
     CK_OK = 0,
     CK_IDLE = 1,              /* the line is empty, a newline alone, or a comment */
@@ -41,6 +42,7 @@ enum {
     CK_NO_DATA = 15,          /* `data` is missing or not in brackets */
     CK_MANY_DWORDS = 16,      /* the line has more than 256 dwords */
     CK_FEW_SLOTS = 17,        /* fewer slots are lent than the line has dwords */
+    CK_BAD_PIECE = 18,        /* a piece of `data` is no hex number of 32 bits */
     CK_BAD_BOOK = 20,         /* the book breaks its grammar */
     CK_NO_KIND = 21,          /* the packet is of no known kind */
     CK_NO_TABLE = 22,         /* the book has no control table for the kind */
@@ -121,18 +123,34 @@ typedef struct ck_event_text {
     size_t len;            /* how many bytes of it are the name */
 } ck_event_text;
 
-/* The entry of a line of trace, its newline lent or not. Numbers 1 to 17. */
+/* ---- texts
+ *
+ * The pieces of a line's `data` stand between comma-spaces; one that is no hex number of 32 bits is bad. The calls are strict: a line with a bad
+ * piece is refused with 18. Those whose names end in `_lenient` leave bad pieces out, so that the dwords behind one move up. All else is the same in
+ * both, and records, which have no pieces, are read alike. */
+
+/* The entry of a line of trace, its newline lent or not. Numbers 1 to 18. */
 ck_entry_answer ck_parse(const uint8_t *line, size_t length, uint32_t *slots, size_t count);
+
+/* The same, but a bad piece is left out. Numbers 1 to 17. */
+ck_entry_answer ck_parse_lenient(const uint8_t *line, size_t length, uint32_t *slots, size_t count);
 
 /* The entry of a record. Numbers 30 to 35. */
 ck_entry_answer ck_record_read(const uint8_t *text, size_t length, uint32_t *slots, size_t count);
 
-/* The entry of a text that is taken as a record if its first byte is A1, else as a line. Numbers 1 to 17, 30 to 35. */
+/* The entry of a text that is taken as a record if its first byte is A1, else as a line. Numbers 1 to 18, 30 to 35. */
 ck_entry_answer ck_read(const uint8_t *text, size_t length, uint32_t *slots, size_t count);
 
+/* The same, but a bad piece of a line is left out. Numbers 1 to 17, 30 to 35. */
+ck_entry_answer ck_read_lenient(const uint8_t *text, size_t length, uint32_t *slots, size_t count);
+
 /* What a text is: CK_IS_RECORD exactly when it belongs to the record grammar, being decoded already; CK_IS_LINE exactly when it belongs to
- * the line grammar; else CK_IS_NEITHER with the number that ck_read gives with CK_MOST_DWORDS slots. Numbers 1 to 16, 30 to 34. */
+ * the line grammar, with no bad piece; else CK_IS_NEITHER with the number that ck_read gives with CK_MOST_DWORDS slots. Numbers 1 to 16, 18, 30 to
+ * 34. */
 ck_what_answer ck_what(const uint8_t *text, size_t length);
+
+/* The same, but a line may have bad pieces, and the number is that of ck_read_lenient. Numbers 1 to 16, 30 to 34. */
+ck_what_answer ck_what_lenient(const uint8_t *text, size_t length);
 
 /* The record of an entry whose task and function lie in the text and whose dwords are the first of those lent, into the first bytes of the
  * buffer; no others change. Numbers 36, 37. */
@@ -173,13 +191,17 @@ ck_packet_answer ck_checked_packet(uint8_t kind, const uint8_t *book, size_t boo
 typedef struct ck_text_packet {
     uint8_t kind;              /* the packet's kind, 0 if it is refused */
     size_t dwords;             /* how many dwords it has, 0 if it is refused */
-    ck_packet_answer packet;   /* its number is the text's (1 to 17, 30 to 35) or the packet's (20 to 26) */
+    ck_packet_answer packet;   /* its number is the text's (1 to 18, 30 to 35) or the packet's (20 to 26) */
 } ck_text_packet;
 
 /* The packet of a text that is a record if it starts with A1, else a line: its dwords into the first slots, the place of each one's entry into
  * the first places. A refusal of the packet leaves the slots as found too. A line and its record give the same. */
 ck_text_packet ck_read_packet(const uint8_t *text, size_t text_len, const uint8_t *book, size_t book_len, uint32_t *slots, size_t slots_len,
                               uint32_t *places, size_t places_len);
+
+/* The same, but a bad piece of a line is left out: the line never gives 18. */
+ck_text_packet ck_read_packet_lenient(const uint8_t *text, size_t text_len, const uint8_t *book, size_t book_len, uint32_t *slots, size_t slots_len,
+                                      uint32_t *places, size_t places_len);
 
 /* Many packets over one book, which is checked once. Packet k has kind kinds[k] and the next counts[k] dwords, as far as they go; its places
  * stand where its dwords do. codes[k] becomes where its data view starts; 65,536 if it has none; 65,536 plus the number if it is refused, and
@@ -433,10 +455,10 @@ ck_place_answer ck_pending_oldest(const ck_slot *slots, size_t count, uint32_t k
 
 /* ---- why a hex number was unreadable
  *
- * An entry says CK_NONE for an offset that is absent and for one that is no number, 14 refuses a line for either route, and a piece of `data`
- * that is no dword is left out. These calls tell them apart, on every line that has a payload, accepted or not. A line without a payload answers
- * its number, 1 to 4. A text is empty if it is nothing or a bare `0x`. Its first bad digit goes before its width, however late it stands, and
- * its place counts from the text's own start, a leading `0x` counted. Zeros in front are never too wide. */
+ * An entry says CK_NONE for an offset that is absent and for one that is no number, 14 refuses a line for either route, and 18 does not say which
+ * piece of `data` is bad. These calls tell it, on every line that has a payload, accepted or not. A line without a payload answers its number,
+ * 1 to 4. A text is empty if it is nothing or a bare `0x`. Its first bad digit goes before its width, however late it stands, and its place
+ * counts from the text's own start, a leading `0x` counted. Zeros in front are never too wide. */
 
 /* The keys of a line that are read as hex. */
 enum {

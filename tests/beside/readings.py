@@ -1,14 +1,13 @@
 """Our rows, through the linked archive, against the reading in Python: every field, and every number that document 01 has for it."""
 
 import re
-import struct
 import subprocess
 import tempfile
 from itertools import chain
 
 from generate import books, broken, lines as generator, packets as packet_generator
 from judge import differ
-from judge.lines import dwords as told_dwords
+from judge.lines import both, dwords as told_dwords
 from judge.tally import Tally, in_parts
 from parts import PROGRAM
 from reading import line as reading, packet as packet_reading
@@ -49,16 +48,20 @@ def slots(number, said):
 
 
 def lines(seed, count, short):
+    """Each line lenient, then strict."""
     tally = Tally()
     for some in in_parts(generator.generate(seed, count, short), AT_ONCE):
-        given = []
-        for number, (name, line) in enumerate(some):
-            expected = reading.answer(line)
-            lent = slots(number, expected)
-            given.append((name, line, lent, expected if lent == 256 else reading.answer(line, lent)))
-        frames = (struct.pack("<II", len(line), lent) + line for _, line, lent, _ in given)
-        for (name, line, _, expected), ours in zip(given, rows("lines", frames, len(given))):
-            note(tally, name, line, expected, ours)
+        given = [(name, line, slots(number, reading.answer(line))) for number, (name, line) in enumerate(some)]
+        asked = [(line, lent, strict) for _, line, lent in given for strict in (False, True)]
+        said = rows("lines", (differ.line_frame(*each) for each in asked), len(asked))
+        expected = [reading.answer(line, lent, strict=strict) for line, lent, strict in asked]
+        for turn, (name, line, _) in enumerate(given):
+            ours, reads = said[2 * turn:2 * turn + 2], expected[2 * turn:2 * turn + 2]
+            if ours == reads:
+                tally.all_same(name, both(*ours))
+            else:
+                tally.differ(name, line, reads, ours)
+    tally.must_meet("strict refused 18")
     return tally
 
 

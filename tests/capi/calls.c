@@ -69,7 +69,8 @@ static void refused_lines(void) {
         {"a-1 [02] 1.2: f: ", SLOTS, CK_NO_CPU}, {"a-1 [002] f: ", SLOTS, CK_NO_TIMESTAMP}, {"a-1 [002] 1.2: f g: ", SLOTS, CK_NO_FUNCTION},
         {"a-1 [002] 1.2: f: size=3", SLOTS, CK_NO_TYPE}, {"a-1 [002] 1.2: f: type=t", SLOTS, CK_NO_SIZE},
         {"a-1 [002] 1.2: f: type=t size=3", SLOTS, CK_NO_DOMAIN}, {"a-1 [002] 1.2: f: type=t size=3 domain=0", SLOTS, CK_NO_ROUTE},
-        {"a-1 [002] 1.2: f: type=t size=3 domain=0 route=0 data=[]", SLOTS, CK_NO_DATA}, {FWD, 2, CK_FEW_SLOTS}};
+        {"a-1 [002] 1.2: f: type=t size=3 domain=0 route=0 data=[]", SLOTS, CK_NO_DATA}, {FWD, 2, CK_FEW_SLOTS},
+        {"a-1 [002] 1.2: f: type=t size=3 domain=0 route=0 data=[0x04zz]", SLOTS, CK_BAD_PIECE}};
     for (size_t i = 0; i < sizeof cases / sizeof *cases; i++) {
         uint32_t *slots = fresh_slots();
         ck_entry_answer a = ck_parse(bytes(cases[i].text), strlen(cases[i].text), slots, cases[i].slots);
@@ -431,6 +432,7 @@ int main(int count, char **words) {
     texts();
     crossing();
     every_field(book, book_len);
+    every_piece(book, book_len);
     every_request();
     every_reason();
     printf("%u passed, %u failed\n", passed, failed);

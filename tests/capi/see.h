@@ -11,6 +11,9 @@ void see(int holds, const char *what);
 /* fields.c: every field of every struct, over the sample book. */
 void every_field(const uint8_t *book, size_t book_len);
 
+/* pieces.c: strict and lenient, over the sample book. */
+void every_piece(const uint8_t *book, size_t book_len);
+
 /* pending.c: the table of requests. */
 void every_request(void);
 

@@ -151,7 +151,7 @@ static inline size_t record_of(uint8_t to[CK_MOST_BYTES], const uint8_t *text, c
  * exactly. */
 static inline part there_and_back(const told *e) {
     static uint8_t first[MOST_ROOM], again[MOST_ROOM], want[CK_MOST_BYTES];
-    static told by_record, by_intake;
+    static told by_record, by_intake, by_lenient;
     const uint32_t *dwords = lend(e->dwords, 4 * e->entry.dwords);
     size_t count = e->entry.dwords, size = record_of(want, e->text, &e->entry, dwords);
     ck_write_answer w = write_into(first, e->text, e->len, e->entry, dwords, count, CK_MOST_BYTES);
@@ -161,8 +161,10 @@ static inline part there_and_back(const told *e) {
     const uint8_t *record = lend(first, size);
     read_into(&by_record, ck_record_read, record, size, CK_MOST_DWORDS);
     read_into(&by_intake, ck_read, record, size, CK_MOST_DWORDS);
+    read_into(&by_lenient, ck_read_lenient, record, size, CK_MOST_DWORDS);
     must(by_record.number == CK_OK && same_entry(e, &by_record), "a record reads to its entry");
     must(by_intake.number == CK_OK && same_flat(&by_record.entry, &by_intake.entry) && same_entry(e, &by_intake), "and so it does at the intake");
+    must(same_answer(&by_lenient, &by_intake), "strict or lenient");
     w = write_into(again, record, size, by_record.entry, dwords, count, CK_MOST_BYTES);
     must(w.number == CK_OK && w.bytes == size && !memcmp(again, first, size), "its entry is written to the same bytes");
     return (part){record, size};

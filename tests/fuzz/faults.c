@@ -24,6 +24,8 @@ static int second(void) {
 #define PACKET_ARGS kind, book, book_len, dwords, count
 #define OVER const uint8_t *book, size_t book_len, const uint32_t *dwords, size_t count, const uint32_t *places, size_t places_len
 #define OVER_ARGS book, book_len, dwords, count, places, places_len
+#define TEXT const uint8_t *text, size_t len, const uint8_t *book, size_t book_len, uint32_t *slots, size_t count
+#define TEXT_ARGS text, len, book, book_len, slots, count
 #define NAMED const uint8_t *name, size_t name_len
 #define ENTRY const uint8_t *book, size_t book_len, size_t entry
 
@@ -80,21 +82,67 @@ WRAP(uint32_t, ck_adapter_num, a = entry.port, LIST(ck_entry entry), LIST(entry)
 WRAP(uint32_t, ck_unplug, a = entry.unplug, LIST(ck_entry entry), LIST(entry))
 WRAP(ck_entry_answer, ck_record_read, a.entry.pid ^= 1, LIST(const uint8_t *text, size_t len, uint32_t *slots, size_t count),
      LIST(text, len, slots, count))
-WRAP(ck_what_answer, ck_what, a.what ^= 1, LIST(const uint8_t *text, size_t len), LIST(text, len))
+WRAP(ck_what_answer, ck_what_lenient, a.what ^= 1, LIST(const uint8_t *text, size_t len), LIST(text, len))
 WRAP(ck_packet_answer, ck_checked_packet, a.start ^= 1, LIST(PACKET, uint32_t *places, size_t places_len), LIST(PACKET_ARGS, places, places_len))
-WRAP(ck_text_packet, ck_read_packet, a.dwords ^= 1,
-     LIST(const uint8_t *text, size_t len, const uint8_t *book, size_t book_len, uint32_t *slots, size_t count, uint32_t *places, size_t places_len),
-     LIST(text, len, book, book_len, slots, count, places, places_len))
+WRAP(ck_text_packet, ck_read_packet_lenient, a.dwords ^= 1, LIST(TEXT, uint32_t *places, size_t places_len), LIST(TEXT_ARGS, places, places_len))
 WRAP(size_t, ck_packet_all, codes[0] ^= 1,
      LIST(const uint8_t *book, size_t book_len, const uint8_t *kinds, size_t kinds_len, const uint32_t *counts, size_t counts_len,
           const uint32_t *dwords, size_t count, uint32_t *places, size_t places_len, uint32_t *codes, size_t codes_len),
      LIST(book, book_len, kinds, kinds_len, counts, counts_len, dwords, count, places, places_len, codes, codes_len))
 
+/* The strict calls, and what they would be if they let a bad piece through. */
+ck_what_answer __real_ck_what(const uint8_t *, size_t);
+ck_what_answer __wrap_ck_what(const uint8_t *, size_t);
+ck_what_answer __wrap_ck_what(const uint8_t *text, size_t len) {
+    ck_what_answer a = __real_ck_what(text, len);
+    if (is("ck_what")) a.what ^= 1;
+    if (is("a bad piece in what is a line") && a.number == CK_BAD_PIECE) a = __real_ck_what_lenient(text, len);
+    return a;
+}
+
+ck_text_packet __real_ck_read_packet(TEXT, uint32_t *, size_t);
+ck_text_packet __wrap_ck_read_packet(TEXT, uint32_t *, size_t);
+ck_text_packet __wrap_ck_read_packet(TEXT, uint32_t *places, size_t places_len) {
+    ck_text_packet a = __real_ck_read_packet(TEXT_ARGS, places, places_len);
+    if (is("ck_read_packet")) a.dwords ^= 1;
+    if (is("a bad piece in a packet") && a.packet.number == CK_BAD_PIECE) a = __real_ck_read_packet_lenient(TEXT_ARGS, places, places_len);
+    return a;
+}
+
+ck_entry_answer __real_ck_parse(const uint8_t *, size_t, uint32_t *, size_t);
 ck_entry_answer __real_ck_read(const uint8_t *, size_t, uint32_t *, size_t);
+
+/* A lenient reader that refuses a bad piece, alone or with the other one. */
+#define LENIENT(call, strict, fault)                                                                                                                 \
+    ck_entry_answer __real_##call(const uint8_t *, size_t, uint32_t *, size_t);                                                                      \
+    ck_entry_answer __wrap_##call(const uint8_t *, size_t, uint32_t *, size_t);                                                                      \
+    ck_entry_answer __wrap_##call(const uint8_t *text, size_t len, uint32_t *slots, size_t count) {                                                  \
+        int refuses = is("a bad piece refused by lenient") && strict(text, len, slots, 0).number == CK_BAD_PIECE;                                    \
+        ck_entry_answer a = refuses ? strict(text, len, slots, count) : __real_##call(text, len, slots, count);                                      \
+        if (is(#call)) fault;                                                                                                                        \
+        return a;                                                                                                                                    \
+    }
+LENIENT(ck_parse_lenient, __real_ck_parse, a.entry.route ^= 1)
+LENIENT(ck_read_lenient, __real_ck_read, a.entry.seq ^= 1)
+
+/* The strict readers, both wrong alike about a bad piece, so that a plain reading must tell. */
+static void put_18(ck_entry_answer *a, const uint8_t *text, size_t len, uint32_t *slots, size_t count) {
+    static uint32_t scratch[512];
+    if (is("18 for 15") && a->number == CK_NO_DATA) a->number = CK_BAD_PIECE;
+    if (a->number != CK_BAD_PIECE) return;
+    uint8_t lenient = __real_ck_read_lenient(text, len, scratch, count).number;
+    if (is("16 before 18") && lenient == CK_MANY_DWORDS) a->number = lenient;
+    if (is("17 before 18") && lenient == CK_FEW_SLOTS) a->number = lenient;
+    if (is("a slot after a bad piece") && count) slots[0] ^= 1;
+    if (is("a bad piece let through")) *a = __real_ck_read_lenient(text, len, slots, count);
+}
+
 ck_entry_answer __wrap_ck_read(const uint8_t *, size_t, uint32_t *, size_t);
 ck_entry_answer __wrap_ck_read(const uint8_t *text, size_t len, uint32_t *slots, size_t count) {
     ck_entry_answer a = __real_ck_read(text, len, slots, count);
     if (is("ck_read")) a.entry.seq ^= 1;
+    put_18(&a, text, len, slots, count);
+    if (is("a bad piece at the intake") && a.number == CK_BAD_PIECE) a = __real_ck_read_lenient(text, len, slots, count);
     if (is("a dword at the intake") && a.entry.dwords) slots[0] ^= 1;
     return a;
 }
@@ -147,12 +195,12 @@ ck_write_answer __wrap_ck_record_write(const uint8_t *text, size_t len, ck_entry
     return a;
 }
 
-ck_entry_answer __real_ck_parse(const uint8_t *, size_t, uint32_t *, size_t);
 ck_entry_answer __wrap_ck_parse(const uint8_t *, size_t, uint32_t *, size_t);
 ck_entry_answer __wrap_ck_parse(const uint8_t *line, size_t len, uint32_t *slots, size_t count) {
     ck_entry_answer a = __real_ck_parse(line, len + is("line longer than lent"), slots, count + is("slots more than lent"));
     int guarded = second();
     if (is("ck_parse")) a.entry.route ^= 1;
+    put_18(&a, line, len, slots, count);
     if (is("a number that no line has") && a.number) a.number = CK_NO_EQUALS;
     if (is("an entry with a refusal") && a.number) a.entry.kind = 1;
     if (is("a task outside the line") && !a.number) a.entry.task_at = len;

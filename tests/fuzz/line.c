@@ -1,5 +1,5 @@
-/* Lines: any text to ck_parse. Choices: slots lent (2 bytes). */
-#include "entries.h"
+/* Lines: any text to ck_parse and ck_parse_lenient. Choices: slots lent (2 bytes). */
+#include "pieces.h"
 
 const unsigned used_parts = 1 << CHOICES | 1 << TEXT;
 
@@ -13,41 +13,49 @@ static uint8_t early(part t) {
 }
 
 /* The answer with other slots: as with enough, or 17. */
-static void with_slots(const told *enough, const uint8_t *text, size_t len, size_t count) {
+static void with_slots(const told *enough, reader *parse, size_t count) {
     static told few;
-    read_into(&few, ck_parse, text, len, count);
+    read_into(&few, parse, enough->text, enough->len, count);
     int fits = enough->number != CK_OK || enough->entry.dwords <= count;
     must(few.number == (fits ? enough->number : CK_FEW_SLOTS), "slots matter only where they are too few");
     if (few.number == CK_OK) must(same_flat(&few.entry, &enough->entry) && same_entry(&few, enough), "and not to the entry");
 }
 
 /* A newline behind a line changes nothing. */
-static void with_newline(const told *plain, part t) {
+static void with_newline(const told *plain, reader *parse, part t) {
     static uint8_t longer[MOST_TEXT];
     static told ended;
     if (t.len >= MOST_TEXT || (t.len == 1 && t.at[0] == '\n')) return;
     if (t.len) memcpy(longer, t.at, t.len);
     longer[t.len] = '\n';
-    read_into(&ended, ck_parse, lend(longer, t.len + 1), t.len + 1, CK_MOST_DWORDS);
+    read_into(&ended, parse, lend(longer, t.len + 1), t.len + 1, CK_MOST_DWORDS);
     must(same_answer(&ended, plain), "a line's newline is lent or not");
 }
 
-int LLVMFuzzerTestOneInput(const uint8_t *data, size_t size) {
-    static told parsed, taken;
-    part parts[PARTS], t;
-    cut(data, size, parts);
-    t = parts[TEXT];
-    const uint8_t *text = lend(t.at, t.len);
-    read_into(&parsed, ck_parse, text, t.len, CK_MOST_DWORDS);
-    tally(parsed.number);
-    must(parsed.number <= CK_MANY_DWORDS && parsed.number != CK_NO_EQUALS, "a line gives 0 to 16, and never 10");
-    must(early(t) ? parsed.number == early(t) : parsed.number == CK_OK || parsed.number > CK_NO_COLON, "1 to 4 come first");
-    with_slots(&parsed, text, t.len, count_of(choice(parts, 0, 2), CK_MOST_DWORDS, MOST_SLOTS));
-    if (parsed.entry.dwords) with_slots(&parsed, text, t.len, parsed.entry.dwords), with_slots(&parsed, text, t.len, parsed.entry.dwords - 1);
-    with_newline(&parsed, t);
-    read_into(&taken, ck_read, text, t.len, CK_MOST_DWORDS);
+/* What each choice is held to by itself. */
+static void by_choice(told *parsed, reader *parse, reader *read, part t, size_t count) {
+    static told taken;
+    read_into(parsed, parse, t.at, t.len, CK_MOST_DWORDS);
+    must(early(t) ? parsed->number == early(t) : parsed->number == CK_OK || parsed->number > CK_NO_COLON, "1 to 4 come first");
+    with_slots(parsed, parse, count);
+    if (parsed->entry.dwords) with_slots(parsed, parse, parsed->entry.dwords), with_slots(parsed, parse, parsed->entry.dwords - 1);
+    with_newline(parsed, parse, t);
+    read_into(&taken, read, t.at, t.len, CK_MOST_DWORDS);
     if (t.len && t.at[0] == 0xa1) must(taken.number == CK_OK || taken.number >= CK_NO_RECORD, "what starts with A1 is no line to the intake");
-    else must(same_answer(&taken, &parsed), "the intake reads a line as ck_parse does");
-    if (parsed.number == CK_OK) there_and_back(&parsed);
+    else must(same_answer(&taken, parsed), "the intake reads a line as the line's call does");
+}
+
+int LLVMFuzzerTestOneInput(const uint8_t *data, size_t size) {
+    static told strict, lenient;
+    part parts[PARTS];
+    cut(data, size, parts);
+    part t = {lend(parts[TEXT].at, parts[TEXT].len), parts[TEXT].len};
+    size_t count = count_of(choice(parts, 0, 2), CK_MOST_DWORDS, MOST_SLOTS);
+    by_choice(&lenient, ck_parse_lenient, ck_read_lenient, t, count);
+    by_choice(&strict, ck_parse, ck_read, t, count);
+    tally(strict.number);
+    must(lenient.number <= CK_MANY_DWORDS && lenient.number != CK_NO_EQUALS, "a lenient line gives 0 to 16, and never 10");
+    must_be_strict(&strict, &lenient, t);
+    if (lenient.number == CK_OK) there_and_back(&lenient);
     return done();
 }

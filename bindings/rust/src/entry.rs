@@ -22,19 +22,40 @@ pub struct Entry<'t, 's> {
 type Reader = fn(&[u8], &mut [u32]) -> Result<RawEntry, u8>;
 
 impl<'t, 's> Entry<'t, 's> {
-    /// The entry of a line of trace; its dwords go to the first slots. A refusal leaves the slots as they were.
+    /// The entry of a line of trace; its dwords go to the first slots. A refusal leaves the slots as they were. A line with a piece of `data` that
+    /// is no hex number of 32 bits is refused: [`Refusal::BadPiece`].
     pub fn parse(line: &'t [u8], slots: &'s mut [u32]) -> Result<Self, Refusal> {
         Self::by(raw::parse, line, slots)
     }
 
-    /// The entry of a record, likewise.
+    /// The same, but such a piece is left out, as tbtools does it: the dwords behind it move up.
+    ///
+    /// ```
+    /// use chomkadieu::{Entry, Refusal};
+    ///
+    /// let line = b"a-1 [002] 1.2: f: type=t size=3 domain=0 route=0 data=[0x1, 0x04zz, 0x2]";
+    /// let mut slots = [0; 3];
+    /// assert_eq!(Entry::parse(line, &mut slots).err(), Some(Refusal::BadPiece));
+    /// assert_eq!(Entry::parse_lenient(line, &mut slots)?.data(), [1, 2]);
+    /// # Ok::<(), chomkadieu::Refusal>(())
+    /// ```
+    pub fn parse_lenient(line: &'t [u8], slots: &'s mut [u32]) -> Result<Self, Refusal> {
+        Self::by(raw::parse_lenient, line, slots)
+    }
+
+    /// The entry of a record; its dwords go to the first slots, which a refusal leaves as they were.
     pub fn from_record(record: &'t [u8], slots: &'s mut [u32]) -> Result<Self, Refusal> {
         Self::by(raw::record_read, record, slots)
     }
 
-    /// The entry of a text that is a record if it starts with A1, else a line.
+    /// The entry of a text that is a record if it starts with A1, else a line as [`Entry::parse`] reads it.
     pub fn read(text: &'t [u8], slots: &'s mut [u32]) -> Result<Self, Refusal> {
         Self::by(raw::read, text, slots)
+    }
+
+    /// The same, but a line is read as [`Entry::parse_lenient`] reads it. Records are read alike.
+    pub fn read_lenient(text: &'t [u8], slots: &'s mut [u32]) -> Result<Self, Refusal> {
+        Self::by(raw::read_lenient, text, slots)
     }
 
     fn by(reader: Reader, text: &'t [u8], slots: &'s mut [u32]) -> Result<Self, Refusal> {

@@ -15,6 +15,9 @@
 //! assert_eq!(entry.data(), [0, 0, 0x04002001]);
 //! # Ok::<(), chomkadieu::Refusal>(())
 //! ```
+//!
+//! Readings are strict: a line with a piece of `data` that is no hex number of 32 bits is refused ([`Refusal::BadPiece`]). Whoever asks for lenient
+//! ([`Entry::parse_lenient`], [`Entry::read_lenient`], [`what_lenient`]) has such pieces left out, as tbtools does it. Records are read alike.
 #![no_std]
 #![deny(missing_docs)]
 
@@ -38,7 +41,7 @@ pub use pdf::Pdf;
 pub use pending::{OldestFirst, Pending, Report};
 pub use raw::{Four, Slot};
 pub use refusal::Refusal;
-pub use what::{What, what};
+pub use what::{What, what, what_lenient};
 
 /// No line or record has more dwords: with as many slots, none is refused for want of slots.
 pub const MOST_DWORDS: usize = 256;

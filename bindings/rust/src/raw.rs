@@ -209,9 +209,12 @@ macro_rules! calls {
 
 calls! {
     ck_parse([line: u8], [mut slots: u32]) -> EntryAnswer;
+    ck_parse_lenient([line: u8], [mut slots: u32]) -> EntryAnswer;
     ck_record_read([text: u8], [mut slots: u32]) -> EntryAnswer;
     ck_read([text: u8], [mut slots: u32]) -> EntryAnswer;
+    ck_read_lenient([text: u8], [mut slots: u32]) -> EntryAnswer;
     ck_what([text: u8]) -> WhatAnswer;
+    ck_what_lenient([text: u8]) -> WhatAnswer;
     ck_record_write([text: u8], entry: RawEntry, [dwords: u32], [mut out: u8]) -> WriteAnswer;
     ck_book_check([book: u8]) -> u8;
     ck_event_name(code: u8) -> EventText;
@@ -255,6 +258,10 @@ pub fn parse(line: &[u8], slots: &mut [u32]) -> Result<RawEntry, u8> {
     entry(ck_parse(line, slots))
 }
 
+pub fn parse_lenient(line: &[u8], slots: &mut [u32]) -> Result<RawEntry, u8> {
+    entry(ck_parse_lenient(line, slots))
+}
+
 pub fn record_read(text: &[u8], slots: &mut [u32]) -> Result<RawEntry, u8> {
     entry(ck_record_read(text, slots))
 }
@@ -263,12 +270,23 @@ pub fn read(text: &[u8], slots: &mut [u32]) -> Result<RawEntry, u8> {
     entry(ck_read(text, slots))
 }
 
+pub fn read_lenient(text: &[u8], slots: &mut [u32]) -> Result<RawEntry, u8> {
+    entry(ck_read_lenient(text, slots))
+}
+
 /// Is it a record, and not a line?
-pub fn what(text: &[u8]) -> Result<bool, u8> {
+fn is_record(answer: WhatAnswer) -> Result<bool, u8> {
     /// `CK_IS_RECORD`.
     const RECORD: u8 = 2;
-    let answer = ck_what(text);
     accepted(answer.number, answer.what == RECORD)
+}
+
+pub fn what(text: &[u8]) -> Result<bool, u8> {
+    is_record(ck_what(text))
+}
+
+pub fn what_lenient(text: &[u8]) -> Result<bool, u8> {
+    is_record(ck_what_lenient(text))
 }
 
 /// How many bytes were written.

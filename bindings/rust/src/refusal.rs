@@ -63,6 +63,7 @@ refusals! {
     NoData = 15, "`data` is missing or not in brackets";
     ManyDwords = 16, "the line has more than 256 dwords";
     FewSlots = 17, "fewer slots are lent than the line has dwords";
+    BadPiece = 18, "a piece of `data` is no hex number of 32 bits";
     BadBook = 20, "the book breaks its grammar";
     NoKind = 21, "the packet is of no known kind";
     NoTable = 22, "the book has no control table for the kind";

@@ -6,6 +6,7 @@ use mathlib.Core.List.{List}
 use Rattle.text.specs.Told.{Told}
 use Rattle.entry.specs.declared.Entry.{Entry}
 use Rattle.packet.specs.declared.Packet.{Packet}
+use Rattle.scan.specs.declared.Pieces.{Pieces}
 use Rattle.slots.specs.declared.Slot.{Slot}
 use Rattle.matched.proofs.One.{one-answer, one-count, one-place}
 use Rattle.c_entry.specs.declared.Flat.{Flat}
@@ -23,7 +24,7 @@ use Rattle.capi.specs.Packets.{Described, TextRead}
 use Rattle.capi.specs.Requests.{stepBy, countBy, placeBy, Stepped, Counted, Placed}
 use Rattle.capi.specs.Told.{NamePart, Copied}
 
--- `ck_parse`, `ck_record_read`, `ck_read`
+-- `ck_parse`, `ck_record_read`, `ck_read`, and the lenient forms
 pub no-second-read : (told : Told Entry) (dwords out : List ℕ) {exit exit′ : List ℕ} {q r : EntryAnswer}
     → Read told dwords out exit q → Read told dwords out exit′ r → (q ≡ r) × (exit ≡ exit′)
 no-second-read told dwords out a b = (a .is ∙ sym (b .is), a .slots ∙ sym (b .slots))
@@ -38,11 +39,11 @@ pub no-second-description : (told : Told Packet) (places out : List ℕ) {exit e
     → Described told places out exit q → Described told places out exit′ r → (q ≡ r) × (exit ≡ exit′)
 no-second-description told places out a b = (a .is ∙ sym (b .is), a .list ∙ sym (b .list))
 
--- `ck_read_packet`
-pub no-second-text-packet : (t s slots places : List ℕ) {slots₁ slots₂ places₁ places₂ : List ℕ} {q r : TextPacket}
-    → TextRead t s slots slots₁ places places₁ q → TextRead t s slots slots₂ places places₂ r
+-- `ck_read_packet`, `ck_read_packet_lenient`
+pub no-second-text-packet : (pieces : Pieces) (t s slots places : List ℕ) {slots₁ slots₂ places₁ places₂ : List ℕ} {q r : TextPacket}
+    → TextRead pieces t s slots slots₁ places places₁ q → TextRead pieces t s slots slots₂ places places₂ r
     → (q ≡ r) × (slots₁ ≡ slots₂) × (places₁ ≡ places₂)
-no-second-text-packet t s slots places a b =
+no-second-text-packet pieces t s slots places a b =
     (a .is ∙ sym (b .is), a .slots-left ∙ sym (b .slots-left), a .places-left ∙ sym (b .places-left))
 
 -- `ck_name_at`

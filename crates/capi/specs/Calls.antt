@@ -6,8 +6,10 @@ use lib.ListN.{length}
 use Rattle.text.specs.Told as T
 use Rattle.entry.specs.Event.{eventOf, nameOf, padded}
 use Rattle.entry.specs.declared.Entry.{Entry}
-use Rattle.scan.specs.Parse.{slotsBy}
+use Rattle.scan.specs.declared.Pieces.{Pieces}
+use Rattle.scan.specs.Parse.{parseOf, lineDwords, slotsBy}
 use Rattle.writer.specs.Writing.{bytesOf, writeOf, bufferBy}
+use Rattle.intake.specs.Intake.{takenOf, takenDwords}
 use Rattle.intake.specs.What.{Grammar, record-grammar, line-grammar}
 use Rattle.c_entry.specs.declared.Flat.{Flat}
 use Rattle.c_entry.specs.Flat.{absent, flatOf, raiseOf}
@@ -53,6 +55,14 @@ answerBy (T.refused k) = record { number = k; entry = blankEntry }
 pub record Read (told : T.Told Entry) (dwords out exit : List ℕ) (r : EntryAnswer) : Type 0 where
   pub is : r ≡ answerBy told
   pub slots : exit ≡ slotsBy told dwords out
+
+-- that of a line, by the choice: strict or lenient
+abbrev pub LineRead : Pieces → List ℕ → List ℕ → List ℕ → EntryAnswer → Type 0
+LineRead pieces t out exit r = Read (parseOf pieces t (length out)) (lineDwords t) out exit r
+
+-- that of a text, which is a record if it starts with A1, else a line by the choice
+abbrev pub EitherRead : Pieces → List ℕ → List ℕ → List ℕ → EntryAnswer → Type 0
+EitherRead pieces t out exit r = Read (takenOf pieces t (length out)) (takenDwords t) out exit r
 
 -- what a text is, as a number: 0 neither, 1 a line, 2 a record
 abbrev pub caseOf : T.Told Grammar → ℕ

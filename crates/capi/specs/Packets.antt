@@ -11,6 +11,7 @@ use Rattle.packet.specs.declared.Packet.{Packet}
 use Rattle.packet.specs.declared.MaybeUuid.{MaybeUuid}
 use Rattle.packet.specs.declared.MaybeUuid.the-variants as U
 use Rattle.packet.specs.Packet.{placesOf, listBy}
+use Rattle.scan.specs.declared.Pieces.{Pieces}
 use Rattle.intake.specs.Intake.{takenDwords}
 use Rattle.intake.specs.Packets.{packetTaken, kindIn}
 use Rattle.capi.specs.declared.packets.PacketAnswer.{PacketAnswer}
@@ -48,10 +49,10 @@ textBy (T.is p) = ofPacket p
 textBy T.absent = record { kind = 0; dwords = 0; packet = packetBy T.absent }
 textBy (T.refused k) = record { kind = 0; dwords = 0; packet = packetBy (T.refused k) }
 
--- the answer, each slot and each place: a packet's dwords and their places over the first, a refusal leaves them as found
-pub record TextRead (t s slots slots′ places places′ : List ℕ) (r : TextPacket) : Type 0 where
-  pub is : r ≡ textBy (packetTaken t s (length slots) (length places))
-  pub slots-left : slots′ ≡ listBy (packetTaken t s (length slots) (length places)) (takenDwords t) slots
+-- the answer, each slot and each place, by the choice: a packet's dwords and their places over the first, a refusal leaves them as found
+pub record TextRead (pieces : Pieces) (t s slots slots′ places places′ : List ℕ) (r : TextPacket) : Type 0 where
+  pub is : r ≡ textBy (packetTaken pieces t s (length slots) (length places))
+  pub slots-left : slots′ ≡ listBy (packetTaken pieces t s (length slots) (length places)) (takenDwords t) slots
   pub places-left : places′
-      ≡ listBy (packetTaken t s (length slots) (length places))
-      (placesOf (kindIn (packetTaken t s (length slots) (length places))) s (takenDwords t)) places
+      ≡ listBy (packetTaken pieces t s (length slots) (length places))
+      (placesOf (kindIn (packetTaken pieces t s (length slots) (length places))) s (takenDwords t)) places

@@ -1,5 +1,5 @@
 // The calls for C and for languages that link as C does: numbers, slices and plain structs. Each takes any input and answers as the call that it
-// stands for; include/chomkadieu.h says what for.
+// stands for; include/chomkadieu.h says what for. Calls that read lines are strict, and have a lenient form beside them.
 //
 //     ck_parse, ck_record_read, ck_read        a line, a record, either of them: its entry
 //     ck_what                                  a text: record, line or neither
@@ -37,22 +37,23 @@ use intake::What;
 use intake::what_is;
 use refusal::BAD_ENTRY;
 use scan::Answer;
+use scan::Pieces;
 use scan::parse;
 use writer::Written;
 use writer::write;
 ghost use mathlib.Core.Path.{_≡_};
 ghost use lib.ListN.{length};
-ghost use Rattle.scan.specs.Parse.{answerTold, parseOf, lineDwords};
+ghost use Rattle.scan.specs.declared.Pieces.the-variants as P;
+ghost use Rattle.scan.specs.Parse.{answerTold};
 ghost use Rattle.writer.specs.Writing.{writtenTold};
 ghost use Rattle.record.specs.Reading.{readOf, dwordsOf};
-ghost use Rattle.intake.specs.Intake.{takenOf, takenDwords};
 ghost use Rattle.intake.specs.What.{whatOf};
 ghost use Rattle.book.specs.Reading.{checkOf};
 ghost use Rattle.text.specs.Told.{numberIn};
 ghost use Rattle.entry.specs.Entry.{adapterOf, unplugOf};
 ghost use Rattle.c_entry.specs.Flat.{byteOf};
 ghost use Rattle.capi.specs.Told.{asNumber, flatTold};
-ghost use Rattle.capi.specs.Calls.{Read, Wrote, answerBy, whatBy, writtenBy, nameBy, blankEntry};
+ghost use Rattle.capi.specs.Calls.{Read, LineRead, EitherRead, Wrote, answerBy, whatBy, writtenBy, nameBy, blankEntry};
 
 // Number 0 and the entry, or the number that refuses the text and a blank entry.
 #[repr(C)]
@@ -82,15 +83,30 @@ pub struct EventName {
     pub len: usize,
 }
 
-// The entry of a line, its dwords in the first slots.
+// The entry of a line, its dwords in the first slots. A bad piece of its data refuses it: 18.
 #[no_mangle]
 pub extern "C" fn ck_parse(line: &[u8], slots: &mut [u32]) -> EntryAnswer
-    ensures { λ r. ⌜ Read (parseOf (now (line .entry)) (length (now (slots .entry)))) (lineDwords (now (line .entry))) (now (slots .entry)) (now (slots .exit)) r ⌝ }
+    ensures { λ r. ⌜ LineRead P.Strict (now (line .entry)) (now (slots .entry)) (now (slots .exit)) r ⌝ }
 {
-    answer_of(parse(line, slots))
+    parse_by(line, Pieces::Strict, slots)
 }
 
-// The entry of a record, likewise.
+// The same, but bad pieces are left out.
+#[no_mangle]
+pub extern "C" fn ck_parse_lenient(line: &[u8], slots: &mut [u32]) -> EntryAnswer
+    ensures { λ r. ⌜ LineRead P.Lenient (now (line .entry)) (now (slots .entry)) (now (slots .exit)) r ⌝ }
+{
+    parse_by(line, Pieces::Lenient, slots)
+}
+
+// A line by the choice.
+fn parse_by(line: &[u8], pieces: Pieces, slots: &mut [u32]) -> EntryAnswer
+    ensures { λ r. ⌜ LineRead pieces (now (line .entry)) (now (slots .entry)) (now (slots .exit)) r ⌝ }
+{
+    answer_of(parse(line, pieces, slots))
+}
+
+// The entry of a record, its dwords in the first slots.
 #[no_mangle]
 pub extern "C" fn ck_record_read(text: &[u8], slots: &mut [u32]) -> EntryAnswer
     ensures { λ r. ⌜ Read (readOf (now (text .entry)) (length (now (slots .entry)))) (dwordsOf (now (text .entry))) (now (slots .entry)) (now (slots .exit)) r ⌝ }
@@ -101,20 +117,50 @@ pub extern "C" fn ck_record_read(text: &[u8], slots: &mut [u32]) -> EntryAnswer
     }
 }
 
-// The entry of a text that is a record if it starts with A1, else a line.
+// The entry of a text that is a record if it starts with A1, else a line. A bad piece of a line's data refuses it: 18.
 #[no_mangle]
 pub extern "C" fn ck_read(text: &[u8], slots: &mut [u32]) -> EntryAnswer
-    ensures { λ r. ⌜ Read (takenOf (now (text .entry)) (length (now (slots .entry)))) (takenDwords (now (text .entry))) (now (slots .entry)) (now (slots .exit)) r ⌝ }
+    ensures { λ r. ⌜ EitherRead P.Strict (now (text .entry)) (now (slots .entry)) (now (slots .exit)) r ⌝ }
 {
-    answer_of(intake::read(text, slots))
+    read_by(text, Pieces::Strict, slots)
 }
 
-// What a text is.
+// The same, but bad pieces are left out.
+#[no_mangle]
+pub extern "C" fn ck_read_lenient(text: &[u8], slots: &mut [u32]) -> EntryAnswer
+    ensures { λ r. ⌜ EitherRead P.Lenient (now (text .entry)) (now (slots .entry)) (now (slots .exit)) r ⌝ }
+{
+    read_by(text, Pieces::Lenient, slots)
+}
+
+// A text by the choice.
+fn read_by(text: &[u8], pieces: Pieces, slots: &mut [u32]) -> EntryAnswer
+    ensures { λ r. ⌜ EitherRead pieces (now (text .entry)) (now (slots .entry)) (now (slots .exit)) r ⌝ }
+{
+    answer_of(intake::read(text, pieces, slots))
+}
+
+// What a text is, by the strict grammar of lines.
 #[no_mangle]
 pub extern "C" fn ck_what(text: &[u8]) -> WhatAnswer
-    ensures { λ r. ⌜ r ≡ whatBy (whatOf (now (text .entry))) ⌝ }
+    ensures { λ r. ⌜ r ≡ whatBy (whatOf P.Strict (now (text .entry))) ⌝ }
 {
-    match what_is(text) {
+    tell_what(text, Pieces::Strict)
+}
+
+// The same by the lenient one.
+#[no_mangle]
+pub extern "C" fn ck_what_lenient(text: &[u8]) -> WhatAnswer
+    ensures { λ r. ⌜ r ≡ whatBy (whatOf P.Lenient (now (text .entry))) ⌝ }
+{
+    tell_what(text, Pieces::Lenient)
+}
+
+// What a text is, by the choice.
+fn tell_what(text: &[u8], pieces: Pieces) -> WhatAnswer
+    ensures { λ r. ⌜ r ≡ whatBy (whatOf pieces (now (text .entry))) ⌝ }
+{
+    match what_is(text, pieces) {
         What::Record => WhatAnswer { number: 0, what: 2 },
         What::Line => WhatAnswer { number: 0, what: 1 },
         What::Neither(number) => WhatAnswer {

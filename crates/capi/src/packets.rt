@@ -5,8 +5,10 @@ use entry::optional::MaybeWord;
 use packet::Answer;
 use packet::MaybeUuid;
 use packet::Packet;
+use scan::Pieces;
 ghost use mathlib.Core.Path.{_≡_};
 ghost use lib.ListN.{length};
+ghost use Rattle.scan.specs.declared.Pieces.the-variants as P;
 ghost use Rattle.packet.specs.Packet.{answerTold, parseOf, overOf, placesOf};
 ghost use Rattle.batch.specs.Batch.{Batch};
 ghost use Rattle.capi.specs.Packets.{Described, packetBy, madeBy, uuidBy, ofPacket, textBy, TextRead};
@@ -124,7 +126,7 @@ pub struct TextPacket {
 }
 
 // The packet of a text that is a record if it starts with A1, else a line: its dwords in the first slots, the places of their entries in the
-// first places. Numbers of the text come before those of the packet.
+// first places. Numbers of the text come before those of the packet. A bad piece of a line's data refuses it: 18.
 #[no_mangle]
 pub extern "C" fn ck_read_packet(
     text: &[u8],
@@ -132,9 +134,35 @@ pub extern "C" fn ck_read_packet(
     slots: &mut [u32],
     places: &mut [u32],
 ) -> TextPacket
-    ensures { λ r. ⌜ TextRead (now (text .entry)) (now (book .entry)) (now (slots .entry)) (now (slots .exit)) (now (places .entry)) (now (places .exit)) r ⌝ }
+    ensures { λ r. ⌜ TextRead P.Strict (now (text .entry)) (now (book .entry)) (now (slots .entry)) (now (slots .exit)) (now (places .entry)) (now (places .exit)) r ⌝ }
 {
-    text_packet(intake::packet(text, book, slots, places))
+    read_packet_by(text, Pieces::Strict, book, slots, places)
+}
+
+// The same, but bad pieces are left out.
+#[no_mangle]
+pub extern "C" fn ck_read_packet_lenient(
+    text: &[u8],
+    book: &[u8],
+    slots: &mut [u32],
+    places: &mut [u32],
+) -> TextPacket
+    ensures { λ r. ⌜ TextRead P.Lenient (now (text .entry)) (now (book .entry)) (now (slots .entry)) (now (slots .exit)) (now (places .entry)) (now (places .exit)) r ⌝ }
+{
+    read_packet_by(text, Pieces::Lenient, book, slots, places)
+}
+
+// A text's packet by the choice.
+fn read_packet_by(
+    text: &[u8],
+    pieces: Pieces,
+    book: &[u8],
+    slots: &mut [u32],
+    places: &mut [u32],
+) -> TextPacket
+    ensures { λ r. ⌜ TextRead pieces (now (text .entry)) (now (book .entry)) (now (slots .entry)) (now (slots .exit)) (now (places .entry)) (now (places .exit)) r ⌝ }
+{
+    text_packet(intake::packet(text, pieces, book, slots, places))
 }
 
 fn text_packet(answer: Answer) -> TextPacket

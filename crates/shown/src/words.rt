@@ -72,6 +72,7 @@ fn say_of_line(out: &mut [u8], sink: Sink, number: u8) -> Sink {
         14 => say(out, sink, b"`route` is missing or no hex number of 64 bits"),
         15 => say(out, sink, b"`data` is missing or not in brackets"),
         16 => say(out, sink, b"the line has more than 256 dwords"),
+        18 => say(out, sink, b"a piece of `data` is no hex number of 32 bits"),
         _ => say(out, sink, b"refused"),
     }
 }

@@ -33,6 +33,13 @@ impl<R: BufRead> Frames<R> {
         Ok(u32::from_le_bytes(bytes) as usize)
     }
 
+    /// One byte.
+    pub fn byte(&mut self) -> io::Result<u8> {
+        let mut byte = [0];
+        self.from.read_exact(&mut byte)?;
+        Ok(byte[0])
+    }
+
     /// So many bytes.
     pub fn bytes(&mut self, count: usize) -> io::Result<&[u8]> {
         self.body.resize(count, 0);

@@ -3,17 +3,32 @@
 use crate::lent::Lent;
 use crate::row::{OrNone, put_hex, put_list};
 use crate::tally::Said;
-use chomkadieu::Entry;
+use chomkadieu::{Entry, Refusal};
 use std::fmt::{self, Write};
 
+type Reader = for<'t, 's> fn(&'t [u8], &'s mut [u32]) -> Result<Entry<'t, 's>, Refusal>;
+
+/// One of the crate's two readings of lines, with memory of its own.
 pub struct Lines {
+    reader: Reader,
     lent: Lent,
     row: String,
 }
 
 impl Lines {
-    pub fn new() -> Self {
+    /// A bad piece refuses its line.
+    pub fn strict() -> Self {
+        Self::by(|line, slots| Entry::parse(line, slots))
+    }
+
+    /// A bad piece is left out, as the Rust does it.
+    pub fn lenient() -> Self {
+        Self::by(|line, slots| Entry::parse_lenient(line, slots))
+    }
+
+    fn by(reader: Reader) -> Self {
         Self {
+            reader,
             lent: Lent::new(),
             row: String::new(),
         }
@@ -27,7 +42,7 @@ impl Lines {
     /// What is said of a line with so many slots lent; the entry's row is kept.
     pub fn answer(&mut self, line: &[u8], slots: usize) -> Said {
         self.row.clear();
-        let answer = Entry::parse(line, self.lent.lend(slots));
+        let answer = (self.reader)(line, self.lent.lend(slots));
         let (said, owned) = match answer {
             Ok(entry) => {
                 put_entry(&mut self.row, &entry).expect("a row takes any text");

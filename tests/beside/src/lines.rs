@@ -1,34 +1,69 @@
-//! Lines: ours beside the judged Rust, and document 01's numbers where the Rust has no limit.
+//! Lines: our lenient reading beside the judged Rust, and document 01's numbers where the Rust has no limit; our strict reading beside the same, but
+//! for 18.
 
 use crate::frames::Frames;
 use crate::lent::ROOM;
 use crate::line::Lines;
+use crate::pieces::any_bad;
 use crate::tally::{Said, Tally};
 use oracle::trace::probe::{lines, watch};
 use std::io::{self, BufRead};
 
 const LONGEST: usize = 4096;
 const MOST_DWORDS: usize = 256;
+const BAD_PIECE: Said = Said::Refused(18);
+
+/// Both choices.
+struct Ours {
+    lenient: Lines,
+    strict: Lines,
+}
 
 pub fn compare(from: impl BufRead) -> io::Result<Tally> {
     watch();
-    let (mut frames, mut tally, mut ours) = (Frames::new(from), Tally::default(), Lines::new());
+    let (mut frames, mut tally) = (Frames::new(from), Tally::default());
+    let mut ours = Ours {
+        lenient: Lines::lenient(),
+        strict: Lines::strict(),
+    };
     while !frames.is_done()? {
         judge(&mut tally, &mut ours, frames.frame()?);
     }
     Ok(tally)
 }
 
-fn judge(tally: &mut Tally, ours: &mut Lines, line: &[u8]) {
+fn judge(tally: &mut Tally, ours: &mut Ours, line: &[u8]) {
     let rust = lines::answer(line);
     let dwords = dwords(&rust);
     let slots = slots(tally.given(), dwords.unwrap_or_default());
-    let (class, expected) = expected(line, &rust, dwords, slots);
-    let said = ours.answer(line, slots);
-    if said == expected && (said != Said::Row || ours.row() == rust) {
-        tally.same(class, said);
-    } else {
-        tally.differ(line, expected.told(&rust), said.told(ours.row()), &rust);
+    let (class, lenient) = expected(line, &rust, dwords, slots);
+    let (strict_class, strict) = strictly(lenient, line);
+    for (reading, ours, expected) in [
+        ("a lenient line", &mut ours.lenient, lenient),
+        ("a strict line", &mut ours.strict, strict),
+    ] {
+        let said = ours.answer(line, slots);
+        if said != expected || (said == Said::Row && ours.row() != rust) {
+            let (expected, ours) = (expected.told(&rust), said.told(ours.row()));
+            return tally.differ(reading, line, expected, ours, &rust);
+        }
+    }
+    tally.same(class, lenient);
+    tally.beside(strict_class, strict);
+}
+
+/// What the strict reading must say where the lenient one must say this, and the class it is counted in: 18 comes before 16 and 17.
+fn strictly(lenient: Said, line: &[u8]) -> (&'static str, Said) {
+    match lenient {
+        Said::Row if any_bad(line) => ("strict: a bad piece, lenient an entry: refused", BAD_PIECE),
+        Said::Refused(16) if any_bad(line) => {
+            ("strict: a bad piece, lenient 16: refused", BAD_PIECE)
+        }
+        Said::Refused(17) if any_bad(line) => {
+            ("strict: a bad piece, lenient 17: refused", BAD_PIECE)
+        }
+        Said::Row => ("strict: entry", lenient),
+        _ => ("strict: refused", lenient),
     }
 }
 

@@ -7,6 +7,7 @@ mod line;
 mod lines;
 mod packet;
 mod packets;
+mod pieces;
 mod row;
 mod rows;
 mod tally;

@@ -46,7 +46,8 @@ fn judge(
             also(tally, &rust);
         }
     } else {
-        tally.differ(frame, expected.told(&rust), said.told(ours.row()), &rust);
+        let (expected, ours) = (expected.told(&rust), said.told(ours.row()));
+        tally.differ("a packet", frame, expected, ours, &rust);
     }
     Ok(())
 }

@@ -7,11 +7,16 @@ use crate::tally::Said;
 use chomkadieu::Book;
 use std::io::{self, BufRead, Error, Write};
 
-/// Each line behind its length and the number of slots lent, four bytes each.
+/// Each line behind its length and the number of slots lent, four bytes each, and the choice, a byte: 0 is lenient, all else strict.
 pub fn lines(from: impl BufRead, mut to: impl Write) -> io::Result<()> {
-    let (mut frames, mut ours) = (Frames::new(from), Lines::new());
+    let mut frames = Frames::new(from);
+    let (mut lenient, mut strict) = (Lines::lenient(), Lines::strict());
     while !frames.is_done()? {
-        let (length, slots) = (frames.number()?, frames.number()?);
+        let (length, slots, choice) = (frames.number()?, frames.number()?, frames.byte()?);
+        let ours = match choice {
+            0 => &mut lenient,
+            _ => &mut strict,
+        };
         let said = ours.answer(frames.bytes(length)?, slots);
         writeln!(to, "{}", said.told(ours.row()))?;
     }

@@ -63,17 +63,29 @@ impl Tally {
 
     /// One more of a class that is counted beside the answers.
     pub fn also(&mut self, class: &'static str) {
-        *self.counts.entry((class, 0)).or_default() += 1;
+        self.beside(class, Said::Row);
+    }
+
+    /// One more answer to an input that is counted by another.
+    pub fn beside(&mut self, class: &'static str, said: Said) {
+        *self.counts.entry((class, said.number())).or_default() += 1;
     }
 
     /// One more input, answered as it must be.
     pub fn same(&mut self, class: &'static str, said: Said) {
         self.given += 1;
-        *self.counts.entry((class, said.number())).or_default() += 1;
+        self.beside(class, said);
     }
 
-    /// One more input, and what was wrong with it.
-    pub fn differ(&mut self, input: &[u8], expected: String, ours: String, rust: &str) {
+    /// One more input, and what was wrong with the answer of the reading named.
+    pub fn differ(
+        &mut self,
+        reading: &str,
+        input: &[u8],
+        expected: String,
+        ours: String,
+        rust: &str,
+    ) {
         self.given += 1;
         self.differences += 1;
         let whole = self.differences <= FULL;
@@ -82,7 +94,7 @@ impl Tally {
             _ => text.into(),
         };
         println!(
-            "difference in \"{}\"",
+            "difference in {reading} \"{}\"",
             cut(&input.escape_ascii().to_string())
         );
         println!("  expected {}", cut(&expected));

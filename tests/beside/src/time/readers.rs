@@ -17,14 +17,21 @@ pub fn lines(book: &str, file: &str) -> io::Result<()> {
     texts.retain(|line| std::str::from_utf8(line).is_ok());
     let mean = rust.bytes() as f64 / texts.len() as f64;
     println!("{} lines of {mean:.1} bytes on average", texts.len());
-    let mut slots = [0; MOST_DWORDS];
-    let mut ours = || sum_all(&texts, |line| line_sum(line, &mut slots));
+    let (mut slots, mut other) = ([0; MOST_DWORDS], [0; MOST_DWORDS]);
+    let mut lenient = || {
+        sum_all(&texts, |line| {
+            line_sum(Entry::parse_lenient(line, &mut slots))
+        })
+    };
+    // Kernel-like lines have no bad piece, so that the sums are the same.
+    let mut strict = || sum_all(&texts, |line| line_sum(Entry::parse(line, &mut other)));
     race(
         "line",
         texts.len(),
         &mut [
             ("tbtools Entry::parse", &mut || rust.run()),
-            ("chomkadieu Entry::parse", &mut ours),
+            ("chomkadieu Entry::parse_lenient", &mut lenient),
+            ("chomkadieu Entry::parse", &mut strict),
         ],
     )?;
     entries(&book, &texts)
@@ -39,8 +46,8 @@ fn sum_all<T>(all: &[T], mut one: impl FnMut(&T) -> u64) -> u64 {
 }
 
 /// What the oracle sums up for a line.
-fn line_sum(line: &[u8], slots: &mut [u32]) -> u64 {
-    let Ok(entry) = Entry::parse(line, slots) else {
+fn line_sum(entry: Result<Entry, Refusal>) -> u64 {
+    let Ok(entry) = entry else {
         return 0;
     };
     let data = entry.data();

@@ -1,4 +1,4 @@
--- `capi::packets::ck_read_packet` meets its contract: what the intake's packet call answers. Assumes nothing.
+-- `capi::packets::read_packet_by` meets its contract: what the intake's packet call answers. Assumes nothing.
 use Rattle.capi.specs.Packets.{textBy}
 use Rattle.packet.specs.Packet.{placesOf, listBy}
 use Rattle.text.specs.Told.{Told}
@@ -7,8 +7,8 @@ use Rattle.intake.specs.Intake.{takenDwords}
 use Rattle.intake.specs.Packets.{kindIn}
 use mathlib.Core.Path.{ap, _∙_}
 use borrow.Author.Needs.{needs}
-use Rattle.capi.proofs.packets.ck_read_packet.Statement.{statement}
-use Rattle.capi.proofs.packets.ck_read_packet.Tie as tie
+use Rattle.capi.proofs.packets.read_packet_by.Statement.{statement}
+use Rattle.capi.proofs.packets.read_packet_by.Tie as tie
 
 packet-requires : tie.Need-packet-requires
 packet-requires c κs = search needs
@@ -30,6 +30,6 @@ returns c =
       places-left = c .before .before .before .before .before .packet .ensures .places-left ∙ ap (λ (r : Told Packet). listBy r (placesOf (kindIn r) (c .before .before .before .before .before .before .before .before .before .before .before .before .args .book .now) (takenDwords (c .before .before .before .before .before .before .before .before .before .before .before .before .args .text .now))) (c .before .before .before .before .before .before .before .before .before .before .before .before .args .places .now)) (c .before .before .before .before .before .packet .ensures .answer);
     }
 
-pub ck-read-packet-spec : {M : Type 1} → statement M
-ck-read-packet-spec =
+pub read-packet-by-spec : {M : Type 1} → statement M
+read-packet-by-spec =
     tie.close (tie.spec packet-requires text-packet-requires same-length same-length-2 returns)

@@ -1,10 +1,10 @@
--- `ck_what` meets its contract, by cases. Assumes nothing.
+-- `tell_what` meets its contract, by cases. Assumes nothing.
 use mathlib.Core.Path.{sym, ap, _∙_}
 use Rattle.intake.specs.What.{whatTold}
 use borrow.Author.Needs.{needs}
 use Rattle.capi.specs.Calls.{whatBy}
-use Rattle.capi.proofs.ck_what.Statement.{statement}
-use Rattle.capi.proofs.ck_what.Tie as tie
+use Rattle.capi.proofs.tell_what.Statement.{statement}
+use Rattle.capi.proofs.tell_what.Tie as tie
 
 what-is-requires : tie.Need-what-is-requires
 what-is-requires c κs = search needs
@@ -30,7 +30,7 @@ returns-3 : tie.Need-returns-3
 unfolding whatBy
 returns-3 c = rw (sym (c .before .before .before .what-is .ensures) ∙ ap whatTold (c .before .number .given .1))
 
-pub ck-what-spec : {M : Type 1} → statement M
-ck-what-spec =
+pub tell-what-spec : {M : Type 1} → statement M
+tell-what-spec =
     tie.close
     (tie.spec what-is-requires enum-told enum-told-2 enum-known-number returns returns-2 returns-3)

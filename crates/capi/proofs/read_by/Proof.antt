@@ -1,8 +1,8 @@
--- `ck_read` meets its contract: the intake's answer handed on. Assumes nothing.
+-- `read_by` meets its contract: the intake's answer handed on. Assumes nothing.
 use Rattle.capi.proofs.Calling.{handed-on}
 use borrow.Author.Needs.{needs}
-use Rattle.capi.proofs.ck_read.Statement.{statement}
-use Rattle.capi.proofs.ck_read.Tie as tie
+use Rattle.capi.proofs.read_by.Statement.{statement}
+use Rattle.capi.proofs.read_by.Tie as tie
 
 read-requires : tie.Need-read-requires
 read-requires c κs = search needs
@@ -16,5 +16,5 @@ same-length c = search needs
 returns : tie.Need-returns
 returns c = handed-on (c .answer-of .ensures) (c .before .before .before .read .ensures .answer) (c .before .before .before .read .ensures .slots)
 
-pub ck-read-spec : {M : Type 1} → statement M
-ck-read-spec = tie.close (tie.spec read-requires answer-of-requires same-length returns)
+pub read-by-spec : {M : Type 1} → statement M
+read-by-spec = tie.close (tie.spec read-requires answer-of-requires same-length returns)

@@ -1,6 +1,9 @@
-// The choice that a program is told on its command line: strict where nothing is said, lenient by the word.
+// The choice that a program is told on its command line: strict where nothing is said, lenient by the word. What the arguments are, the system says;
+// what they mean is promised.
 use scan::Pieces;
 use text::same::same;
+ghost use mathlib.Core.Path.{_≡_};
+ghost use Rattle.choice.specs.Words.{askedBy, NotStrict, StrictByNone};
 
 // The choice, or that the arguments are none that the program takes.
 pub enum Asked {
@@ -10,7 +13,12 @@ pub enum Asked {
 
 // What the arguments behind the first so many say, the program's name counted: nothing more is strict, `lenient` alone is lenient.
 pub fn ask_choice(before: usize) -> Asked {
-    let count = os::arg_count();
+    ask_among(os::arg_count(), before)
+}
+
+fn ask_among(count: usize, before: usize) -> Asked
+    ensures { λ r. ⌜ StrictByNone count before r ⌝ }
+{
     if count == before {
         return Asked::Choice(Pieces::Strict);
     }
@@ -24,13 +32,21 @@ pub fn ask_choice(before: usize) -> Asked {
 }
 
 // An argument that is longer than the buffer is no word of ours.
-fn choice_at(place: usize) -> Asked {
+fn choice_at(place: usize) -> Asked
+    ensures { λ r. ⌜ NotStrict r ⌝ }
+{
     let mut word = io::buffer();
     let n = os::arg(place, &mut word);
     if os::errno() != 0 {
         return Asked::Wrong;
     }
-    if same(&word[..n], b"lenient") {
+    choice_of(&word[..n])
+}
+
+fn choice_of(word: &[u8]) -> Asked
+    ensures { λ r. ⌜ r ≡ askedBy (now (word .entry)) ⌝ }
+{
+    if same(word, b"lenient") {
         return Asked::Choice(Pieces::Lenient);
     }
     Asked::Wrong

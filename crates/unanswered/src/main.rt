@@ -1,5 +1,6 @@
 // Matches the requests among the lines of standard input to their responses: a row for each line, at the end each request that waits still, then
-// the totals. Of the input one line and a table of 64 requests are kept, whatever its size.
+// the totals. Of the input one line and a table of 64 requests are kept, whatever its size. A line with a bad piece is refused; by the word
+// `lenient` the piece is left out.
 mod rows;
 mod state;
 
@@ -10,12 +11,15 @@ use channel::sentence::tell_fault;
 use channel::sink::flush;
 use channel::status::Status;
 use channel::status::give_status;
+use choice::Asked;
+use choice::ask_choice;
 use framing::Fed;
 use framing::Framing;
 use framing::feed;
 use libc::STDIN_FILENO;
 use rows::say_end;
 use rows::say_line;
+use scan::Pieces;
 use state::State;
 use state::begun;
 use state::closed;
@@ -25,21 +29,28 @@ ghost use Prim.Native.Nat.{_≤_};
 ghost use lib.ListN.{length};
 
 fn main() {
-    if os::arg_count() == 1 {
-        let mut input = io::large_buffer();
-        let mut unit = [0u8; 65539];
-        let mut out = io::large_buffer();
-        run(&mut input, &mut unit, &mut out);
-    } else {
-        tell(b"usage: unanswered < LINES\n");
-        give_status(Status::BadCall);
+    match ask_choice(1) {
+        Asked::Choice(pieces) => start(pieces),
+        Asked::Wrong => refuse_call(),
     }
 }
 
-fn run(input: &mut [u8], unit: &mut [u8], out: &mut [u8])
+fn refuse_call() {
+    tell(b"usage: unanswered [lenient] < LINES\n");
+    give_status(Status::BadCall);
+}
+
+fn start(pieces: Pieces) {
+    let mut input = io::large_buffer();
+    let mut unit = [0u8; 65539];
+    let mut out = io::large_buffer();
+    run(&mut input, &mut unit, &mut out, pieces);
+}
+
+fn run(input: &mut [u8], unit: &mut [u8], out: &mut [u8], pieces: Pieces)
     requires { ⌜ 65539 ≤ length (now unit) ⌝ }
 {
-    let end = read_all(input, unit, out);
+    let end = read_all(input, unit, out, pieces);
     let sink = flush(out, end.sink);
     if 0 < sink.errno {
         fail(b"writing standard output", sink.errno, sink.whole);
@@ -56,14 +67,14 @@ fn fail(call: &[u8], errno: u32, whole: u64) {
 }
 
 // Part after part to the end of the input. No input lasts for all the turns.
-fn read_all(input: &mut [u8], unit: &mut [u8], out: &mut [u8]) -> State
+fn read_all(input: &mut [u8], unit: &mut [u8], out: &mut [u8], pieces: Pieces) -> State
     requires { ⌜ 65539 ≤ length (now unit) ⌝ }
     ensures { λ r. ⌜ r .held ≤ length (now (unit .entry)) ⌝ }
 {
     let mut state = begun();
     let mut turns = u64::MAX;
     while 0 < turns {
-        state = read_next(input, unit, out, state);
+        state = read_next(input, unit, out, pieces, state);
         if !state.open {
             return state;
         }
@@ -73,19 +84,25 @@ fn read_all(input: &mut [u8], unit: &mut [u8], out: &mut [u8]) -> State
 }
 
 // The next part, or the end.
-fn read_next(input: &mut [u8], unit: &mut [u8], out: &mut [u8], state: State) -> State
+fn read_next(
+    input: &mut [u8],
+    unit: &mut [u8],
+    out: &mut [u8],
+    pieces: Pieces,
+    state: State,
+) -> State
     requires { ⌜ (65539 ≤ length (now unit)) × (state .held ≤ length (now unit)) ⌝ }
     ensures { λ r. ⌜ r .held ≤ length (now (unit .entry)) ⌝ }
 {
     match read_some(STDIN_FILENO, input) {
-        Got::Bytes(n) => take_part(&input[..n], unit, out, state),
-        Got::End => end_input(unit, out, state),
+        Got::Bytes(n) => take_part(&input[..n], unit, out, pieces, state),
+        Got::End => end_input(unit, out, pieces, state),
         Got::Failed(why) => unread(state, why),
     }
 }
 
 // All lines that end in a part; what is open is held. After a write that failed nothing more is read.
-fn take_part(part: &[u8], unit: &mut [u8], out: &mut [u8], state: State) -> State
+fn take_part(part: &[u8], unit: &mut [u8], out: &mut [u8], pieces: Pieces, state: State) -> State
     requires { ⌜ (65539 ≤ length (now unit)) × (state .held ≤ length (now unit)) ⌝ }
     ensures { λ r. ⌜ r .held ≤ length (now (unit .entry)) ⌝ }
 {
@@ -94,7 +111,7 @@ fn take_part(part: &[u8], unit: &mut [u8], out: &mut [u8], state: State) -> Stat
     while from < part.len() {
         let fed = feed(Framing::Lines, part, from, unit, now.held);
         from = fed.at;
-        now = take_fed(fed, unit, out, now);
+        now = take_fed(fed, unit, out, pieces, now);
         if 0 < now.sink.errno {
             return closed(now);
         }
@@ -102,25 +119,25 @@ fn take_part(part: &[u8], unit: &mut [u8], out: &mut [u8], state: State) -> Stat
     now
 }
 
-fn take_fed(fed: Fed, unit: &[u8], out: &mut [u8], state: State) -> State
+fn take_fed(fed: Fed, unit: &[u8], out: &mut [u8], pieces: Pieces, state: State) -> State
     requires { ⌜ fed .held ≤ length (now unit) ⌝ }
     ensures { λ r. ⌜ r .held ≤ length (now (unit .entry)) ⌝ }
 {
     let mut next = state;
     next.held = fed.held;
     if fed.whole {
-        return take_held(unit, out, next);
+        return take_held(unit, out, pieces, next);
     }
     next
 }
 
 // The line that is held. One that starts with A1 is refused as every other text that is no line.
-fn take_held(unit: &[u8], out: &mut [u8], state: State) -> State
+fn take_held(unit: &[u8], out: &mut [u8], pieces: Pieces, state: State) -> State
     requires { ⌜ state .held ≤ length (now unit) ⌝ }
     ensures { λ r. ⌜ r .held ≡ 0 ⌝ }
 {
     let held = state.held;
-    let said = say_line(&unit[..held], state.desk, out, state.sink);
+    let said = say_line(&unit[..held], pieces, state.desk, out, state.sink);
     let desk = said.desk;
     let sink = said.sink;
     State {
@@ -133,11 +150,11 @@ fn take_held(unit: &[u8], out: &mut [u8], state: State) -> State
 }
 
 // A last line with no newline counts if it has a byte. Then what waits, and the totals.
-fn end_input(unit: &[u8], out: &mut [u8], state: State) -> State
+fn end_input(unit: &[u8], out: &mut [u8], pieces: Pieces, state: State) -> State
     requires { ⌜ state .held ≤ length (now unit) ⌝ }
     ensures { λ r. ⌜ r .held ≤ length (now (unit .entry)) ⌝ }
 {
-    let last = take_last(unit, out, state);
+    let last = take_last(unit, out, pieces, state);
     let desk = last.desk;
     let sink = say_end(desk, out, last.sink);
     State {
@@ -149,12 +166,12 @@ fn end_input(unit: &[u8], out: &mut [u8], state: State) -> State
     }
 }
 
-fn take_last(unit: &[u8], out: &mut [u8], state: State) -> State
+fn take_last(unit: &[u8], out: &mut [u8], pieces: Pieces, state: State) -> State
     requires { ⌜ state .held ≤ length (now unit) ⌝ }
     ensures { λ r. ⌜ r .held ≤ length (now (unit .entry)) ⌝ }
 {
     if 0 < state.held {
-        return take_held(unit, out, state);
+        return take_held(unit, out, pieces, state);
     }
     state
 }

@@ -4,6 +4,7 @@ use channel::sink::say;
 use desk::Desk;
 use desk::note_at;
 use desk::step_line;
+use scan::Pieces;
 use table::place_of_rank;
 use table::slot_at;
 use table::waiting_held;
@@ -18,10 +19,10 @@ pub struct Said {
 }
 
 // A line's row.
-pub fn say_line(line: &[u8], desk: Desk, out: &mut [u8], sink: Sink) -> Said
-    ensures { λ r. ⌜ LineSaid (now (line .entry)) desk (now (out .entry)) sink (now (out .exit)) r ⌝ }
+pub fn say_line(line: &[u8], pieces: Pieces, desk: Desk, out: &mut [u8], sink: Sink) -> Said
+    ensures { λ r. ⌜ LineSaid pieces (now (line .entry)) desk (now (out .entry)) sink (now (out .exit)) r ⌝ }
 {
-    let turn = step_line(line, desk);
+    let turn = step_line(line, pieces, desk);
     let next = turn.desk;
     let told = turn.row;
     let mut row = [0u8; 256];

@@ -7,10 +7,10 @@ use Rattle.unanswered.proofs.read_all.Statement.{statement}
 use Rattle.unanswered.proofs.read_all.Tie as tie
 
 abbrev Inv-loop : tie.InvT-loop
-Inv-loop input₀ unit₀ out₀ state₀ turns₀ input unit out state turns = (length input ≡ length input₀) × (length unit ≡ length unit₀) × (length out ≡ length out₀) × (state .held ≤ length unit₀)
+Inv-loop input₀ unit₀ out₀ pieces state₀ turns₀ input unit out state turns = (length input ≡ length input₀) × (length unit ≡ length unit₀) × (length out ≡ length out₀) × (state .held ≤ length unit₀)
 
 abbrev μ-loop : tie.MeasureT-loop
-μ-loop input₀ unit₀ out₀ state₀ turns₀ input unit out state turns = turns
+μ-loop input₀ unit₀ out₀ pieces state₀ turns₀ input unit out state turns = turns
 
 begun-requires : tie.Need-begun-requires Inv-loop μ-loop
 begun-requires c κs = search needs

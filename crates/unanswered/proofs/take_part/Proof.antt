@@ -8,10 +8,10 @@ use Rattle.unanswered.proofs.take_part.Statement.{statement}
 use Rattle.unanswered.proofs.take_part.Tie as tie
 
 abbrev Inv-loop : tie.InvT-loop
-Inv-loop part unit₀ out₀ now₀ from₀ unit out now from = (length unit ≡ length unit₀) × (length out ≡ length out₀) × (from ≤ length part) × (now .held ≤ length unit₀)
+Inv-loop part unit₀ out₀ pieces now₀ from₀ unit out now from = (length unit ≡ length unit₀) × (length out ≡ length out₀) × (from ≤ length part) × (now .held ≤ length unit₀)
 
 abbrev μ-loop : tie.MeasureT-loop
-μ-loop part unit₀ out₀ now₀ from₀ unit out now from = length part - from
+μ-loop part unit₀ out₀ pieces now₀ from₀ unit out now from = length part - from
 
 loop-holds : tie.Need-loop-holds Inv-loop μ-loop
 loop-holds c = search needs

@@ -1,0 +1,2 @@
+-- What the arguments say.
+pub mod Words

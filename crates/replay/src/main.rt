@@ -88,7 +88,8 @@ fn answer_frame(line: &mut [u8], slots: &mut [u32], out: &mut [u8], at: usize, h
     }
     let lent = least(head.slots, slots.len());
     let room = make_room(out, at);
-    let end = put_answer(out, room, &line[..n], head.pieces, &mut slots[..lent]);
+    let pieces = head.pieces;
+    let end = put_answer(out, room, &line[..n], pieces, &mut slots[..lent]);
     Step {
         at: end,
         more: true,

@@ -9,6 +9,7 @@ use Rattle.text.specs.Decimal.{decimalText}
 use Rattle.text.specs.Quote.{bytes}
 use Rattle.tlv.specs.Number.{Bytes}
 use Rattle.print.specs.Put.{Placed}
+use Rattle.scan.specs.declared.Pieces.{Pieces}
 use Rattle.listing_rows.specs.Rows.{Put}
 use Rattle.listing_rows.proofs.Putting.{put-whole, put-then, put-size, word-number, word-length, newline-put}
 use Rattle.intake.specs.declared.What.{What}
@@ -40,9 +41,9 @@ unfolding whatRow
 outside-row e p = rw e p
 
 -- the row of the answer is that of the text
-pub answer-row : (t : List ℕ) {told : Told Grammar} {out exit : List ℕ} {r : ℕ} → told ≡ whatOf t → Put out 0 (whatRow told) exit r → Put out 0 (whatRow (whatOf t)) exit r
-answer-row t e p = rw e at p
+pub answer-row : (pieces : Pieces) (t : List ℕ) {told : Told Grammar} {out exit : List ℕ} {r : ℕ} → told ≡ whatOf pieces t → Put out 0 (whatRow told) exit r → Put out 0 (whatRow (whatOf pieces t)) exit r
+answer-row pieces t e p = rw e at p
 
 -- the row of the first 65,539 bytes is that of the whole text
-pub row-of-the-whole : (t : List ℕ) → Bytes t → (n : ℕ) → 65539 ≤ n → whatRow (whatOf (take n t)) ≡ whatRow (whatOf t)
-row-of-the-whole t bytes n h = ap whatRow (first-bytes-tell t bytes n h)
+pub row-of-the-whole : (pieces : Pieces) (t : List ℕ) → Bytes t → (n : ℕ) → 65539 ≤ n → whatRow (whatOf pieces (take n t)) ≡ whatRow (whatOf pieces t)
+row-of-the-whole pieces t bytes n h = ap whatRow (first-bytes-tell pieces t bytes n h)

@@ -3,17 +3,18 @@ use intake::What;
 use intake::what_is;
 use print::put::put;
 use print::put::put_decimal;
+use scan::Pieces;
 ghost use Prim.Native.Nat.{_≤_};
 ghost use lib.ListN.{length};
 ghost use Rattle.listing_rows.specs.Rows.{Put};
 ghost use Rattle.intake.specs.What.{whatTold, whatOf};
 ghost use Rattle.what.specs.Row.{neitherRow, whatRow};
 
-pub fn put_answer(out: &mut [u8], text: &[u8]) -> usize
+pub fn put_answer(out: &mut [u8], text: &[u8], pieces: Pieces) -> usize
     requires { ⌜ 32 ≤ length (now out) ⌝ }
-    ensures { λ r. ⌜ Put (now (out .entry)) 0 (whatRow (whatOf (now (text .entry)))) (now (out .exit)) r ⌝ }
+    ensures { λ r. ⌜ Put (now (out .entry)) 0 (whatRow (whatOf pieces (now (text .entry)))) (now (out .exit)) r ⌝ }
 {
-    put_what(out, what_is(text))
+    put_what(out, what_is(text, pieces))
 }
 
 fn put_what(out: &mut [u8], what: What) -> usize

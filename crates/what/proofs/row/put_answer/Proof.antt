@@ -14,7 +14,7 @@ same-length : tie.Need-same-length
 same-length c = search needs
 
 returns : tie.Need-returns
-returns c = answer-row _ (c .before .before .before .what-is .ensures) (c .before .before .put-what .ensures)
+returns c = answer-row _ _ (c .before .before .before .what-is .ensures) (c .before .before .put-what .ensures)
 
 pub put-answer-spec : {M : Type 1} → statement M
 put-answer-spec = tie.close (tie.spec what-is-requires put-what-requires same-length returns)

@@ -24,8 +24,8 @@ use scan::parse;
 ghost use Prim.Native.Nat.{_≤_};
 ghost use lib.ListN.{length};
 
-// The row of a line, read by the choice into the lent slots. It asks for a place inside the buffer, as all that it calls does: the program that has the
-// buffer goes on from where the last row ended.
+// The row of a line, read by the choice into the lent slots. It asks for a place inside the buffer, as all that it calls does: the program
+// that has the buffer goes on from where the last row ended.
 pub fn put_answer(
     out: &mut [u8],
     at: usize,

@@ -1,5 +1,5 @@
-// The choice that a program is told on its command line: strict where nothing is said, lenient by the word. What the arguments are, the system says;
-// what they mean is promised.
+// The choice that a program is told on its command line: strict where nothing is said, lenient by the word. Promised are what a word says, that no word says
+// strict, and that strict is the answer where there is no word. Which words there are the system says; that they are the ones read is run.
 use scan::Pieces;
 use text::same::same;
 ghost use mathlib.Core.Path.{_≡_};

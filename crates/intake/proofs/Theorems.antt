@@ -81,3 +81,10 @@ pub no-second-reading : (pieces : Pieces) (t slots : List ℕ) {left other : Lis
 no-second-reading pieces t slots {left} {other} {r} {q} a b =
     let same : answerTold r ≡ answerTold q = a .answer ∙ sym (b .answer) in
     (one-line-answer r q same, a .slots ∙ rw same (sym (b .slots)))
+
+-- a text that starts with A1 is read the same by either choice, slots included
+pub record-either-choice : (p q : Pieces) (t slots : List ℕ) → startsA1 t ≡ true → {left other : List ℕ} {r s : Answer} → Taken p t slots left r → Taken q t slots other s → (r ≡ s) × (left ≡ other)
+unfolding takenOf
+record-either-choice p q t slots first {left} {other} {r} {s} a b =
+    let same : answerTold r ≡ answerTold s = a .answer ∙ rw first (sym (b .answer ∙ rw first)) in
+    (one-line-answer r s same, a .slots ∙ rw same (sym (b .slots)))

@@ -25,7 +25,7 @@ pub data Grammar : Type 0 where
   record-grammar : Grammar
   line-grammar : Grammar
 
--- what each case of the answer tells: the grammar that the text belongs to, or document 01's number
+-- what each case of the answer tells: the grammar that the text belongs to, or the number of document 01 or 02
 abbrev pub whatTold : What → Told Grammar
 whatTold W.Record = is record-grammar
 whatTold W.Line = is line-grammar
@@ -52,7 +52,7 @@ pub record Outside (pieces : Pieces) (t : List ℕ) (k : ℕ) : Type 0 where
   pub no-line : (v : EntryValue) → Line pieces t v → ⊥
   pub number : Number pieces t k
 
--- what a text is, by the grammars and the numbers of document 01
+-- what a text is, by the grammars and the numbers of documents 01 and 02
 abbrev pub Is : Pieces → List ℕ → What → Type 0
 Is pieces t W.Record = (v : EntryValue) × IsRecord t v
 Is pieces t W.Line = (v : EntryValue) × Line pieces t v

@@ -19,7 +19,7 @@ ghost use Rattle.intake.specs.Packets.{PacketTaken, Handed};
 ghost use Rattle.text.specs.Told.{is};
 ghost use Rattle.intake.specs.What.{whatTold, grammarOf, whatOf};
 
-// What a text is: it belongs to the record grammar, to the line grammar, or to neither, and then this number refuses it.
+// What a text is: it belongs to the record grammar, to the line grammar of the choice, or to neither, and then this number refuses it.
 pub enum What {
     Record,
     Line,

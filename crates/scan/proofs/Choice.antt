@@ -3,7 +3,7 @@
 use Prim.Native.Nat.{ℕ, _≤_, _<_}
 use mathlib.Core.Path.{_≡_, refl, sym, ap, _∙_}
 use mathlib.Core.Bool.{Bool, true, false}
-use mathlib.Core.List.{List}
+use mathlib.Core.List.{List, [], _∷_}
 use mathlib.Core.Logic.{_↔_}
 use mathlib.Core.Option.{Option, some, none}
 use native.Mathlib.Omega.{arith}
@@ -17,7 +17,8 @@ use Rattle.entry.specs.Entry.{EntryValue}
 use Rattle.pairs.specs.declared.pair.Span.{Span}
 use Rattle.pairs.specs.declared.pair.Span.the-variants.{At, Nothing}
 use Rattle.pairs.specs.Pair.{lastPair}
-use Rattle.pairs.specs.Data.{dwordsOf, insideOf, dataIn, dataOf, badIn, badData}
+use Rattle.pairs.specs.Data.{Cut, BadAmong, insideOf, dataIn, dataOf, badIn, badData}
+use Rattle.pairs.specs.Data as Data
 use Rattle.scan.specs.declared.Pieces.{Pieces}
 use Rattle.scan.specs.declared.Pieces.the-variants.{Strict, Lenient}
 use Rattle.scan.specs.declared.Answer.{Answer}
@@ -215,6 +216,21 @@ strict-grammar t v = (
   (λ x. with-choice Strict (x .0) (λ b. x .1 (record { header = x .0 .header; payload = x .0 .payload; split = x .0 .split; there = b }))),
 )
 
+-- ---- a strict line has a dword
+
+cut-some : {l : List ℕ} {ps : List (List ℕ)} → Cut l ps → 1 ≤ length ps
+cut-some (Cut.last w) = omega arith
+cut-some (Cut.more w e c) = omega arith
+
+good-some : {ps : List (List ℕ)} {ds : List ℕ} → 1 ≤ length ps → Data.Dwords ps ds → (BadAmong ps → ⊥) → 1 ≤ length ds
+good-some one-piece Data.Dwords.empty n = absurd (omega arith)
+good-some one-piece (Data.Dwords.dword h r) n = omega arith
+good-some one-piece (Data.Dwords.left-out {p = p} {ps = ps} bad r) n = absurd (n (record { before = []; piece = p; after = ps; are = refl; bad = bad }))
+
+strict-some : (t : List ℕ) (v : EntryValue) → Line Strict t v → 1 ≤ length (v .dwords)
+strict-some t v l =
+    good-some (cut-some (l .dwords .brackets .cut-at)) (l .dwords .brackets .dwords) (λ b. l .good (record { dwords = v .dwords; are = l .dwords; piece = b }))
+
 -- ---- what the choice changes
 
 pub strict-and-lenient : StrictAndLenient
@@ -227,4 +243,5 @@ strict-and-lenient =
       lenient-never-18 = λ t out left p. lenient-no-18 t (length out) (line-number-exactly Lenient t (length out) 18 .0 (sym (p .answer)) .holds);
       accepted-by-both = λ t out strict left lenient left′ both e q. both-accept both e q;
       grammar = strict-grammar;
+      some-dword = strict-some;
     }

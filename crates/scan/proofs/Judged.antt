@@ -1,6 +1,6 @@
 -- The reading is the grammar's: each number is answered exactly where its condition holds and no earlier one does, and an entry exactly
 -- where none does, with what the line says. Each check's presence and absence come from that field's own soundness and completeness;
--- the chain puts them in the order of the numbers. Assumes nothing.
+-- the chain puts them in the order of the checks. Assumes nothing.
 use Prim.Native.Nat.{ℕ, _-_, _^_, _≤_, _<_}
 use mathlib.Core.Path.{_≡_, refl, sym, ap, _∙_}
 use mathlib.Core.Bool.{Bool, true, false, cond}

@@ -3,6 +3,7 @@ use Prim.Native.Nat.{ℕ, _≤_}
 use mathlib.Core.Path.{_≡_}
 use mathlib.Core.List.{List}
 use mathlib.Core.Logic.{_↔_}
+use lib.ListN.{length}
 use Rattle.entry.specs.declared.Entry.{Entry}
 use Rattle.entry.specs.Entry.{EntryValue}
 use Rattle.scan.specs.declared.Pieces.the-variants.{Strict, Lenient}
@@ -43,3 +44,5 @@ pub record StrictAndLenient : Type 0 where
       → (e : Entry) → strict ≡ A.Entry e → (lenient ≡ A.Entry e) × (left ≡ left′)
   -- the strict grammar is the lenient one without the lines that have a bad piece
   pub grammar : (t : List ℕ) (v : EntryValue) → Line Strict t v ↔ (Line Lenient t v × (Has t BadPiece → ⊥))
+  -- a strict line has a dword or more: brackets hold a piece, and none is left out
+  pub some-dword : (t : List ℕ) (v : EntryValue) → Line Strict t v → 1 ≤ length (v .dwords)

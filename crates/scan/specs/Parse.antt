@@ -1,4 +1,4 @@
--- The reading of a line: the stages in the order of their numbers.
+-- The reading of a line: the stages in the order of their checks.
 use Prim.Native.Nat.{ℕ, _+_, _-_}
 use mathlib.Core.Path.{_≡_}
 use mathlib.Core.List.{List, []}
@@ -99,7 +99,7 @@ lineDwords t = dwordsBy t (frameOf t)
 
 -- ---- what is promised
 
--- what each case of an answer tells: the entry, or document 01's number
+-- what each case of an answer tells: the entry, or the number of document 01 or 02
 abbrev pub answerTold : Answer → Told Entry
 answerTold (A.Entry e) = is e
 answerTold (A.Refused k) = refused k

@@ -47,7 +47,7 @@ pub fn read_data(p: &[u8], pieces: Pieces, slots: &mut [u32]) -> DataAnswer
     DataAnswer::Got(tally.dwords)
 }
 
-// What becomes of a line, by whether a piece of its data is bad.
+// Is a line refused, by whether a piece of its data is bad?
 fn refuse_bad(pieces: Pieces, bad: bool) -> bool
     ensures { λ r. ⌜ r ≡ refuses pieces bad ⌝ }
 {

@@ -73,6 +73,8 @@ pub record Reached : Type 0 where
   pub number-18 : Line.parseOf Strict (head ++ (front ++ bytes "data=[z]")) 256 ≡ refused 18
   pub number-18-before-16 : Line.parseOf Strict (head ++ (front ++ (bytes "data=[z, " ++ many 256))) 256 ≡ refused 18
   pub number-18-before-17 : Line.parseOf Strict (head ++ (front ++ bytes "data=[1, z]")) 0 ≡ refused 18
+  pub lenient-16-there : Line.parseOf Lenient (head ++ (front ++ (bytes "data=[z, " ++ many 256))) 256 ≡ refused 16
+  pub lenient-17-there : Line.parseOf Lenient (head ++ (front ++ bytes "data=[1, z]")) 0 ≡ refused 17
   pub number-20 : Packet.parseOf 1 (1 ∷ []) [] 256 ≡ refused 20
   pub number-20-book : checkOf (1 ∷ []) ≡ refused 20
   pub number-21 : Packet.parseOf 0 plainBook [] 256 ≡ refused 21
@@ -115,6 +117,8 @@ reached =
       number-18 = refl;
       number-18-before-16 = refl;
       number-18-before-17 = refl;
+      lenient-16-there = refl;
+      lenient-17-there = refl;
       number-20 = refl;
       number-20-book = refl;
       number-21 = refl;

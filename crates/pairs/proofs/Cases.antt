@@ -38,7 +38,7 @@ pub case-P6 : P6
 unfolding computes
 case-P6 = record { value-at = refl; dwords = refl }
 
--- `data=[0x1,0x2]`: no dwords, accepted
+-- `data=[0x1,0x2]`: no dwords; accepted in lenient
 pub record P7 : Type 0 where
   pub value-at : lastPair (bytes "data=[0x1,0x2]") (bytes "data") ≡ At 5 14
   pub dwords : dataOf (bytes "[0x1,0x2]") ≡ some []

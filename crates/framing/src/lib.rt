@@ -31,7 +31,8 @@ pub struct UnitEnd {
 }
 
 // The part's bytes from a place on into the unit behind what is held, up to where the unit is whole, else to the part's end.
-// Asked for: a byte at the place, and a unit buffer of one byte more than a record's length can state.
+// Asked for: a byte at the place, and a unit buffer of one byte more than a record's length can state. The loops over a part, in `filters`, `moving`,
+// `unanswered` and `why`, go on while a byte is left and have such a buffer.
 pub fn feed(framing: Framing, part: &[u8], from: usize, unit: &mut [u8], held: usize) -> Fed
     requires { ⌜ (from < length (now part)) × (held ≤ length (now unit)) × (65539 ≤ length (now unit)) ⌝ }
     ensures { λ r. ⌜ FedBy framing (now (part .entry)) from (now (unit .entry)) held (now (unit .exit)) r ⌝ }

@@ -11,7 +11,6 @@ use Rattle.text.specs.declared.number.Number.the-variants as N
 use Rattle.text.specs.Number.{hexNumberOf}
 use Rattle.text.proofs.Hexes.{hex-is, hex-all}
 use Rattle.text.proofs.Places.{clash}
-use Rattle.pairs.specs.declared.dwords.Piece.{Piece}
 use Rattle.pairs.specs.declared.dwords.Piece.the-variants.{Dword, Bad}
 use Rattle.pairs.specs.Pair.{part}
 use Rattle.pairs.specs.Data.{NoDword, BadAmong, Data, pieceOf, isBad, anyBad, badOf, pieceEnd, badIn, badData}

@@ -3,7 +3,7 @@
 use Prim.Native.Nat.{ℕ, _≤_, _<_}
 use mathlib.Core.Path.{_≡_, refl, sym, ap, _∙_}
 use mathlib.Core.Bool.{Bool, true, false}
-use mathlib.Core.List.{List, [], _∷_}
+use mathlib.Core.List.{List, []}
 use mathlib.Core.Logic.{_↔_}
 use mathlib.Core.Option.{Option, some, none}
 use native.Mathlib.Omega.{arith}
@@ -27,7 +27,7 @@ use Rattle.scan.specs.Need.{need}
 use Rattle.scan.specs.Frame.{frameOf}
 use Rattle.scan.specs.Body.{textAt}
 use Rattle.scan.specs.Dwords.{payloadData, payloadBad, refuses, dataAnswer}
-use Rattle.scan.specs.Parse.{payloadOf, withData, withBody, payloadAnswer, withHead, partedAnswer, withFrame, parseOf, lineDwords, answerTold, slotsBy, Parsed}
+use Rattle.scan.specs.Parse.{payloadOf, withBody, payloadAnswer, withHead, partedAnswer, withFrame, parseOf, answerTold, Parsed}
 use Rattle.scan.specs.Line.{BadPiece, BadFor, Line, Has, Condition, orderOf, Applies}
 use Rattle.scan.specs.Choice.{BothCalls, Behind15, StrictAndLenient}
 use Rattle.scan.proofs.Frames.{frame-passed}
@@ -118,6 +118,12 @@ module _ (t : List ℕ) (room : ℕ) where
 
 -- ---- two calls
 
+-- the number that a call answers
+call-number : (pieces : Pieces) (t out : List ℕ) {answer : Answer} {left : List ℕ} → Parsed pieces t out left answer → (k : ℕ) → (answer ≡ A.Refused k) ↔ Applies pieces t (length out) k
+call-number pieces t out {answer} p k =
+    let exactly = line-number-exactly pieces t (length out) k in
+    ((λ e. exactly .0 (sym (p .answer) ∙ ap answerTold e)), (λ a. one-line-answer answer (A.Refused k) (p .answer ∙ exactly .1 a)))
+
 module _ {t out : List ℕ} {strict : Answer} {left : List ℕ} {lenient : Answer} {left′ : List ℕ} (both : BothCalls t out strict left lenient left′) where
   calls-same : (Has t BadPiece → ⊥) → (strict ≡ lenient) × (left ≡ left′)
   calls-same n =
@@ -125,14 +131,10 @@ module _ {t out : List ℕ} {strict : Answer} {left : List ℕ} {lenient : Answe
       (one-line-answer strict lenient e, both .strict-call .slots ∙ rw e (sym (both .lenient-call .slots)))
 
   strict-number : (k : ℕ) → (strict ≡ A.Refused k) ↔ Applies Strict t (length out) k
-  strict-number k =
-      let exactly = line-number-exactly Strict t (length out) k in
-      ((λ e. exactly .0 (sym (both .strict-call .answer) ∙ ap answerTold e)), (λ a. one-line-answer strict (A.Refused k) (both .strict-call .answer ∙ exactly .1 a)))
+  strict-number = call-number Strict t out (both .strict-call)
 
   lenient-number : (k : ℕ) → (lenient ≡ A.Refused k) ↔ Applies Lenient t (length out) k
-  lenient-number k =
-      let exactly = line-number-exactly Lenient t (length out) k in
-      ((λ e. exactly .0 (sym (both .lenient-call .answer) ∙ ap answerTold e)), (λ a. one-line-answer lenient (A.Refused k) (both .lenient-call .answer ∙ exactly .1 a)))
+  lenient-number = call-number Lenient t out (both .lenient-call)
 
   -- behind 18 of strict stands what lenient says
   behind-18 : Applies Strict t (length out) 18 → (r : Answer) → lenient ≡ r → Behind15 r

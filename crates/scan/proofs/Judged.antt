@@ -47,7 +47,7 @@ use Rattle.scan.specs.Head.{headOf, head6, head7, head8, head9, headGot}
 use Rattle.scan.specs.Body.{textAt, hexByte, hexWord, decimalByte, decimalWord, droppedOf, optionalsOf, body11, body12, body13, body14, bodyOf}
 use Rattle.scan.specs.Dwords.{payloadData, payloadBad, refuses, data16, data18, dataAnswer}
 use Rattle.scan.specs.Parse.{headerOf, payloadOf, startOf, entryOf, withData, withBody, payloadAnswer, withHead, partedAnswer, withFrame, parseOf, dwordsBy, lineDwords}
-use Rattle.scan.specs.Line.{KeyText, KeyDecimal, KeyHex, Dwords, BadPiece, BadFor, Line, Missing, Has, MoreThan, Stamped, Condition, orderOf}
+use Rattle.scan.specs.Line.{KeyText, KeyDecimal, KeyHex, Dwords, BadFor, Line, Missing, Has, MoreThan, Stamped, Condition, orderOf}
 use Rattle.scan.proofs.Frames.{idle-empty, idle-comment, idle-one, idle-not, frame-passed, frame-colon}
 use Rattle.scan.proofs.Splits.{split-is, split-colon, one-header, one-payload}
 use Rattle.scan.proofs.Keys.{key-text-is, key-text-all, key-decimal-is, key-decimal-all, key-hex-is, key-hex-all}

@@ -31,7 +31,7 @@ use Rattle.scan.specs.declared.Answer.{Answer}
 use Rattle.scan.specs.declared.Answer.the-variants as A
 use Rattle.scan.specs.Frame.{Split}
 use Rattle.scan.specs.Parse.{parseOf, lineDwords, answerTold, slotsBy, Parsed}
-use Rattle.scan.specs.Line.{KeyText, KeyDecimal, KeyHex, Optional, Dropped, Dwords, BadFor, Line, Has, MoreThan, Condition, orderOf, Applies}
+use Rattle.scan.specs.Line.{KeyText, KeyDecimal, KeyHex, Optional, Dropped, Dwords, Line, Has, MoreThan, Condition, orderOf, Applies}
 use Rattle.scan.proofs.Splits.{split-colon, one-header, one-payload}
 use Rattle.scan.proofs.Values.{dwords-part, dwords-whole}
 use Rattle.scan.proofs.Chain.{one-order, past-order, Clear, Answered}

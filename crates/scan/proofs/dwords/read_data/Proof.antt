@@ -1,10 +1,6 @@
 -- `dwords::read_data` meets its contract: all is judged by the count of the pieces before a dword is written. Assumes nothing.
 use Rattle.scan.proofs.Stages.{data-missing, data-unbracketed, data-there, bad-there, data-bad, data-many, data-crowded, data-got}
-use Rattle.pairs.specs.Data.{insideOf, dwordsOf}
-use Rattle.pairs.specs.Pair.{part, lastPair}
-use Rattle.pairs.specs.declared.pair.Span.the-variants.{At}
-use Rattle.text.specs.Quote.{bytes}
-use mathlib.Core.Path.{_≡_, sym, _∙_}
+use mathlib.Core.Path.{sym, _∙_}
 use native.Mathlib.Omega.{arith}
 use borrow.Author.Needs.{needs}
 use Rattle.scan.proofs.dwords.read_data.Statement.{statement}

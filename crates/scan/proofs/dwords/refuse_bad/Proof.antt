@@ -1,5 +1,4 @@
 -- `dwords::refuse_bad` meets its contract, one case of the choice each. Assumes nothing.
-use mathlib.Core.Path.{sym}
 use borrow.Author.Needs.{needs}
 use Rattle.scan.specs.Dwords.{refuses}
 use Rattle.scan.proofs.dwords.refuse_bad.Statement.{statement}

@@ -1,0 +1,2 @@
+-- No call answers 10.
+pub mod Retired

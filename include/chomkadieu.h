@@ -22,7 +22,7 @@ extern "C" {
 #endif
 
 /* A number of 0 is success. All others say why there is no answer, and then all that was lent is as it was found. Of several the first is told;
- * 18 comes after 15 and before 16. */
+ * 18 comes after 15 and before 16. 10 stands for nothing: no call answers it. */
 enum {
     CK_OK = 0,
     CK_IDLE = 1,              /* the line is empty, a newline alone, or a comment */
@@ -34,7 +34,6 @@ enum {
     CK_NO_CPU = 7,            /* the header has no CPU in brackets */
     CK_NO_TIMESTAMP = 8,      /* the header has no timestamp, or one with a part past 63 bits */
     CK_NO_FUNCTION = 9,       /* the header does not end with a function */
-    CK_NO_EQUALS = 10,        /* a pair has no `=` */
     CK_NO_TYPE = 11,          /* the payload has no `type` */
     CK_NO_SIZE = 12,          /* `size` is missing or no decimal of 16 bits */
     CK_NO_DOMAIN = 13,        /* `domain` is missing or no decimal of 32 bits */
@@ -129,27 +128,27 @@ typedef struct ck_event_text {
  * piece is refused with 18. Those whose names end in `_lenient` leave bad pieces out, so that the dwords behind one move up. All else is the same in
  * both, and records, which have no pieces, are read alike. */
 
-/* The entry of a line of trace, its newline lent or not. Numbers 1 to 18. */
+/* The entry of a line of trace, its newline lent or not. Numbers 1 to 9, 11 to 18. */
 ck_entry_answer ck_parse(const uint8_t *line, size_t length, uint32_t *slots, size_t count);
 
-/* The same, but a bad piece is left out. Numbers 1 to 17. */
+/* The same, but a bad piece is left out. Numbers 1 to 9, 11 to 17. */
 ck_entry_answer ck_parse_lenient(const uint8_t *line, size_t length, uint32_t *slots, size_t count);
 
 /* The entry of a record. Numbers 30 to 35. */
 ck_entry_answer ck_record_read(const uint8_t *text, size_t length, uint32_t *slots, size_t count);
 
-/* The entry of a text that is taken as a record if its first byte is A1, else as a line. Numbers 1 to 18, 30 to 35. */
+/* The entry of a text that is taken as a record if its first byte is A1, else as a line. Numbers 1 to 9, 11 to 18, 30 to 35. */
 ck_entry_answer ck_read(const uint8_t *text, size_t length, uint32_t *slots, size_t count);
 
-/* The same, but a bad piece of a line is left out. Numbers 1 to 17, 30 to 35. */
+/* The same, but a bad piece of a line is left out. Numbers 1 to 9, 11 to 17, 30 to 35. */
 ck_entry_answer ck_read_lenient(const uint8_t *text, size_t length, uint32_t *slots, size_t count);
 
 /* What a text is: CK_IS_RECORD exactly when it belongs to the record grammar, being decoded already; CK_IS_LINE exactly when it belongs to
- * the line grammar, with no bad piece; else CK_IS_NEITHER with the number that ck_read gives with CK_MOST_DWORDS slots. Numbers 1 to 16, 18, 30 to
- * 34. */
+ * the line grammar, with no bad piece; else CK_IS_NEITHER with the number that ck_read gives with CK_MOST_DWORDS slots. Numbers 1 to 9, 11 to
+ * 16, 18, 30 to 34. */
 ck_what_answer ck_what(const uint8_t *text, size_t length);
 
-/* The same, but a line may have bad pieces, and the number is that of ck_read_lenient. Numbers 1 to 16, 30 to 34. */
+/* The same, but a line may have bad pieces, and the number is that of ck_read_lenient. Numbers 1 to 9, 11 to 16, 30 to 34. */
 ck_what_answer ck_what_lenient(const uint8_t *text, size_t length);
 
 /* The record of an entry whose task and function lie in the text and whose dwords are the first of those lent, into the first bytes of the
@@ -191,7 +190,7 @@ ck_packet_answer ck_checked_packet(uint8_t kind, const uint8_t *book, size_t boo
 typedef struct ck_text_packet {
     uint8_t kind;              /* the packet's kind, 0 if it is refused */
     size_t dwords;             /* how many dwords it has, 0 if it is refused */
-    ck_packet_answer packet;   /* its number is the text's (1 to 18, 30 to 35) or the packet's (20 to 26) */
+    ck_packet_answer packet;   /* its number is the text's (1 to 9, 11 to 18, 30 to 35) or the packet's (20 to 26) */
 } ck_text_packet;
 
 /* The packet of a text that is a record if it starts with A1, else a line: its dwords into the first slots, the place of each one's entry into

@@ -108,7 +108,7 @@ def data_lines():
 
 
 def earlier():
-    """A bad piece, with slots and without, in lines that an earlier number refuses: each of 1 to 15, but 10."""
+    """A bad piece, with slots and without, in lines that an earlier number refuses: each of 1 to 15 (there is no 10)."""
     keys = [b"type=t", b"size=3", b"domain=0", b"route=0"]
     bad = b" ".join(keys) + b" data=[1, z]"
     lines = [b"#" + HEAD + bad, (HEAD + bad).ljust(4097), HEAD + bad + b"\x80", (HEAD + bad).replace(b":", b";")]

@@ -141,6 +141,7 @@ ck_entry_answer __wrap_ck_read(const uint8_t *, size_t, uint32_t *, size_t);
 ck_entry_answer __wrap_ck_read(const uint8_t *text, size_t len, uint32_t *slots, size_t count) {
     ck_entry_answer a = __real_ck_read(text, len, slots, count);
     if (is("ck_read")) a.entry.seq ^= 1;
+    if (is("a number that no text has") && a.number) a.number = 10;
     put_18(&a, text, len, slots, count);
     if (is("a bad piece at the intake") && a.number == CK_BAD_PIECE) a = __real_ck_read_lenient(text, len, slots, count);
     if (is("a dword at the intake") && a.entry.dwords) slots[0] ^= 1;
@@ -201,7 +202,7 @@ ck_entry_answer __wrap_ck_parse(const uint8_t *line, size_t len, uint32_t *slots
     int guarded = second();
     if (is("ck_parse")) a.entry.route ^= 1;
     put_18(&a, line, len, slots, count);
-    if (is("a number that no line has") && a.number) a.number = CK_NO_EQUALS;
+    if (is("a number that no line has") && a.number) a.number = 10;
     if (is("an entry with a refusal") && a.number) a.entry.kind = 1;
     if (is("a task outside the line") && !a.number) a.entry.task_at = len;
     if (is("what slots held") && !a.number && a.entry.dwords < count) a.entry.pid ^= slots[count - 1];

@@ -66,6 +66,7 @@ static void what_by_reading(const calls *by, part text) {
 static void by_choice(const calls *by, told *e, taken *packet, part text, part book, size_t slots, size_t places) {
     read_into(e, by->read, text.at, text.len, slots);
     must(e->number <= CK_BAD_PIECE || (e->number >= CK_NO_RECORD && e->number <= CK_FEW_RECORD_SLOTS), "the intake gives 0, 1 to 18 or 30 to 35");
+    must(e->number != 10, "and never 10");
     must(e->number == CK_OK || (text.len && text.at[0] == 0xa1) == (e->number >= CK_NO_RECORD), "30 and up are of texts that start with A1");
     what_by_reading(by, text);
     take_packet(packet, by, text, book, slots, places);

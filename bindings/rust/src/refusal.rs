@@ -55,7 +55,6 @@ refusals! {
     NoCpu = 7, "the header has no CPU in brackets";
     NoTimestamp = 8, "the header has no timestamp, or one with a part past 63 bits";
     NoFunction = 9, "the header does not end with a function";
-    NoEquals = 10, "a pair has no `=`";
     NoType = 11, "the payload has no `type`";
     NoSize = 12, "`size` is missing or no decimal of 16 bits";
     NoDomain = 13, "`domain` is missing or no decimal of 32 bits";

@@ -144,7 +144,8 @@ fn each_number_has_one_case_and_a_sentence_of_its_own() {
         .iter()
         .map(|refusal| refusal.number())
         .collect();
-    let expected: Vec<u8> = (1..=18)
+    let expected: Vec<u8> = (1..=9)
+        .chain(11..=18)
         .chain(20..=28)
         .chain(30..=37)
         .chain(50..=51)

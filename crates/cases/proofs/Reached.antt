@@ -1,5 +1,5 @@
--- Every number of document 01, and 18 of document 02, with an input that is given it, as one list with a single statement; 10 alone has none
--- (`number-10-never` in crates/scan/proofs/Theorems.antt). A line's number is given by either choice, 18 by strict alone. All are computed.
+-- Every number of document 01 but 10, which document 02 takes out, and 18 of document 02, with an input that is given it, as one list with a single
+-- statement; crate `retired` says that no call answers 10. A line's number is given by either choice, 18 by strict alone. All are computed.
 -- Assumes nothing.
 use Prim.Native.Nat.{ℕ, zero, suc}
 use mathlib.Core.Path.{_≡_, refl}

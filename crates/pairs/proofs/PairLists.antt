@@ -1,15 +1,13 @@
 -- The pairs of a text: each search starts behind the last match, so the list from a place is the next match and the list from its end, and
 -- as each next match is one, so is the list. Assumes nothing.
 use Prim.Native.Nat.{ℕ, zero, suc, _+_, _-_, _≤_}
-use mathlib.Core.Path.{_≡_, refl, ap, _∙_}
-use mathlib.Core.Bool.{true, false}
+use mathlib.Core.Path.{_≡_, refl}
 use mathlib.Core.List.{List, [], _∷_, _++_}
 use native.Mathlib.Omega.{arith}
-use lib.ListN.{length, getD}
-use borrow.Author.Tests.{eq-eqb, ne-eqb}
+use lib.ListN.{length}
 use Rattle.pairs.specs.declared.pair.Pair.{Pair}
 use Rattle.pairs.specs.declared.pair.Pair.the-variants.{Hit, Miss}
-use Rattle.pairs.specs.Pair.{PairAt, Match, Pairs, WithoutEquals, nextPair, followed, pairsWithin, pairsFrom, anyWithout, pairWithoutEquals}
+use Rattle.pairs.specs.Pair.{PairAt, Match, Pairs, nextPair, followed, pairsWithin, pairsFrom}
 use Rattle.pairs.proofs.Matches.{pair-is, one-pair, no-pair-is, next-rise}
 
 -- a pair by its places
@@ -69,31 +67,3 @@ module _ (s : List ℕ) where
       PairAt s (p .key) (p .equals) (p .end)
   pairs-each [] r (Pairs.next f t) = f .here
   pairs-each (q ∷ l) r (Pairs.next f t) = pairs-each l r t
-
-  -- a pair without its `=`, as a walk looks for it
-  pub without-here : (from : ℕ) {i m e : ℕ} → nextPair s from ≡ Hit i m e → (getD s m 0 ≡ 61 → ⊥) →
-      anyWithout s (pairsFrom s from) ≡ true
-  unfolding anyWithout
-  without-here from q n = rw (pairs-next from q, ne-eqb _ _ n)
-
-  pub without-next : (from : ℕ) {i m e : ℕ} → nextPair s from ≡ Hit i m e → getD s m 0 ≡ 61 →
-      anyWithout s (pairsFrom s from) ≡ anyWithout s (pairsFrom s e)
-  unfolding anyWithout
-  without-next from q h = ap (anyWithout s) (pairs-next from q) ∙ rw (eq-eqb _ _ h)
-
-  pub without-end : (from : ℕ) → nextPair s from ≡ Miss → anyWithout s (pairsFrom s from) ≡ false
-  unfolding anyWithout
-  without-end from q = ap (anyWithout s) (pairs-end from q)
-
-  -- no pair lacks its `=`
-  pub no-pair-without-equals : WithoutEquals s → ⊥
-  no-pair-without-equals w = w .no-equals (pairs-each (w .before) (w .after) (w .all) .equals)
-
-  none-without : {from : ℕ} {l : List Match} → Pairs s from l → anyWithout s l ≡ false
-  unfolding anyWithout
-  none-without (Pairs.none n) = refl
-  none-without (Pairs.next f r) = rw (eq-eqb _ _ (f .here .equals)) (none-without r)
-
-  pub never-without-equals : pairWithoutEquals s ≡ false
-  unfolding pairWithoutEquals
-  never-without-equals = none-without (pairs-are 0)

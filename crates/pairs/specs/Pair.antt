@@ -1,7 +1,7 @@
 -- The pairs of a payload, and the last pair of a key.
 use Prim.Native.Nat.{ℕ, zero, suc, _+_, _-_, _≤_, _<_}
 use mathlib.Core.Path.{_≡_}
-use mathlib.Core.Bool.{Bool, true, false, cond, not, _&&_, _||_}
+use mathlib.Core.Bool.{Bool, true, false, cond, _&&_}
 use mathlib.Core.List.{List, [], _∷_, _++_}
 use lib.Dec.{ltb}
 use lib.ListN.{length, getD, take, drop}
@@ -85,14 +85,6 @@ pub record KeyMissing (s key : List ℕ) : Type 0 where
   pub all : Pairs s 0 pairs
   pub none : Lacks s key pairs
 
--- some pair lacks its `=`
-pub record WithoutEquals (s : List ℕ) : Type 0 where
-  pub before : List Match
-  pub found : Match
-  pub after : List Match
-  pub all : Pairs s 0 (before ++ (found ∷ after))
-  pub no-equals : getD s (found .equals) 0 ≡ 61 → ⊥
-
 -- where the brackets from v on end, if they stand there
 unfoldable pub bracketEnd : List ℕ → ℕ → Found
 bracketEnd s v =
@@ -156,15 +148,6 @@ lastIn s key best (p ∷ l) = lastIn s key (newer s key best p) l
 -- the value of the last pair of the key
 unfoldable pub lastPair : List ℕ → List ℕ → Span
 lastPair s key = lastIn s key Nothing (pairsFrom s 0)
-
--- some pair of the list lacks its `=`
-unfoldable pub anyWithout : List ℕ → List Match → Bool
-anyWithout s [] = false
-anyWithout s (p ∷ l) = not (isAt 61 s (p .equals)) || anyWithout s l
-
--- some pair lacks its `=`
-unfoldable pub pairWithoutEquals : List ℕ → Bool
-pairWithoutEquals s = anyWithout s (pairsFrom s 0)
 
 -- the decimal number in a part of s
 unfoldable pub decimalIn : List ℕ → ℕ → Span → Number

@@ -1,4 +1,4 @@
-// Pairs from the left, each search from where the last pair ended, and what is asked of all of them.
+// Pairs from the left, each search from where the last pair ended, and the last pair of a key.
 use text::class::Class;
 use text::place::Found;
 use text::place::byte_at;
@@ -11,7 +11,7 @@ ghost use lib.ListN.{length};
 ghost use Rattle.text.specs.Class.{inClass};
 ghost use Rattle.text.specs.Run.{runStart};
 ghost use Rattle.text.specs.declared.class.Class.the-variants.{NotClose};
-ghost use Rattle.pairs.specs.Pair.{bracketEnd, valueEnd, pairWith, NextPair, pairWithoutEquals, ValueAt};
+ghost use Rattle.pairs.specs.Pair.{bracketEnd, valueEnd, pairWith, NextPair, ValueAt};
 
 // A pair by its places: where its key starts, where its `=` stands, where its value ends.
 pub enum Pair {
@@ -58,31 +58,6 @@ pub fn last_pair(s: &[u8], key: &[u8]) -> Span
             }
             Pair::Miss => {
                 return best;
-            }
-        }
-    }
-}
-
-// Does some pair lack its `=`? None can, by the grammar: the walk is the check that number 10 stands for.
-pub fn pair_without_equals(s: &[u8]) -> bool
-    ensures { λ r. ⌜ r ≡ pairWithoutEquals (now (s .entry)) ⌝ }
-{
-    let tail = run_start(s, Class::NotClose);
-    let mut at = 0;
-    loop {
-        match next_before(s, at, tail) {
-            Pair::Hit {
-                key: _,
-                equals: m,
-                end: e,
-            } => {
-                if byte_at(s, m) != b'=' {
-                    return true;
-                }
-                at = e;
-            }
-            Pair::Miss => {
-                return false;
             }
         }
     }

@@ -17,8 +17,6 @@ pub const NO_TIMESTAMP: u8 = 8;
 
 pub const NO_FUNCTION: u8 = 9;
 
-pub const NO_EQUALS: u8 = 10;
-
 pub const NO_TYPE: u8 = 11;
 
 pub const NO_SIZE: u8 = 12;

@@ -30,7 +30,7 @@ use Rattle.scan.specs.Parse.{entryOf, withData, withBody, payloadAnswer,
 
 -- one word for all that a whole line computes with
 unfoldable pub computes : Unit {0}
-unfolding between isBlank isDigit isLetter isWord inClass digitOf value allDigits numberOf badFirst valueWithin readingOf digitsFrom hexOf readValue numberValue firstOf firstIn foundBelow firstPlace lastPlace byteBefore lastByte runEnd behind runStart stripped sameText byDirection otherKind kindOf dashAt firstRun taskOf digitsBehind pidOf cpuAt digitsWithin cpuOf Stamp.followed Stamp.stampAt Stamp.bothRead Stamp.readStamp Stamp.stampFrom Stamp.stampOf functionOf Pair.bracketEnd Pair.valueEnd Pair.withValue Pair.pairWith Pair.pairAt Pair.isHit Pair.pairFrom Pair.nextPair Pair.followed Pair.pairsWithin Pair.pairsFrom Pair.newer Pair.lastIn Pair.lastPair Pair.anyWithout Pair.pairWithoutEquals Pair.decimalIn Pair.decimalOf Pair.hexIn Pair.hexAt Data.ahead Data.cut Data.pieceBy Data.pieceOf Data.taken Data.dwordsIn Data.dwordsOf Data.isBad Data.anyBad Data.badOf Data.insideOf Data.dataIn Data.dataOf Data.badIn Data.badData placeValue stampValue idle firstHigh frameColon frameAscii frameOf headOf textAt asByte asWord hexByte hexWord decimalByte decimalWord isOne droppedOf optionalsOf bodyOf payloadData payloadBad refuses dataAnswer entryOf withData withBody payloadAnswer withHead partedAnswer withFrame parseOf dwordsBy lineDwords
+unfolding between isBlank isDigit isLetter isWord inClass digitOf value allDigits numberOf badFirst valueWithin readingOf digitsFrom hexOf readValue numberValue firstOf firstIn foundBelow firstPlace lastPlace byteBefore lastByte runEnd behind runStart stripped sameText byDirection otherKind kindOf dashAt firstRun taskOf digitsBehind pidOf cpuAt digitsWithin cpuOf Stamp.followed Stamp.stampAt Stamp.bothRead Stamp.readStamp Stamp.stampFrom Stamp.stampOf functionOf Pair.bracketEnd Pair.valueEnd Pair.withValue Pair.pairWith Pair.pairAt Pair.isHit Pair.pairFrom Pair.nextPair Pair.followed Pair.pairsWithin Pair.pairsFrom Pair.newer Pair.lastIn Pair.lastPair Pair.decimalIn Pair.decimalOf Pair.hexIn Pair.hexAt Data.ahead Data.cut Data.pieceBy Data.pieceOf Data.taken Data.dwordsIn Data.dwordsOf Data.isBad Data.anyBad Data.badOf Data.insideOf Data.dataIn Data.dataOf Data.badIn Data.badData placeValue stampValue idle firstHigh frameColon frameAscii frameOf headOf textAt asByte asWord hexByte hexWord decimalByte decimalWord isOne droppedOf optionalsOf bodyOf payloadData payloadBad refuses dataAnswer entryOf withData withBody payloadAnswer withHead partedAnswer withFrame parseOf dwordsBy lineDwords
 computes = tt
 
 -- P8 in a line: `data=[]` is refused with 15, in both

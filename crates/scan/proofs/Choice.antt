@@ -194,7 +194,6 @@ with-choice q l good =
       cpu = l .cpu;
       timestamp = l .timestamp;
       function = l .function;
-      equals = l .equals;
       kind = l .kind;
       size = l .size;
       dropped = l .dropped;

@@ -32,9 +32,8 @@ use Rattle.header.proofs.Dashes.{task-is, task-all, task-within, pid-is, pid-al
 use Rattle.header.proofs.Cpus.{cpu-is, cpu-all}
 use Rattle.header.proofs.Stamps.{timestamp-is, timestamp-all}
 use Rattle.header.proofs.Functions.{function-is, function-all, function-within}
-use Rattle.pairs.specs.Pair.{lastPair, decimalOf, hexAt, pairWithoutEquals, WithoutEquals}
+use Rattle.pairs.specs.Pair.{lastPair, decimalOf, hexAt}
 use Rattle.pairs.specs.Data.{anyBad, dataOf}
-use Rattle.pairs.proofs.PairLists.{no-pair-without-equals, never-without-equals}
 use Rattle.pairs.proofs.Slots.{data-is, data-all}
 use Rattle.pairs.proofs.BadPieces.{any-bad-is, any-bad-all, bad-data-is}
 use Rattle.scan.specs.declared.Pieces.{Pieces}
@@ -44,7 +43,7 @@ use Rattle.scan.specs.declared.body.Body.{Body}
 use Rattle.scan.specs.Need.{placeValue, Moment, stampValue}
 use Rattle.scan.specs.Frame.{Idle, High, Split, idle, firstHigh, frameColon, frameAscii, frameOf}
 use Rattle.scan.specs.Head.{headOf, head6, head7, head8, head9, headGot}
-use Rattle.scan.specs.Body.{textAt, hexByte, hexWord, decimalByte, decimalWord, droppedOf, optionalsOf, body11, body12, body13, body14, bodyOf}
+use Rattle.scan.specs.Body.{textAt, hexByte, hexWord, decimalByte, decimalWord, droppedOf, optionalsOf, body12, body13, body14, bodyOf}
 use Rattle.scan.specs.Dwords.{payloadData, payloadBad, refuses, data16, data18, dataAnswer}
 use Rattle.scan.specs.Parse.{headerOf, payloadOf, startOf, entryOf, withData, withBody, payloadAnswer, withHead, partedAnswer, withFrame, parseOf, dwordsBy, lineDwords}
 use Rattle.scan.specs.Line.{KeyText, KeyDecimal, KeyHex, Dwords, BadFor, Line, Missing, Has, MoreThan, Stamped, Condition, orderOf}
@@ -223,7 +222,6 @@ module _ (pieces : Pieces) (t : List ℕ) {k : ℕ} (framed : frameOf t ≡ T.is
               cpu = cpu-is (headerOf t k) c;
               timestamp = timestamp-is (headerOf t k) d;
               function = rw (function-part t k function (omega arith)) (function-is (headerOf t k) f);
-              equals = no-pair-without-equals (payloadOf t k);
               kind = record { name = name; type = key-text-is (payloadOf t k) (bytes "type") n; is = rw (function-part t k function (omega arith)) };
               size = key-decimal-is (payloadOf t k) (bytes "size") (2 ^ 16 - 1) s;
               dropped = dropped-is (payloadOf t k);
@@ -287,8 +285,8 @@ module _ (pieces : Pieces) (t : List ℕ) (room : ℕ) where
             let same : ds ≡ r .dwords = cc in
             omega (arith, r .more, ap length same)
 
-    -- 10 to 14
-    judge-body : (head : Head) → Clear pieces t room 10
+    -- 11 to 14
+    judge-body : (head : Head) → Clear pieces t room 11
         → ((name : List ℕ) (size domain route : ℕ) (ds : List ℕ)
         → textAt (payloadOf t k) (lastPair (payloadOf t k) (bytes "type")) ≡ some name
         → decimalOf (payloadOf t k) (bytes "size") (2 ^ 16 - 1) ≡ N.Value size
@@ -304,35 +302,29 @@ module _ (pieces : Pieces) (t : List ℕ) (room : ℕ) where
         → Ok (payloadAnswer pieces (headerOf t k) (startOf t k) head (payloadOf t k) room)
     unfolding Condition orderOf payloadAnswer bodyOf withBody
     judge-body head clear done =
-        refuse pieces t room (Says pieces t) (withBody pieces (headerOf t k) (startOf t k) head (payloadOf t k) room) 10 (pairWithoutEquals (payloadOf t k)) (T.refused 10) (body11 (payloadOf t k) (drop (head .function) (headerOf t k))) refl clear
-        (λ e. absurd (clash e (never-without-equals (payloadOf t k))))
-        (λ e. (
-          payload-not t room colon WithoutEquals (no-pair-without-equals (payloadOf t k)),
-          λ c11.
-              check pieces t room (Says pieces t) (withBody pieces (headerOf t k) (startOf t k) head (payloadOf t k) room) 11 (textAt (payloadOf t k) (lastPair (payloadOf t k) (bytes "type"))) (T.refused 11) (λ name. body12 (payloadOf t k) (kindOf name (drop (head .function) (headerOf t k)))) refl c11
-              (λ n. lacking t room colon (λ (x y name : List ℕ). KeyText y (bytes "type") name) (λ a r. nothing n (key-text-all (payloadOf t k) (bytes "type") r)))
-              (λ name n. (
-                having t room colon (λ (x y name : List ℕ). KeyText y (bytes "type") name) name (key-text-is (payloadOf t k) (bytes "type") n),
-                λ c12.
-                    check pieces t room (Says pieces t) (withBody pieces (headerOf t k) (startOf t k) head (payloadOf t k) room) 12 (numberValue (decimalOf (payloadOf t k) (bytes "size") (2 ^ 16 - 1))) (T.refused 12) (body13 (payloadOf t k) (kindOf name (drop (head .function) (headerOf t k)))) refl c12
-                    (λ s. lacking t room colon (λ (x y : List ℕ) (v : ℕ). KeyDecimal y (bytes "size") (2 ^ 16 - 1) v) (λ v r. no-decimal (bytes "size") (2 ^ 16 - 1) s r))
-                    (λ size s. (
-                      having t room colon (λ (x y : List ℕ) (v : ℕ). KeyDecimal y (bytes "size") (2 ^ 16 - 1) v) size (key-decimal-is (payloadOf t k) (bytes "size") (2 ^ 16 - 1) (number-tells _ s)),
-                      λ c13.
-                          check pieces t room (Says pieces t) (withBody pieces (headerOf t k) (startOf t k) head (payloadOf t k) room) 13 (numberValue (decimalOf (payloadOf t k) (bytes "domain") (2 ^ 32 - 1))) (T.refused 13) (body14 (payloadOf t k) (kindOf name (drop (head .function) (headerOf t k))) size) refl c13
-                          (λ o. lacking t room colon (λ (x y : List ℕ) (v : ℕ). KeyDecimal y (bytes "domain") (2 ^ 32 - 1) v) (λ v r. no-decimal (bytes "domain") (2 ^ 32 - 1) o r))
-                          (λ domain o. (
-                            having t room colon (λ (x y : List ℕ) (v : ℕ). KeyDecimal y (bytes "domain") (2 ^ 32 - 1) v) domain (key-decimal-is (payloadOf t k) (bytes "domain") (2 ^ 32 - 1) (number-tells _ o)),
-                            λ c14.
-                                check pieces t room (Says pieces t) (withBody pieces (headerOf t k) (startOf t k) head (payloadOf t k) room) 14 (numberValue (hexAt (payloadOf t k) (bytes "route") (2 ^ 64 - 1))) (T.refused 14)
-                                (λ route. T.is (record { kind = kindOf name (drop (head .function) (headerOf t k)); size = size; dropped = droppedOf (payloadOf t k); domain = domain; route = route; optionals = optionalsOf (payloadOf t k) })) refl c14
-                                (λ r. lacking t room colon (λ (x y : List ℕ) (v : ℕ). KeyHex y (bytes "route") (2 ^ 64 - 1) v) (λ v q. no-hex (bytes "route") (2 ^ 64 - 1) r q))
-                                (λ route r. (
-                                  having t room colon (λ (x y : List ℕ) (v : ℕ). KeyHex y (bytes "route") (2 ^ 64 - 1) v) route (key-hex-is (payloadOf t k) (bytes "route") (2 ^ 64 - 1) (number-tells _ r)),
-                                  λ c15.
-                                      judge-data head (record { kind = kindOf name (drop (head .function) (headerOf t k)); size = size; dropped = droppedOf (payloadOf t k); domain = domain; route = route; optionals = optionalsOf (payloadOf t k) }) c15
-                                      (λ ds d good few. done name size domain route ds n (number-tells _ s) (number-tells _ o) (number-tells _ r) d good few),
-                                )),
+        check pieces t room (Says pieces t) (withBody pieces (headerOf t k) (startOf t k) head (payloadOf t k) room) 11 (textAt (payloadOf t k) (lastPair (payloadOf t k) (bytes "type"))) (T.refused 11) (λ name. body12 (payloadOf t k) (kindOf name (drop (head .function) (headerOf t k)))) refl clear
+        (λ n. lacking t room colon (λ (x y name : List ℕ). KeyText y (bytes "type") name) (λ a r. nothing n (key-text-all (payloadOf t k) (bytes "type") r)))
+        (λ name n. (
+          having t room colon (λ (x y name : List ℕ). KeyText y (bytes "type") name) name (key-text-is (payloadOf t k) (bytes "type") n),
+          λ c12.
+              check pieces t room (Says pieces t) (withBody pieces (headerOf t k) (startOf t k) head (payloadOf t k) room) 12 (numberValue (decimalOf (payloadOf t k) (bytes "size") (2 ^ 16 - 1))) (T.refused 12) (body13 (payloadOf t k) (kindOf name (drop (head .function) (headerOf t k)))) refl c12
+              (λ s. lacking t room colon (λ (x y : List ℕ) (v : ℕ). KeyDecimal y (bytes "size") (2 ^ 16 - 1) v) (λ v r. no-decimal (bytes "size") (2 ^ 16 - 1) s r))
+              (λ size s. (
+                having t room colon (λ (x y : List ℕ) (v : ℕ). KeyDecimal y (bytes "size") (2 ^ 16 - 1) v) size (key-decimal-is (payloadOf t k) (bytes "size") (2 ^ 16 - 1) (number-tells _ s)),
+                λ c13.
+                    check pieces t room (Says pieces t) (withBody pieces (headerOf t k) (startOf t k) head (payloadOf t k) room) 13 (numberValue (decimalOf (payloadOf t k) (bytes "domain") (2 ^ 32 - 1))) (T.refused 13) (body14 (payloadOf t k) (kindOf name (drop (head .function) (headerOf t k))) size) refl c13
+                    (λ o. lacking t room colon (λ (x y : List ℕ) (v : ℕ). KeyDecimal y (bytes "domain") (2 ^ 32 - 1) v) (λ v r. no-decimal (bytes "domain") (2 ^ 32 - 1) o r))
+                    (λ domain o. (
+                      having t room colon (λ (x y : List ℕ) (v : ℕ). KeyDecimal y (bytes "domain") (2 ^ 32 - 1) v) domain (key-decimal-is (payloadOf t k) (bytes "domain") (2 ^ 32 - 1) (number-tells _ o)),
+                      λ c14.
+                          check pieces t room (Says pieces t) (withBody pieces (headerOf t k) (startOf t k) head (payloadOf t k) room) 14 (numberValue (hexAt (payloadOf t k) (bytes "route") (2 ^ 64 - 1))) (T.refused 14)
+                          (λ route. T.is (record { kind = kindOf name (drop (head .function) (headerOf t k)); size = size; dropped = droppedOf (payloadOf t k); domain = domain; route = route; optionals = optionalsOf (payloadOf t k) })) refl c14
+                          (λ r. lacking t room colon (λ (x y : List ℕ) (v : ℕ). KeyHex y (bytes "route") (2 ^ 64 - 1) v) (λ v q. no-hex (bytes "route") (2 ^ 64 - 1) r q))
+                          (λ route r. (
+                            having t room colon (λ (x y : List ℕ) (v : ℕ). KeyHex y (bytes "route") (2 ^ 64 - 1) v) route (key-hex-is (payloadOf t k) (bytes "route") (2 ^ 64 - 1) (number-tells _ r)),
+                            λ c15.
+                                judge-data head (record { kind = kindOf name (drop (head .function) (headerOf t k)); size = size; dropped = droppedOf (payloadOf t k); domain = domain; route = route; optionals = optionalsOf (payloadOf t k) }) c15
+                                (λ ds d good few. done name size domain route ds n (number-tells _ s) (number-tells _ o) (number-tells _ r) d good few),
                           )),
                     )),
               )),
@@ -373,7 +365,7 @@ module _ (pieces : Pieces) (t : List ℕ) (room : ℕ) where
                                 (λ function f. (
                                   having t room colon (λ (x y function : List ℕ). Function x function) (drop function (headerOf t k)) (function-is (headerOf t k) (place-tells _ f)),
                                   λ c10.
-                                      judge-body (record { task = task; pid = pid; cpu = cpu; seconds = moment .seconds; microseconds = moment .microseconds; function = function }) c10
+                                      judge-body (record { task = task; pid = pid; cpu = cpu; seconds = moment .seconds; microseconds = moment .microseconds; function = function }) (no-ten c10)
                                       (λ name size domain route ds n s o r e good few.
                                       says pieces t framed task pid cpu moment function name size domain route ds (place-tells _ a) (number-tells _ b) (number-tells _ c) (stamp-tells _ d) (place-tells _ f) n s o r e good few),
                                 )),
@@ -382,6 +374,10 @@ module _ (pieces : Pieces) (t : List ℕ) (room : ℕ) where
               )),
         ))
       where
+        -- the check behind that of 9 is that of 11: no row of the table has 10
+        no-ten : Clear pieces t room 10 → Clear pieces t room 11
+        no-ten c10 = clear-next pieces t room 10 c10 (λ row. row)
+
         no-stamp : stampValue (stampOf (headerOf t k)) ≡ none → (header payload : List ℕ) → Split t header payload → Stamped header → ⊥
         no-stamp d header payload s r =
             let w : Timestamp (headerOf t k) (r .seconds) (r .microseconds) = rw (← one-header t colon s) (r .timestamp) in

@@ -22,9 +22,7 @@ use Rattle.header.proofs.Dashes.{one-task, one-pid}
 use Rattle.header.proofs.Cpus.{one-cpu}
 use Rattle.header.proofs.Stamps.{one-timestamp}
 use Rattle.header.proofs.Functions.{one-function}
-use Rattle.pairs.specs.Pair.{WithoutEquals}
 use Rattle.pairs.proofs.LastPairs.{one-last-pair}
-use Rattle.pairs.proofs.PairLists.{no-pair-without-equals}
 use Rattle.pairs.proofs.Slots.{one-data}
 use Rattle.scan.specs.declared.Pieces.{Pieces}
 use Rattle.scan.specs.declared.Answer.{Answer}
@@ -125,14 +123,13 @@ line-clears pieces t {v} a k c =
     (one (eqb k 7) _ _ (λ m. m (a .header) (a .payload) (a .split) (v .cpu) (a .cpu))
     (one (eqb k 8) _ _ (λ m. m (a .header) (a .payload) (a .split) (record { seconds = v .seconds; microseconds = v .microseconds; timestamp = a .timestamp }))
     (one (eqb k 9) _ _ (λ m. m (a .header) (a .payload) (a .split) (v .function) (a .function))
-    (one (eqb k 10) _ _ (λ r. no-pair-without-equals (r .payload) (r .there))
     (one (eqb k 11) _ _ (λ m. m (a .header) (a .payload) (a .split) (a .kind .name) (a .kind .type))
     (one (eqb k 12) _ _ (λ m. m (a .header) (a .payload) (a .split) (v .size) (a .size))
     (one (eqb k 13) _ _ (λ m. m (a .header) (a .payload) (a .split) (v .domain) (a .domain))
     (one (eqb k 14) _ _ (λ m. m (a .header) (a .payload) (a .split) (v .route) (a .route))
     (one (eqb k 15) _ _ (λ m. m (a .header) (a .payload) (a .split) (v .dwords) (a .dwords))
     (one (eqb k 18) _ _ (λ r. a .good (rw (same-payload t (r .split) (a .split)) at (r .there)))
-    (one (eqb k 16) _ _ many (one (eqb k 17) _ _ many (λ x. x))))))))))))))))))
+    (one (eqb k 16) _ _ many (one (eqb k 17) _ _ many (λ x. x)))))))))))))))))
     c
   where
     one : (b : Bool) (X Y : Type 0) → (X → ⊥) → (Y → ⊥) → cond b X Y → ⊥
@@ -152,9 +149,9 @@ pub past-table : (pieces : Pieces) (t : List ℕ) (room k : ℕ) → 19 ≤ k �
 unfolding Condition
 past-table pieces t room k l c =
     not-this 1 (omega arith) _ _ (not-this 2 (omega arith) _ _ (not-this 3 (omega arith) _ _ (not-this 4 (omega arith) _ _ (not-this 5 (omega arith) _ _
-    (not-this 6 (omega arith) _ _ (not-this 7 (omega arith) _ _ (not-this 8 (omega arith) _ _ (not-this 9 (omega arith) _ _ (not-this 10 (omega arith) _ _
+    (not-this 6 (omega arith) _ _ (not-this 7 (omega arith) _ _ (not-this 8 (omega arith) _ _ (not-this 9 (omega arith) _ _
     (not-this 11 (omega arith) _ _ (not-this 12 (omega arith) _ _ (not-this 13 (omega arith) _ _ (not-this 14 (omega arith) _ _ (not-this 15 (omega arith) _ _
-    (not-this 18 (omega arith) _ _ (not-this 16 (omega arith) _ _ (not-this 17 (omega arith) _ _ (λ x. x))))))))))))))))))
+    (not-this 18 (omega arith) _ _ (not-this 16 (omega arith) _ _ (not-this 17 (omega arith) _ _ (λ x. x)))))))))))))))))
     c
   where
     not-this : (j : ℕ) → j < k → (X Y : Type 0) → (Y → ⊥) → cond (eqb k j) X Y → ⊥
@@ -204,13 +201,10 @@ line-number-exactly pieces t room k = (λ q. mp (parseOf pieces t room) (judge p
             above : 19 ≤ orderOf k → Condition pieces t room k → ⊥
             above l x = past-table pieces t room k (past-order k l) x
 
--- number 10 has no text: every pair that is found has its `=`
+-- 10 is the number of no text: no row of the table has it, and what is answered is a row
 pub number-10-never : (pieces : Pieces) (t : List ℕ) (room : ℕ) → parseOf pieces t room ≡ T.refused 10 → ⊥
 unfolding Condition
-number-10-never pieces t room q =
-    let a = line-number-exactly pieces t room 10 .0 q in
-    let h : Has t WithoutEquals = a .holds in
-    no-pair-without-equals (h .payload) (h .there)
+number-10-never pieces t room q = line-number-exactly pieces t room 10 .0 q .holds
 
 -- the same through the number that is told, which is 0 for an entry alone
 pub line-number-is : (pieces : Pieces) (t : List ℕ) (room k : ℕ) → 0 < k → (T.numberIn (parseOf pieces t room) ≡ k) ↔ Applies pieces t room k

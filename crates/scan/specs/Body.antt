@@ -1,6 +1,6 @@
--- Numbers 10 to 14: what a payload says but for its dwords, in the order of the numbers.
+-- Numbers 11 to 14: what a payload says but for its dwords, in the order of the numbers.
 use Prim.Native.Nat.{ℕ, _-_, _^_}
-use mathlib.Core.Bool.{Bool, false, cond}
+use mathlib.Core.Bool.{Bool, false}
 use mathlib.Core.List.{List}
 use mathlib.Core.Option.{Option, some, none}
 use lib.Dec.{eqb}
@@ -16,7 +16,7 @@ use Rattle.entry.specs.declared.optional.MaybeWord.the-variants as W
 use Rattle.entry.specs.Kind.{kindOf}
 use Rattle.pairs.specs.declared.pair.Span.{Span}
 use Rattle.pairs.specs.declared.pair.Span.the-variants.{At, Nothing}
-use Rattle.pairs.specs.Pair.{part, lastPair, pairWithoutEquals, decimalOf, hexAt}
+use Rattle.pairs.specs.Pair.{part, lastPair, decimalOf, hexAt}
 use Rattle.scan.specs.declared.body.Optionals.{Optionals}
 use Rattle.scan.specs.declared.body.Body.{Body}
 use Rattle.scan.specs.declared.body.BodyAnswer.{BodyAnswer}
@@ -93,10 +93,7 @@ body13 p kind size = need (refused 13) (numberValue (decimalOf p (bytes "domain"
 abbrev pub body12 : List ℕ → ℕ → Told Body
 body12 p kind = need (refused 12) (numberValue (decimalOf p (bytes "size") (2 ^ 16 - 1))) (body13 p kind)
 
-abbrev pub body11 : List ℕ → List ℕ → Told Body
-body11 p function =
-    need (refused 11) (textAt p (lastPair p (bytes "type"))) (λ name. body12 p (kindOf name function))
-
 -- what a payload says, given the function
 unfoldable pub bodyOf : List ℕ → List ℕ → Told Body
-bodyOf p function = cond (pairWithoutEquals p) (refused 10) (body11 p function)
+bodyOf p function =
+    need (refused 11) (textAt p (lastPair p (bytes "type"))) (λ name. body12 p (kindOf name function))

@@ -15,7 +15,7 @@ use Rattle.header.specs.Dash.{Task, Pid}
 use Rattle.header.specs.Cpu.{Cpu}
 use Rattle.header.specs.Stamp.{Timestamp}
 use Rattle.header.specs.Function.{Function}
-use Rattle.pairs.specs.Pair.{part, LastPair, WithoutEquals}
+use Rattle.pairs.specs.Pair.{part, LastPair}
 use Rattle.pairs.specs.Data.{BadAmong, Data}
 use Rattle.scan.specs.declared.Pieces.{Pieces}
 use Rattle.scan.specs.declared.Pieces.the-variants.{Strict, Lenient}
@@ -86,7 +86,6 @@ pub record Line (pieces : Pieces) (t : List ℕ) (v : EntryValue) : Type 0 where
   pub cpu : Cpu header (v .cpu)
   pub timestamp : Timestamp header (v .seconds) (v .microseconds)
   pub function : Function header (v .function)
-  pub equals : WithoutEquals payload → ⊥
   pub kind : Kind payload (v .function) (v .kind)
   pub size : KeyDecimal payload (bytes "size") (2 ^ 16 - 1) (v .size)
   pub dropped : Dropped payload (v .dropped)
@@ -126,8 +125,9 @@ pub record Stamped (header : List ℕ) : Type 0 where
   pub microseconds : ℕ
   pub timestamp : Timestamp header seconds microseconds
 
--- when a number applies, given the choice and the number of slots: the table of document 01, and 18 of document 02; no other number does. From 5 on
--- the conditions speak of the header and payload, so without a colon some hold of nothing: 4 comes first there
+-- when a number applies, given the choice and the number of slots: the table of document 01 without 10, which document 02 takes out, and 18 of
+-- document 02; no other number does. From 5 on the conditions speak of the header and payload, so without a colon some hold of nothing: 4 comes first
+-- there
 unfoldable pub Condition : Pieces → List ℕ → ℕ → ℕ → Type 0
 Condition pieces t room k =
     cond (eqb k 1) (Idle t)
@@ -139,14 +139,13 @@ Condition pieces t room k =
     (cond (eqb k 7) (Missing t (λ (h p : List ℕ) (cpu : ℕ). Cpu h cpu))
     (cond (eqb k 8) ((header payload : List ℕ) → Split t header payload → Stamped header → ⊥)
     (cond (eqb k 9) (Missing t (λ (h p function : List ℕ). Function h function))
-    (cond (eqb k 10) (Has t WithoutEquals)
     (cond (eqb k 11) (Missing t (λ (h p name : List ℕ). KeyText p (bytes "type") name))
     (cond (eqb k 12) (Missing t (λ (h p : List ℕ) (v : ℕ). KeyDecimal p (bytes "size") (2 ^ 16 - 1) v))
     (cond (eqb k 13) (Missing t (λ (h p : List ℕ) (v : ℕ). KeyDecimal p (bytes "domain") (2 ^ 32 - 1) v))
     (cond (eqb k 14) (Missing t (λ (h p : List ℕ) (v : ℕ). KeyHex p (bytes "route") (2 ^ 64 - 1) v))
     (cond (eqb k 15) (Missing t (λ (h p ds : List ℕ). Dwords p ds))
     (cond (eqb k 18) (Has t (BadFor pieces))
-    (cond (eqb k 16) (Has t (MoreThan 256)) (cond (eqb k 17) (Has t (MoreThan room)) ⊥)))))))))))))))))
+    (cond (eqb k 16) (Has t (MoreThan 256)) (cond (eqb k 17) (Has t (MoreThan room)) ⊥))))))))))))))))
 
 -- where a number stands among the checks: in number order, but 18 after 15 and before 16
 unfoldable pub orderOf : ℕ → ℕ

@@ -1,4 +1,4 @@
-// What a payload says but for its dwords: numbers 10 to 14.
+// What a payload says but for its dwords: numbers 11 to 14.
 use entry::kind::kind_of;
 use entry::optional::MaybeByte;
 use entry::optional::MaybeWord;
@@ -6,9 +6,7 @@ use pairs::key::decimal_of;
 use pairs::key::hex_of;
 use pairs::pair::Span;
 use pairs::pair::last_pair;
-use pairs::pair::pair_without_equals;
 use refusal::NO_DOMAIN;
-use refusal::NO_EQUALS;
 use refusal::NO_ROUTE;
 use refusal::NO_SIZE;
 use refusal::NO_TYPE;
@@ -48,9 +46,6 @@ pub enum BodyAnswer {
 pub fn read_body(p: &[u8], function: &[u8]) -> BodyAnswer
     ensures { λ r. ⌜ bodyTold r ≡ bodyOf (now (p .entry)) (now (function .entry)) ⌝ }
 {
-    if pair_without_equals(p) {
-        return BodyAnswer::Refused(NO_EQUALS);
-    }
     let Span::At { from, to } = last_pair(p, b"type") else {
         return BodyAnswer::Refused(NO_TYPE);
     };

@@ -9,13 +9,6 @@ use borrow.Author.Needs.{needs}
 use Rattle.scan.proofs.body.read_body.Statement.{statement}
 use Rattle.scan.proofs.body.read_body.Tie as tie
 
-pair-without-equals-requires : tie.Need-pair-without-equals-requires
-pair-without-equals-requires c κs = search needs
-
-returns : tie.Need-returns
-unfolding bodyOf
-returns c = rw (sym (c .before .pair-without-equals .ensures) ∙ c .if1 .taken)
-
 slice-aggregate-last-pair : tie.Need-slice-aggregate-last-pair
 slice-aggregate-last-pair c = search needs
 
@@ -28,9 +21,9 @@ enum-known-from c = search needs
 enum-told : tie.Need-enum-told
 enum-told c = search needs
 
-returns-2 : tie.Need-returns-2
+returns : tie.Need-returns
 unfolding bodyOf textAt
-returns-2 c = rw (sym (c .before .before .before .before .before .pair-without-equals .ensures) ∙ c .before .before .before .before .if1 .left, sym (c .before .before .last-pair .ensures .is) ∙ c .enum-told .given .1)
+returns c = rw (sym (c .before .before .last-pair .ensures .is) ∙ c .enum-told .given .1)
 
 sub-kind-of : tie.Need-sub-kind-of
 sub-kind-of c = omega (arith, c .before .before .before .last-pair .ensures .within _ _ (c .before .from .given .1))
@@ -56,10 +49,10 @@ enum-known-size c = search needs
 enum-told-2 : tie.Need-enum-told-2
 enum-told-2 c = search needs
 
-returns-3 : tie.Need-returns-3
+returns-2 : tie.Need-returns-2
 unfolding bodyOf textAt numberValue
-returns-3 c =
-    rw (sym (c .before .before .before .before .before .before .before .before .before .before .before .before .pair-without-equals .ensures) ∙ c .before .before .before .before .before .before .before .before .before .before .before .if1 .left, sym (c .before .before .before .before .before .before .before .before .before .last-pair .ensures .is) ∙ c .before .before .before .before .before .before .before .from .given .1, sym (c .before .before .decimal-of .ensures) ∙ c .enum-told2 .given .1)
+returns-2 c =
+    rw (sym (c .before .before .before .before .before .before .before .before .before .last-pair .ensures .is) ∙ c .before .before .before .before .before .before .before .from .given .1, sym (c .before .before .decimal-of .ensures) ∙ c .enum-told2 .given .1)
 
 slice-aggregate-decimal-of-2 : tie.Need-slice-aggregate-decimal-of-2
 slice-aggregate-decimal-of-2 c = search needs
@@ -73,10 +66,10 @@ enum-known-domain c = search needs
 enum-told-3 : tie.Need-enum-told-3
 enum-told-3 c = search needs
 
-returns-4 : tie.Need-returns-4
+returns-3 : tie.Need-returns-3
 unfolding bodyOf textAt numberValue
-returns-4 c =
-    rw (sym (c .before .before .before .before .before .before .before .before .before .before .before .before .before .before .before .before .before .pair-without-equals .ensures) ∙ c .before .before .before .before .before .before .before .before .before .before .before .before .before .before .before .before .if1 .left, sym (c .before .before .before .before .before .before .before .before .before .before .before .before .before .before .last-pair .ensures .is) ∙ c .before .before .before .before .before .before .before .before .before .before .before .before .from .given .1, sym (c .before .before .before .before .before .before .before .decimal-of .ensures) ∙ c .before .before .before .before .before .size .given .1, sym (c .before .before .decimal-of2 .ensures) ∙ c .enum-told3 .given .1)
+returns-3 c =
+    rw (sym (c .before .before .before .before .before .before .before .before .before .before .before .before .before .before .last-pair .ensures .is) ∙ c .before .before .before .before .before .before .before .before .before .before .before .before .from .given .1, sym (c .before .before .before .before .before .before .before .decimal-of .ensures) ∙ c .before .before .before .before .before .size .given .1, sym (c .before .before .decimal-of2 .ensures) ∙ c .enum-told3 .given .1)
 
 slice-aggregate-hex-of : tie.Need-slice-aggregate-hex-of
 slice-aggregate-hex-of c = search needs
@@ -90,10 +83,10 @@ enum-known-route c = search needs
 enum-told-4 : tie.Need-enum-told-4
 enum-told-4 c = search needs
 
-returns-5 : tie.Need-returns-5
+returns-4 : tie.Need-returns-4
 unfolding bodyOf textAt numberValue
-returns-5 c =
-    rw (sym (c .before .before .before .before .before .before .before .before .before .before .before .before .before .before .before .before .before .before .before .before .before .before .pair-without-equals .ensures) ∙ c .before .before .before .before .before .before .before .before .before .before .before .before .before .before .before .before .before .before .before .before .before .if1 .left, sym (c .before .before .before .before .before .before .before .before .before .before .before .before .before .before .before .before .before .before .before .last-pair .ensures .is) ∙ c .before .before .before .before .before .before .before .before .before .before .before .before .before .before .before .before .before .from .given .1, sym (c .before .before .before .before .before .before .before .before .before .before .before .before .decimal-of .ensures) ∙ c .before .before .before .before .before .before .before .before .before .before .size .given .1, sym (c .before .before .before .before .before .before .before .decimal-of2 .ensures) ∙ c .before .before .before .before .before .domain .given .1, sym (c .before .before .hex-of .ensures) ∙ c .enum-told4 .given .1)
+returns-4 c =
+    rw (sym (c .before .before .before .before .before .before .before .before .before .before .before .before .before .before .before .before .before .before .before .last-pair .ensures .is) ∙ c .before .before .before .before .before .before .before .before .before .before .before .before .before .before .before .before .before .from .given .1, sym (c .before .before .before .before .before .before .before .before .before .before .before .before .decimal-of .ensures) ∙ c .before .before .before .before .before .before .before .before .before .before .size .given .1, sym (c .before .before .before .before .before .before .before .decimal-of2 .ensures) ∙ c .before .before .before .before .before .domain .given .1, sym (c .before .before .hex-of .ensures) ∙ c .enum-told4 .given .1)
 
 is-dropped-requires : tie.Need-is-dropped-requires
 is-dropped-requires c κs = search needs
@@ -101,28 +94,26 @@ is-dropped-requires c κs = search needs
 read-optionals-requires : tie.Need-read-optionals-requires
 read-optionals-requires c κs = search needs
 
+cast-t31 : tie.Need-cast-t31
+cast-t31 c = record { fits = omega (arith, decimal-fits _ _ (2 ^ 16 - 1) (sym (c .before .before .before .before .before .before .before .before .before .before .before .before .before .before .before .decimal-of .ensures) ∙ c .before .before .before .before .before .before .before .before .before .before .before .before .before .size .given .1)) }
+
 cast-t32 : tie.Need-cast-t32
-cast-t32 c = record { fits = omega (arith, decimal-fits _ _ (2 ^ 16 - 1) (sym (c .before .before .before .before .before .before .before .before .before .before .before .before .before .before .before .decimal-of .ensures) ∙ c .before .before .before .before .before .before .before .before .before .before .before .before .before .size .given .1)) }
+cast-t32 c = record { fits = omega (arith, decimal-fits _ _ (2 ^ 32 - 1) (sym (c .before .before .before .before .before .before .before .before .before .before .decimal-of2 .ensures) ∙ c .before .before .before .before .before .before .before .before .domain .given .1)) }
 
-cast-t33 : tie.Need-cast-t33
-cast-t33 c = record { fits = omega (arith, decimal-fits _ _ (2 ^ 32 - 1) (sym (c .before .before .before .before .before .before .before .before .before .before .decimal-of2 .ensures) ∙ c .before .before .before .before .before .before .before .before .domain .given .1)) }
-
-returns-6 : tie.Need-returns-6
+returns-5 : tie.Need-returns-5
 unfolding bodyOf textAt numberValue
-returns-6 c =
-    rw (sym (c .before .before .before .before .before .before .before .before .before .before .before .before .before .before .before .before .before .before .before .before .before .before .before .before .before .pair-without-equals .ensures) ∙ c .before .before .before .before .before .before .before .before .before .before .before .before .before .before .before .before .before .before .before .before .before .before .before .before .if1 .left, sym (c .before .before .before .before .before .before .before .before .before .before .before .before .before .before .before .before .before .before .before .before .before .before .last-pair .ensures .is) ∙ c .before .before .before .before .before .before .before .before .before .before .before .before .before .before .before .before .before .before .before .before .from .given .1, sym (c .before .before .before .before .before .before .before .before .before .before .before .before .before .before .before .decimal-of .ensures) ∙ c .before .before .before .before .before .before .before .before .before .before .before .before .before .size .given .1, sym (c .before .before .before .before .before .before .before .before .before .before .decimal-of2 .ensures) ∙ c .before .before .before .before .before .before .before .before .domain .given .1, sym (c .before .before .before .before .before .hex-of .ensures) ∙ c .before .before .before .route .given .1, c .before .before .before .before .before .before .before .before .before .before .before .before .before .before .before .before .before .kind-of .ensures, c .before .is-dropped .ensures, c .read-optionals .ensures)
+returns-5 c =
+    rw (sym (c .before .before .before .before .before .before .before .before .before .before .before .before .before .before .before .before .before .before .before .before .before .before .last-pair .ensures .is) ∙ c .before .before .before .before .before .before .before .before .before .before .before .before .before .before .before .before .before .before .before .before .from .given .1, sym (c .before .before .before .before .before .before .before .before .before .before .before .before .before .before .before .decimal-of .ensures) ∙ c .before .before .before .before .before .before .before .before .before .before .before .before .before .size .given .1, sym (c .before .before .before .before .before .before .before .before .before .before .decimal-of2 .ensures) ∙ c .before .before .before .before .before .before .before .before .domain .given .1, sym (c .before .before .before .before .before .hex-of .ensures) ∙ c .before .before .before .route .given .1, c .before .before .before .before .before .before .before .before .before .before .before .before .before .before .before .before .before .kind-of .ensures, c .before .is-dropped .ensures, c .read-optionals .ensures)
 
 pub read-body-spec : {M : Type 1} → statement M
 read-body-spec =
     tie.close
     (tie.spec
-    pair-without-equals-requires
-    returns
     slice-aggregate-last-pair
     last-pair-requires
     enum-known-from
     enum-told
-    returns-2
+    returns
     sub-kind-of
     part-kind-of-start
     part-kind-of-end
@@ -131,19 +122,19 @@ read-body-spec =
     decimal-of-requires
     enum-known-size
     enum-told-2
-    returns-3
+    returns-2
     slice-aggregate-decimal-of-2
     decimal-of-requires-2
     enum-known-domain
     enum-told-3
-    returns-4
+    returns-3
     slice-aggregate-hex-of
     hex-of-requires
     enum-known-route
     enum-told-4
-    returns-5
+    returns-4
     is-dropped-requires
     read-optionals-requires
+    cast-t31
     cast-t32
-    cast-t33
-    returns-6)
+    returns-5)

@@ -56,6 +56,7 @@ fn header_stop(header: &str) -> Option<u32> {
 
 fn payload_stop(payload: &str) -> Option<u32> {
     let Some(pairs) = Entry::parse_kv(payload) else {
+        // The `?` of `parse_kv`: it was never seen to stop there, and no number of ours is 10.
         return Some(10);
     };
     let of = |key: &str| pairs.get(key);

@@ -4,7 +4,7 @@ use Prim.Native.Nat.{ℕ}
 use mathlib.Core.Path.{_≡_, refl, sym, ap, _∙_}
 use mathlib.Core.Bool.{Bool, true, false, cond}
 use mathlib.Core.List.{List}
-use mathlib.Core.Logic.{_⊎_, inl, inr}
+use mathlib.Core.Logic.{inl, inr}
 use native.Mathlib.Omega.{arith}
 use lib.Dec.{leb}
 use lib.ListN.{length, getD}
@@ -31,7 +31,7 @@ use Rattle.packet.specs.declared.MaybeUuid.the-variants as U
 use Rattle.packet.specs.Conditions.{Condition}
 use Rattle.packet.specs.Packet as Packets
 use Rattle.packet.proofs.Theorems.{packet-number-exactly}
-use Rattle.record.specs.Conditions.{Breaks, unframed, runs-past, wrong-tag, wrong-body, lacks-tag, Refuses, breaks, few-slots}
+use Rattle.record.specs.Conditions.{breaks, few-slots}
 use Rattle.record.specs.Judging.{refusalOf}
 use Rattle.record.specs.Reading as Records
 use Rattle.record.specs.Reading.{readOf}
@@ -41,6 +41,7 @@ use Rattle.writer.specs.Ranges.{writable}
 use Rattle.intake.specs.Intake.{startsA1, takenOf, takenDwords}
 use Rattle.intake.specs.Packets.{packetBy, packetTaken}
 use Rattle.intake.specs.What.{Grammar, whatTold, grammarOf, whatOf}
+use Rattle.intake.proofs.WhatItIs.{record-number-range}
 use Rattle.filters.specs.declared.row.Seen.the-variants as S
 use Rattle.filters.specs.Texts.{seenBy, seenLine, seenRecord}
 use Rattle.slots.specs.declared.decide.Report.{Report}
@@ -87,18 +88,11 @@ piece-never : (t : List ℕ) (i : ℕ) → Never (pieceAnswer t i)
 piece-never t i e = let few = piece-exactly t i (T.refused 10) .0 e in omega (arith, few .0)
 
 record-never : (t : List ℕ) → Bytes t → (room : ℕ) → Never (readOf t room)
-record-never t b room e = by (record-refused-exactly t b room 10 .0 e)
-  where
-    broken : Breaks t 10 → ⊥
-    broken (unframed e h) = omega (arith, e)
-    broken (runs-past e at ps g r) = omega (arith, e)
-    broken (wrong-tag e at ps tag from to g f h) = omega (arith, e)
-    broken (wrong-body e at ps tag from to g f up known h) = omega (arith, e)
-    broken (lacks-tag e ps tag g m l) = omega (arith, e)
-
-    by : Refuses t room 10 → ⊥
-    by (breaks r) = broken r
-    by (few-slots e f) = omega (arith, e)
+record-never t b room e =
+    elim (record-refused-exactly t b room 10 .0 e) [
+      | breaks r ↦ omega (arith, record-number-range t 10 r)
+      | few-slots q f ↦ omega (arith, q)
+    ]
 
 refusal-never : (t : List ℕ) → Bytes t → refusalOf t ≡ 10 → ⊥
 unfolding readOf
@@ -123,11 +117,11 @@ taken-never pieces t b room = by (startsA1 t)
 
 packet-never : (kind : ℕ) (s : List ℕ) → Bytes s → (ds : List ℕ) (room : ℕ) → Never (Packets.parseOf kind s ds room)
 unfolding Packets.parseOf Condition
-packet-never kind s b ds room e = by (number-behind (Packets.numberOf kind s (length ds) room) (T.is (Packets.packetOf kind s ds)) e)
-  where
-    by : ((Packets.numberOf kind s (length ds) room ≡ 10) × (_≡_ {A = ℕ} 10 0 → ⊥)) ⊎ ((Packets.numberOf kind s (length ds) room ≡ 0) × (T.is (Packets.packetOf kind s ds) ≡ T.refused 10)) → ⊥
-    by (inl n) = packet-number-exactly kind s b (length ds) room 10 (omega arith) .0 (n .0) .holds
-    by (inr v) = other (T.is (Packets.packetOf kind s ds)) (λ n. omega arith) (v .1)
+packet-never kind s b ds room e =
+    elim (number-behind (Packets.numberOf kind s (length ds) room) (T.is (Packets.packetOf kind s ds)) e) [
+      | inl n ↦ packet-number-exactly kind s b (length ds) room 10 (omega arith) .0 (n .0) .holds
+      | inr v ↦ other (T.is (Packets.packetOf kind s ds)) (λ n. omega arith) (v .1)
+    ]
 
 -- what a value leads to
 then-never : {A B : Type 0} (told : Told A) (next : A → Told B) → Never told → ((a : A) → Never (next a)) → Never (andThen told next)

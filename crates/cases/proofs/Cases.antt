@@ -22,15 +22,11 @@ use Rattle.header.proofs.Cases.{case-P2, case-P3}
 use Rattle.pairs.specs.Pair.{pairsFrom, decimalOf}
 use Rattle.pairs.proofs.PairLists.{placed}
 use Rattle.pairs.proofs.Cases.{case-P4, case-P5, case-P6}
-use mathlib.Core.Bool.{false}
-use Rattle.entry.specs.declared.Entry.{Entry}
-use Rattle.entry.specs.declared.optional.MaybeByte.the-variants as B
-use Rattle.entry.specs.declared.optional.MaybeWord.the-variants as W
 use Rattle.scan.specs.declared.Pieces.the-variants.{Strict, Lenient}
 use Rattle.scan.specs.Body.{textAt}
 use Rattle.scan.specs.Dwords.{payloadData}
 use Rattle.scan.specs.Parse.{parseOf, lineDwords}
-use Rattle.scan.proofs.Cases.{computes, accepted-P7, refused-P8, strict-twins}
+use Rattle.scan.proofs.Cases.{computes, plainEntry, accepted-P7, refused-P8, strict-twins}
 use Rattle.tlv.specs.Grammar.{fieldBytes}
 use Rattle.packet.specs.Packet.{entriesOf}
 use Rattle.packet.proofs.Examples.{threeEntries, threeUuids, fourUuids}
@@ -42,10 +38,6 @@ use Rattle.questions.proofs.Cases.{case-P12, case-P13, case-P14}
 payload-P6 : payloadData (bytes "data=[0x1, zz, 0x2]") ≡ some (1 ∷ 2 ∷ [])
 unfolding payloadData textAt
 payload-P6 = rw (case-P6 .value-at) (case-P6 .dwords)
-
--- the entry of P6's and P7's lines, by its number of dwords
-abbrev plainEntry : ℕ → Entry
-plainEntry n = record { «task_at» = 0; «task_len» = 1; pid = 1; cpu = 2; seconds = 1; microseconds = 2; «function_at» = 15; «function_len» = 1; kind = 0; size = 3; dropped = false; domain = 0; route = 0; offset = W.Absent; code = B.Absent; len = W.Absent; port = B.Absent; config = B.Absent; seq = B.Absent; unplug = B.Absent; dwords = n }
 
 -- the line of P6 is accepted in lenient, with its two dwords
 accepted-P6 : parseOf Lenient (bytes "a-1 [002] 1.2: f: type=t size=3 domain=0 route=0 data=[0x1, zz, 0x2]") 256 ≡ is (plainEntry 2)

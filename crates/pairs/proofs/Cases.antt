@@ -12,6 +12,7 @@ use Rattle.text.specs.Same.{sameText}
 use Rattle.pairs.specs.declared.pair.Span.the-variants.{At, Nothing}
 use Rattle.pairs.specs.Pair.{bracketEnd, valueEnd, withValue, pairWith, pairAt, isHit, pairFrom, nextPair, followed, pairsWithin, pairsFrom, newer, lastIn, lastPair, decimalIn, decimalOf}
 use Rattle.pairs.specs.Data.{ahead, cut, pieceBy, pieceOf, taken, dwordsIn, dwordsOf, insideOf, dataIn, dataOf}
+use Rattle.pairs.specs.Table.{keys, keyAfter, unknown, keyNamed}
 use Rattle.pairs.proofs.PairLists.{placed}
 
 -- what an example has to compute with
@@ -28,6 +29,27 @@ case-P4 = refl
 pub case-P5 : decimalOf (bytes "size=1 size=2") (bytes "size") 0xffff ≡ N.Value 2
 unfolding computes
 case-P5 = refl
+
+-- the last pair counts, readable or not: `size=z size=1` is 1, `size=1 size=z` no number
+pub record LastCounts : Type 0 where
+  pub good-last : decimalOf (bytes "size=z size=1") (bytes "size") 0xffff ≡ N.Value 1
+  pub bad-last : decimalOf (bytes "size=1 size=z") (bytes "size") 0xffff ≡ N.Unreadable
+
+pub last-counts : LastCounts
+unfolding computes
+last-counts = record { good-last = refl; bad-last = refl }
+
+-- keys compare by all their bytes: `seq` is row 10, and what only starts or ends like it is no row's
+pub record WholeNames : Type 0 where
+  pub whole : keyNamed (bytes "seq") .row ≡ 10
+  pub longer : keyNamed (bytes "seqs") .row ≡ 13
+  pub shorter : keyNamed (bytes "se") .row ≡ 13
+  pub before : keyNamed (bytes "aseq") .row ≡ 13
+  pub capital : keyNamed (bytes "Seq") .row ≡ 13
+
+pub whole-names : WholeNames
+unfolding computes keys keyAfter unknown keyNamed
+whole-names = record { whole = refl; longer = refl; shorter = refl; before = refl; capital = refl }
 
 -- `data=[0x1, zz, 0x2]`: 1, 2
 pub record P6 : Type 0 where

@@ -166,10 +166,6 @@ module _ (s key : List ℕ) (limit : ℕ) where
   unfolding decimalOf decimalIn
   decimal-some q = rw q
 
-  pub decimal-none : lastPair s key ≡ Nothing → N.Unreadable ≡ decimalOf s key limit
-  unfolding decimalOf decimalIn
-  decimal-none q = rw q
-
   pub hex-some : {a b : ℕ} → lastPair s key ≡ At a b → hexNumberOf limit (part s a b) ≡ hexAt s key limit
   unfolding hexAt hexIn
   hex-some q = rw q

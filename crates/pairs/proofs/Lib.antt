@@ -3,8 +3,11 @@ pub mod Tries
 pub mod Matches
 pub mod PairLists
 pub mod LastPairs
+pub mod Rows
+pub mod Walks
 pub mod Cuts
 pub mod Slots
+pub mod Forms
 pub mod BadPieces
 pub mod Pieces
 pub mod Cases

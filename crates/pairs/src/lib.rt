@@ -1,4 +1,5 @@
-// The pairs of a payload, the last pair of a key, and the dwords of a bracketed value. Every public call takes any text.
+// The pairs of a payload, the last pair of each key, and the dwords of a bracketed value.
 pub mod dwords;
-pub mod key;
+pub mod keys;
+pub mod last;
 pub mod pair;

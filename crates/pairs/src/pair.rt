@@ -29,14 +29,6 @@ pub enum Span {
     Nothing,
 }
 
-// The first pair from a place on.
-pub fn next_pair(s: &[u8], from: usize) -> Pair
-    ensures { λ r. ⌜ NextPair (now (s .entry)) from r ⌝ }
-{
-    let tail = run_start(s, Class::NotClose);
-    next_before(s, from, tail)
-}
-
 // The value of the last pair of a key.
 pub fn last_pair(s: &[u8], key: &[u8]) -> Span
     ensures { λ r. ⌜ ValueAt (now (s .entry)) (now (key .entry)) r ⌝ }
@@ -63,9 +55,9 @@ pub fn last_pair(s: &[u8], key: &[u8]) -> Span
     }
 }
 
-// A try that fails fails from every byte of its word run, and none starts at the byte behind it, so the search goes on behind that:
-// a word run costs no more than its length.
-fn next_before(s: &[u8], from: usize, tail: usize) -> Pair
+// The first pair from a place on. A try that fails fails from every byte of its word run, and none starts at the byte behind it, so the
+// search goes on behind that: a word run costs no more than its length. Asked for: where no `]` stands any more, found once a walk.
+pub fn next_before(s: &[u8], from: usize, tail: usize) -> Pair
     requires { ⌜ tail ≡ runStart (inClass NotClose) (now s) ⌝ }
     ensures { λ r. ⌜ NextPair (now (s .entry)) from r ⌝ }
 {

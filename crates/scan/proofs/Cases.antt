@@ -1,5 +1,6 @@
 -- Whole lines through the reading, by computation: document 01's `fwd` line, and cases P6, P7 and P8 as a line meets them, in lenient and in strict.
 -- Assumes nothing.
+use Prim.Native.Nat.{ℕ}
 use mathlib.Core.Path.{_≡_, refl}
 use mathlib.Core.Bool.{false}
 use mathlib.Core.List.{[], _∷_, _++_}
@@ -12,6 +13,7 @@ use Rattle.text.specs.Run.{runEnd, behind, runStart, stripped}
 use Rattle.text.specs.Same.{sameText}
 use Rattle.entry.specs.declared.optional.MaybeByte.the-variants as B
 use Rattle.entry.specs.declared.optional.MaybeWord.the-variants as W
+use Rattle.entry.specs.declared.Entry.{Entry}
 use Rattle.entry.specs.Kind.{byDirection, otherKind, kindOf}
 use Rattle.header.specs.Dash.{dashAt, firstRun, taskOf, digitsBehind, pidOf}
 use Rattle.header.specs.Cpu.{cpuAt, digitsWithin, cpuOf}
@@ -51,8 +53,12 @@ pub strict-twins : StrictTwins
 unfolding computes
 strict-twins = record { P6 = refl; P7 = refl }
 
+-- the entry of a line with the required keys alone, by how many dwords it has
+abbrev pub plainEntry : ℕ → Entry
+plainEntry n = record { «task_at» = 0; «task_len» = 1; pid = 1; cpu = 2; seconds = 1; microseconds = 2; «function_at» = 15; «function_len» = 1; kind = 0; size = 3; dropped = false; domain = 0; route = 0; offset = W.Absent; code = B.Absent; len = W.Absent; port = B.Absent; config = B.Absent; seq = B.Absent; unplug = B.Absent; dwords = n }
+
 -- P7 in a line, in lenient: `data=[0x1,0x2]` is accepted with no dwords
-pub accepted-P7 : parseOf Lenient (bytes "a-1 [002] 1.2: f: type=t size=3 domain=0 route=0 data=[0x1,0x2]") 256 ≡ T.is (record { «task_at» = 0; «task_len» = 1; pid = 1; cpu = 2; seconds = 1; microseconds = 2; «function_at» = 15; «function_len» = 1; kind = 0; size = 3; dropped = false; domain = 0; route = 0; offset = W.Absent; code = B.Absent; len = W.Absent; port = B.Absent; config = B.Absent; seq = B.Absent; unplug = B.Absent; dwords = 0 })
+pub accepted-P7 : parseOf Lenient (bytes "a-1 [002] 1.2: f: type=t size=3 domain=0 route=0 data=[0x1,0x2]") 256 ≡ T.is (plainEntry 0)
 unfolding computes
 accepted-P7 = refl
 

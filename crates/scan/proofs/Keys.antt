@@ -1,5 +1,5 @@
 -- Keys: what the last pair of a key says is what the reading finds there, as text, decimal or hex of any width. Assumes nothing.
-use Prim.Native.Nat.{ℕ, _≤_}
+use Prim.Native.Nat.{ℕ}
 use mathlib.Core.Path.{_≡_, refl, sym, ap, _∙_}
 use mathlib.Core.List.{List}
 use mathlib.Core.Option.{some}
@@ -11,7 +11,6 @@ use Rattle.pairs.specs.declared.pair.Span.{Span}
 use Rattle.pairs.specs.declared.pair.Span.the-variants.{At, Nothing}
 use Rattle.pairs.specs.Pair.{part, lastPair, decimalIn, decimalOf, hexAt}
 use Rattle.pairs.proofs.LastPairs.{last-pair-is, last-pair-all, decimal-some, hex-some, hex-none}
-use Rattle.pairs.proofs.Slots.{hex-fits}
 use Rattle.scan.specs.Body.{textAt}
 use Rattle.scan.specs.Line.{KeyText, KeyDecimal, KeyHex}
 
@@ -65,10 +64,3 @@ module _ (p key : List ℕ) where
     key-hex-all {v} r =
         sym (hex-some p key limit (last-pair-all p key (r .found .last)))
         ∙ hex-all limit (rw (← r .found .is) (r .reads))
-
-    -- a number that was read is within the width
-    pub decimal-fits : {v : ℕ} → decimalOf p key limit ≡ N.Value v → v ≤ limit
-    decimal-fits e = key-decimal-is e .reads .within
-
-    pub hex-key-fits : {v : ℕ} → hexAt p key limit ≡ N.Value v → v ≤ limit
-    hex-key-fits {v} e = let r = key-hex-is e in hex-fits limit (r .text) (hex-all limit (r .reads))

@@ -2,6 +2,7 @@
 pub mod Frames
 pub mod Splits
 pub mod Keys
+pub mod Said
 pub mod Stages
 pub mod Values
 pub mod Chain
@@ -10,3 +11,4 @@ pub mod Theorems
 pub mod Choice
 pub mod Framed
 pub mod Cases
+pub mod Required

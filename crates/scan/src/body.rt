@@ -2,21 +2,31 @@
 use entry::kind::kind_of;
 use entry::optional::MaybeByte;
 use entry::optional::MaybeWord;
-use pairs::key::decimal_of;
-use pairs::key::hex_of;
-use pairs::pair::Span;
-use pairs::pair::last_pair;
+use pairs::keys::CONFIG;
+use pairs::keys::DOMAIN;
+use pairs::keys::DROPPED;
+use pairs::keys::ERROR;
+use pairs::keys::LEN;
+use pairs::keys::OFFSET;
+use pairs::keys::PORT;
+use pairs::keys::ROUTE;
+use pairs::keys::ROWS;
+use pairs::keys::SEQ;
+use pairs::keys::SIZE;
+use pairs::keys::TYPE;
+use pairs::keys::UNPLUG;
+use pairs::last::Last;
+use pairs::last::number_in;
 use refusal::NO_DOMAIN;
 use refusal::NO_ROUTE;
 use refusal::NO_SIZE;
 use refusal::NO_TYPE;
-use text::number::MAX_8;
-use text::number::MAX_16;
-use text::number::MAX_32;
-use text::number::MAX_64;
 use text::number::Number;
 ghost use mathlib.Core.Path.{_≡_};
-ghost use Rattle.scan.specs.Body.{hexByte, hexWord, decimalByte, decimalWord, droppedOf, optionalsOf, bodyTold, bodyOf};
+ghost use Prim.Native.Nat.{_^_, _-_, _≤_};
+ghost use Rattle.text.specs.Number.{numberValue};
+ghost use Rattle.pairs.specs.Table.{Within, AtMost, LastPairs, numberIn};
+ghost use Rattle.scan.specs.Body.{asByte, asWord, isOne, optionalsOf, bodyTold, bodyOf};
 
 pub struct Optionals {
     pub offset: MaybeWord,
@@ -42,25 +52,27 @@ pub enum BodyAnswer {
     Refused(u8),
 }
 
-// The kind goes by the type and the header's function.
-pub fn read_body(p: &[u8], function: &[u8]) -> BodyAnswer
+// The kind goes by the type and the header's function. Asked for: the last pair of each key.
+pub fn read_body(p: &[u8], function: &[u8], lasts: [Last; ROWS]) -> BodyAnswer
+    requires { ⌜ LastPairs (now p) lasts ⌝ }
     ensures { λ r. ⌜ bodyTold r ≡ bodyOf (now (p .entry)) (now (function .entry)) ⌝ }
 {
-    let Span::At { from, to } = last_pair(p, b"type") else {
+    let name = lasts[TYPE];
+    let Last::At { from, to, form: _ } = name else {
         return BodyAnswer::Refused(NO_TYPE);
     };
     let kind = kind_of(&p[from..to], function);
-    let Number::Value(size) = decimal_of(p, b"size", MAX_16) else {
+    let Number::Value(size) = number_in(p, lasts[SIZE]) else {
         return BodyAnswer::Refused(NO_SIZE);
     };
-    let Number::Value(domain) = decimal_of(p, b"domain", MAX_32) else {
+    let Number::Value(domain) = number_in(p, lasts[DOMAIN]) else {
         return BodyAnswer::Refused(NO_DOMAIN);
     };
-    let Number::Value(route) = hex_of(p, b"route", MAX_64) else {
+    let Number::Value(route) = number_in(p, lasts[ROUTE]) else {
         return BodyAnswer::Refused(NO_ROUTE);
     };
-    let dropped = is_dropped(p);
-    let optionals = read_optionals(p);
+    let dropped = is_one(p, lasts[DROPPED]);
+    let optionals = read_optionals(p, lasts);
     BodyAnswer::Got(Body {
         kind: kind,
         size: size as u16,
@@ -71,26 +83,28 @@ pub fn read_body(p: &[u8], function: &[u8]) -> BodyAnswer
     })
 }
 
-// True if it reads as 1 in decimal of 8 bits, else false.
-fn is_dropped(p: &[u8]) -> bool
-    ensures { λ r. ⌜ r ≡ droppedOf (now (p .entry)) ⌝ }
+// True if it reads as 1, else false.
+fn is_one(p: &[u8], last: Last) -> bool
+    requires { ⌜ Within (now p) last ⌝ }
+    ensures { λ r. ⌜ r ≡ isOne (numberIn (now (p .entry)) last) ⌝ }
 {
-    match decimal_of(p, b"dropped", MAX_8) {
+    match number_in(p, last) {
         Number::Value(v) => v == 1,
         Number::Unreadable => false,
     }
 }
 
-fn read_optionals(p: &[u8]) -> Optionals
+fn read_optionals(p: &[u8], lasts: [Last; ROWS]) -> Optionals
+    requires { ⌜ LastPairs (now p) lasts ⌝ }
     ensures { λ r. ⌜ r ≡ optionalsOf (now (p .entry)) ⌝ }
 {
-    let offset = hex_word(p, b"offset");
-    let code = hex_byte(p, b"error");
-    let len = decimal_word(p, b"len");
-    let port = decimal_byte(p, b"port");
-    let config = hex_byte(p, b"config");
-    let seq = decimal_byte(p, b"seq");
-    let unplug = hex_byte(p, b"unplug");
+    let offset = word_in(p, lasts[OFFSET]);
+    let code = byte_in(p, lasts[ERROR]);
+    let len = word_in(p, lasts[LEN]);
+    let port = byte_in(p, lasts[PORT]);
+    let config = byte_in(p, lasts[CONFIG]);
+    let seq = byte_in(p, lasts[SEQ]);
+    let unplug = byte_in(p, lasts[UNPLUG]);
     Optionals {
         offset: offset,
         code: code,
@@ -102,37 +116,22 @@ fn read_optionals(p: &[u8]) -> Optionals
     }
 }
 
-fn hex_byte(p: &[u8], key: &[u8]) -> MaybeByte
-    ensures { λ r. ⌜ r ≡ hexByte (now (p .entry)) (now (key .entry)) ⌝ }
+// Asked for by this and the next: a value within the text that says no wider number.
+fn byte_in(p: &[u8], last: Last) -> MaybeByte
+    requires { ⌜ Within (now p) last × AtMost (2 ^ 8 - 1) (now p) last ⌝ }
+    ensures { λ r. ⌜ r ≡ asByte (numberValue (numberIn (now (p .entry)) last)) ⌝ }
 {
-    match hex_of(p, key, MAX_8) {
+    match number_in(p, last) {
         Number::Value(v) => MaybeByte::Is(v as u8),
         Number::Unreadable => MaybeByte::Absent,
     }
 }
 
-fn hex_word(p: &[u8], key: &[u8]) -> MaybeWord
-    ensures { λ r. ⌜ r ≡ hexWord (now (p .entry)) (now (key .entry)) ⌝ }
+fn word_in(p: &[u8], last: Last) -> MaybeWord
+    requires { ⌜ Within (now p) last × AtMost (2 ^ 16 - 1) (now p) last ⌝ }
+    ensures { λ r. ⌜ r ≡ asWord (numberValue (numberIn (now (p .entry)) last)) ⌝ }
 {
-    match hex_of(p, key, MAX_16) {
-        Number::Value(v) => MaybeWord::Is(v as u16),
-        Number::Unreadable => MaybeWord::Absent,
-    }
-}
-
-fn decimal_byte(p: &[u8], key: &[u8]) -> MaybeByte
-    ensures { λ r. ⌜ r ≡ decimalByte (now (p .entry)) (now (key .entry)) ⌝ }
-{
-    match decimal_of(p, key, MAX_8) {
-        Number::Value(v) => MaybeByte::Is(v as u8),
-        Number::Unreadable => MaybeByte::Absent,
-    }
-}
-
-fn decimal_word(p: &[u8], key: &[u8]) -> MaybeWord
-    ensures { λ r. ⌜ r ≡ decimalWord (now (p .entry)) (now (key .entry)) ⌝ }
-{
-    match decimal_of(p, key, MAX_16) {
+    match number_in(p, last) {
         Number::Value(v) => MaybeWord::Is(v as u16),
         Number::Unreadable => MaybeWord::Absent,
     }

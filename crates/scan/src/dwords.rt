@@ -3,13 +3,16 @@ use crate::Pieces;
 use pairs::dwords::count_pieces;
 use pairs::dwords::inside;
 use pairs::dwords::write_dwords;
+use pairs::last::Last;
 use pairs::pair::Span;
-use pairs::pair::last_pair;
 use refusal::BAD_PIECE;
 use refusal::FEW_SLOTS;
 use refusal::MANY_DWORDS;
 use refusal::NO_DATA;
 ghost use mathlib.Core.Path.{_≡_};
+ghost use Rattle.text.specs.Quote.{bytes};
+ghost use Rattle.pairs.specs.declared.keys.Form.the-variants.{Dwords};
+ghost use Rattle.pairs.specs.Table.{must, LastAt};
 ghost use Rattle.scan.specs.Dwords.{refuses, DataRead};
 
 pub enum DataAnswer {
@@ -17,11 +20,12 @@ pub enum DataAnswer {
     Refused(u8),
 }
 
-// All is judged before the first dword is written.
-pub fn read_data(p: &[u8], pieces: Pieces, slots: &mut [u32]) -> DataAnswer
+// All is judged before the first dword is written. Asked for: the last pair of `data`.
+pub fn read_data(p: &[u8], last: Last, pieces: Pieces, slots: &mut [u32]) -> DataAnswer
+    requires { ⌜ LastAt (now p) (must (bytes "data") Dwords) last ⌝ }
     ensures { λ r. ⌜ DataRead pieces (now (p .entry)) (now (slots .entry)) (now (slots .exit)) r ⌝ }
 {
-    let Span::At { from, to } = last_pair(p, b"data") else {
+    let Last::At { from, to, form: _ } = last else {
         return DataAnswer::Refused(NO_DATA);
     };
     let value = &p[from..to];

@@ -15,6 +15,8 @@ use crate::head::Head;
 use crate::head::HeadAnswer;
 use crate::head::read_head;
 use entry::Entry;
+use pairs::keys::DATA;
+use pairs::last::last_pairs;
 use text::class::Class;
 use text::run::run_end;
 use text::run::strip;
@@ -76,8 +78,9 @@ fn parse_payload(
     ensures { λ r. ⌜ PayloadRead pieces (now (header .entry)) start head (now (payload .entry)) (now (slots .entry)) (now (slots .exit)) r ⌝ }
 {
     let from = head.function;
-    match read_body(payload, &header[from..]) {
-        BodyAnswer::Got(body) => match read_data(payload, pieces, slots) {
+    let lasts = last_pairs(payload);
+    match read_body(payload, &header[from..], lasts) {
+        BodyAnswer::Got(body) => match read_data(payload, lasts[DATA], pieces, slots) {
             DataAnswer::Got(dwords) => Answer::Entry(assemble(
                 start,
                 header.len(),

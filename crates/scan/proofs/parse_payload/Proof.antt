@@ -1,11 +1,15 @@
 -- `parse_payload` meets its contract, one law a way out. Assumes nothing.
 use Rattle.scan.proofs.Stages.{payload-refused, data-refused, payload-read}
+use Rattle.scan.proofs.Said.{data-kept}
 use Rattle.scan.specs.Body.{bodyTold, bodyOf}
 use Rattle.text.proofs.Stripping.{rest-is}
 use mathlib.Core.Path.{sym, ap, _∙_}
 use borrow.Author.Needs.{needs}
 use Rattle.scan.proofs.parse_payload.Statement.{statement}
 use Rattle.scan.proofs.parse_payload.Tie as tie
+
+last-pairs-requires : tie.Need-last-pairs-requires
+last-pairs-requires c κs = search needs
 
 sub-read-body : tie.Need-sub-read-body
 sub-read-body c = search needs
@@ -22,8 +26,11 @@ read-body-requires c κs = search needs
 enum-known-body : tie.Need-enum-known-body
 enum-known-body c = search needs
 
+array-copy-out-read-data : tie.Need-array-copy-out-read-data
+array-copy-out-read-data c = search needs
+
 read-data-requires : tie.Need-read-data-requires
-read-data-requires c κs = search needs
+read-data-requires c κs = data-kept _ (c .before .before .before .before .before .before .before .last-pairs .ensures)
 
 enum-known-dwords : tie.Need-enum-known-dwords
 enum-known-dwords c = search needs
@@ -42,28 +49,31 @@ same-length c = search needs
 
 returns : tie.Need-returns
 returns c =
-    payload-read _ _ _ _ _ _ (ap (bodyOf _) (sym (rest-is (c .before .before .before .before .before .before .before .before .before .before .before .before .before .before .before .before .args .head .function) (c .before .before .before .before .before .before .before .before .before .before .before .before .before .before .before .before .args .header .now))) ∙ sym (c .before .before .before .before .before .before .before .before .before .before .before .read-body .ensures) ∙ ap bodyTold (c .before .before .before .before .before .before .before .before .before .body .given .1)) (c .before .before .before .before .before .before .read-data .ensures) (c .before .before .dwords .given .1) (c .assemble .ensures)
+    let got = ap (bodyOf _) (sym (rest-is (c .before .before .before .before .before .before .before .before .before .before .before .before .before .before .before .before .before .before .args .head .function) (c .before .before .before .before .before .before .before .before .before .before .before .before .before .before .before .before .before .before .args .header .now))) ∙ sym (c .before .before .before .before .before .before .before .before .before .before .before .before .read-body .ensures) ∙ ap bodyTold (c .before .before .before .before .before .before .before .before .before .before .body .given .1) in
+    payload-read _ _ _ _ _ _ got (c .before .before .before .before .before .before .read-data .ensures) (c .before .before .dwords .given .1) (c .assemble .ensures)
 
 same-length-2 : tie.Need-same-length-2
 same-length-2 c = search needs
 
 returns-2 : tie.Need-returns-2
 returns-2 c =
-    data-refused _ _ _ _ _ _ (ap (bodyOf _) (sym (rest-is (c .before .before .before .before .before .before .before .before .before .before .before .before .before .before .before .args .head .function) (c .before .before .before .before .before .before .before .before .before .before .before .before .before .before .before .args .header .now))) ∙ sym (c .before .before .before .before .before .before .before .before .before .before .read-body .ensures) ∙ ap bodyTold (c .before .before .before .before .before .before .before .before .body .given .1)) (c .before .before .before .before .before .read-data .ensures) (c .before .number .given .1)
+    let got = ap (bodyOf _) (sym (rest-is (c .before .before .before .before .before .before .before .before .before .before .before .before .before .before .before .before .before .args .head .function) (c .before .before .before .before .before .before .before .before .before .before .before .before .before .before .before .before .before .args .header .now))) ∙ sym (c .before .before .before .before .before .before .before .before .before .before .before .read-body .ensures) ∙ ap bodyTold (c .before .before .before .before .before .before .before .before .before .body .given .1) in
+    data-refused _ _ _ _ _ _ got (c .before .before .before .before .before .read-data .ensures) (c .before .number .given .1)
 
 returns-3 : tie.Need-returns-3
-returns-3 c =
-    payload-refused _ _ _ _ _ _ (ap (bodyOf _) (sym (rest-is (c .before .before .before .before .before .before .before .before .args .head .function) (c .before .before .before .before .before .before .before .before .args .header .now))) ∙ sym (c .before .before .before .read-body .ensures) ∙ ap bodyTold (c .before .number2 .given .1))
+returns-3 c = payload-refused _ _ _ _ _ _ (ap (bodyOf _) (sym (rest-is (c .before .before .before .before .before .before .before .before .before .args .head .function) (c .before .before .before .before .before .before .before .before .before .args .header .now))) ∙ sym (c .before .before .before .read-body .ensures) ∙ ap bodyTold (c .before .number2 .given .1))
 
 pub parse-payload-spec : {M : Type 1} → statement M
 parse-payload-spec =
     tie.close
     (tie.spec
+    last-pairs-requires
     sub-read-body
     part-read-body-start
     part-read-body-end
     read-body-requires
     enum-known-body
+    array-copy-out-read-data
     read-data-requires
     enum-known-dwords
     assemble-requires

@@ -1,34 +1,29 @@
 -- `dwords::read_data` meets its contract: all is judged by the count of the pieces before a dword is written. Assumes nothing.
 use Rattle.scan.proofs.Stages.{data-missing, data-unbracketed, data-there, bad-there, data-bad, data-many, data-crowded, data-got}
+use Rattle.scan.proofs.Said.{data-at, data-nowhere}
 use mathlib.Core.Path.{sym, _∙_}
 use native.Mathlib.Omega.{arith}
 use borrow.Author.Needs.{needs}
 use Rattle.scan.proofs.dwords.read_data.Statement.{statement}
 use Rattle.scan.proofs.dwords.read_data.Tie as tie
 
-slice-aggregate-last-pair : tie.Need-slice-aggregate-last-pair
-slice-aggregate-last-pair c = search needs
-
-last-pair-requires : tie.Need-last-pair-requires
-last-pair-requires c κs = search needs
-
-enum-known-from : tie.Need-enum-known-from
-enum-known-from c = search needs
+enum-known-last : tie.Need-enum-known-last
+enum-known-last c = search needs
 
 enum-told : tie.Need-enum-told
 enum-told c = search needs
 
 returns : tie.Need-returns
-returns c = data-missing _ _ _ (sym (c .before .before .last-pair .ensures .is) ∙ c .enum-told .given .1)
+returns c = data-missing _ _ _ (data-nowhere _ (c .before .before .before .before .pre) (c .enum-told .given .1))
 
 sub-value : tie.Need-sub-value
-sub-value c = omega (arith, c .before .before .before .last-pair .ensures .within _ _ (c .before .from .given .1))
+sub-value c = omega (arith, c .before .before .before .before .before .pre .within _ _ _ (c .before .last .given .1))
 
 part-value-start : tie.Need-part-value-start
-part-value-start c = omega (arith, c .before .before .before .last-pair .ensures .within _ _ (c .before .from .given .1))
+part-value-start c = omega (arith, c .before .before .before .before .before .pre .within _ _ _ (c .before .last .given .1))
 
 part-value-end : tie.Need-part-value-end
-part-value-end c = omega (arith, c .before .before .before .last-pair .ensures .within _ _ (c .before .from .given .1))
+part-value-end c = omega (arith, c .before .before .before .before .before .pre .within _ _ _ (c .before .last .given .1))
 
 inside-requires : tie.Need-inside-requires
 inside-requires c κs = search needs
@@ -40,7 +35,7 @@ enum-told-2 : tie.Need-enum-told-2
 enum-told-2 c = search needs
 
 returns-2 : tie.Need-returns-2
-returns-2 c = data-unbracketed _ _ _ (sym (c .before .before .before .before .before .before .before .last-pair .ensures .is) ∙ c .before .before .before .before .before .from .given .1) (sym (c .before .before .inside .ensures .is) ∙ c .enum-told2 .given .1)
+returns-2 c = data-unbracketed _ _ _ (data-at _ (c .before .before .before .before .before .before .before .before .before .pre) (c .before .before .before .before .before .last .given .1)) (sym (c .before .before .inside .ensures .is) ∙ c .enum-told2 .given .1)
 
 sub-inner : tie.Need-sub-inner
 sub-inner c = omega (arith, c .before .before .before .inside .ensures .within _ _ (c .before .first .given .1))
@@ -58,13 +53,34 @@ refuse-bad-requires : tie.Need-refuse-bad-requires
 refuse-bad-requires c κs = search needs
 
 returns-3 : tie.Need-returns-3
-returns-3 c = data-bad _ _ _ _ (data-there (c .before .before .before .before .before .before .before .before .before .before .before .before .before .before .before .before .args .pieces) _ (c .before .before .before .before .before .before .before .before .before .before .before .before .before .before .before .before .args .slots .now) (sym (c .before .before .before .before .before .before .before .before .before .before .before .before .last-pair .ensures .is) ∙ c .before .before .before .before .before .before .before .before .before .before .from .given .1) (sym (c .before .before .before .before .before .before .before .inside .ensures .is) ∙ c .before .before .before .before .before .first .given .1)) ((bad-there (c .before .before .before .before .before .before .before .before .before .before .before .before .before .before .before .before .args .pieces) _ (c .before .before .before .before .before .before .before .before .before .before .before .before .before .before .before .before .args .slots .now) (sym (c .before .before .before .before .before .before .before .before .before .before .before .before .last-pair .ensures .is) ∙ c .before .before .before .before .before .before .before .before .before .before .from .given .1) (sym (c .before .before .before .before .before .before .before .inside .ensures .is) ∙ c .before .before .before .before .before .first .given .1) (c .before .before .count-pieces .ensures .bad-is) (c .before .refuse-bad .ensures)) ∙ c .if1 .taken)
+returns-3 c =
+    let choice = c .before .before .before .before .before .before .before .before .before .before .before .before .before .before .args .pieces in
+    let slots = c .before .before .before .before .before .before .before .before .before .before .before .before .before .before .args .slots .now in
+    let found = data-at _ (c .before .before .before .before .before .before .before .before .before .before .before .before .before .before .pre) (c .before .before .before .before .before .before .before .before .before .before .last .given .1) in
+    let brackets = sym (c .before .before .before .before .before .before .before .inside .ensures .is) ∙ c .before .before .before .before .before .first .given .1 in
+    let there = data-there choice _ slots found brackets in
+    let refused = bad-there choice _ slots found brackets (c .before .before .count-pieces .ensures .bad-is) (c .before .refuse-bad .ensures) in
+    data-bad _ _ _ _ there (refused ∙ c .if1 .taken)
 
 returns-4 : tie.Need-returns-4
-returns-4 c = data-many _ _ _ _ (data-there (c .before .before .before .before .before .before .before .before .before .before .before .before .before .before .before .before .before .before .args .pieces) _ (c .before .before .before .before .before .before .before .before .before .before .before .before .before .before .before .before .before .before .args .slots .now) (sym (c .before .before .before .before .before .before .before .before .before .before .before .before .before .before .last-pair .ensures .is) ∙ c .before .before .before .before .before .before .before .before .before .before .before .before .from .given .1) (sym (c .before .before .before .before .before .before .before .before .before .inside .ensures .is) ∙ c .before .before .before .before .before .before .before .first .given .1)) ((bad-there (c .before .before .before .before .before .before .before .before .before .before .before .before .before .before .before .before .before .before .args .pieces) _ (c .before .before .before .before .before .before .before .before .before .before .before .before .before .before .before .before .before .before .args .slots .now) (sym (c .before .before .before .before .before .before .before .before .before .before .before .before .before .before .last-pair .ensures .is) ∙ c .before .before .before .before .before .before .before .before .before .before .before .before .from .given .1) (sym (c .before .before .before .before .before .before .before .before .before .inside .ensures .is) ∙ c .before .before .before .before .before .before .before .first .given .1) (c .before .before .before .before .count-pieces .ensures .bad-is) (c .before .before .before .refuse-bad .ensures)) ∙ c .before .before .if1 .left) (omega (arith, c .before .before .before .before .count-pieces .ensures .dwords-are, c .if2 .taken))
+returns-4 c =
+    let choice = c .before .before .before .before .before .before .before .before .before .before .before .before .before .before .before .before .args .pieces in
+    let slots = c .before .before .before .before .before .before .before .before .before .before .before .before .before .before .before .before .args .slots .now in
+    let found = data-at _ (c .before .before .before .before .before .before .before .before .before .before .before .before .before .before .before .before .pre) (c .before .before .before .before .before .before .before .before .before .before .before .before .last .given .1) in
+    let brackets = sym (c .before .before .before .before .before .before .before .before .before .inside .ensures .is) ∙ c .before .before .before .before .before .before .before .first .given .1 in
+    let there = data-there choice _ slots found brackets in
+    let refused = bad-there choice _ slots found brackets (c .before .before .before .before .count-pieces .ensures .bad-is) (c .before .before .before .refuse-bad .ensures) in
+    data-many _ _ _ _ there (refused ∙ c .before .before .if1 .left) (omega (arith, c .before .before .before .before .count-pieces .ensures .dwords-are, c .if2 .taken))
 
 returns-5 : tie.Need-returns-5
-returns-5 c = data-crowded _ _ _ _ (data-there (c .before .before .before .before .before .before .before .before .before .before .before .before .before .before .before .before .before .before .before .before .args .pieces) _ (c .before .before .before .before .before .before .before .before .before .before .before .before .before .before .before .before .before .before .before .before .args .slots .now) (sym (c .before .before .before .before .before .before .before .before .before .before .before .before .before .before .before .before .last-pair .ensures .is) ∙ c .before .before .before .before .before .before .before .before .before .before .before .before .before .before .from .given .1) (sym (c .before .before .before .before .before .before .before .before .before .before .before .inside .ensures .is) ∙ c .before .before .before .before .before .before .before .before .before .first .given .1)) ((bad-there (c .before .before .before .before .before .before .before .before .before .before .before .before .before .before .before .before .before .before .before .before .args .pieces) _ (c .before .before .before .before .before .before .before .before .before .before .before .before .before .before .before .before .before .before .before .before .args .slots .now) (sym (c .before .before .before .before .before .before .before .before .before .before .before .before .before .before .before .before .last-pair .ensures .is) ∙ c .before .before .before .before .before .before .before .before .before .before .before .before .before .before .from .given .1) (sym (c .before .before .before .before .before .before .before .before .before .before .before .inside .ensures .is) ∙ c .before .before .before .before .before .before .before .before .before .first .given .1) (c .before .before .before .before .before .before .count-pieces .ensures .bad-is) (c .before .before .before .before .before .refuse-bad .ensures)) ∙ c .before .before .before .before .if1 .left) (omega (arith, c .before .before .before .before .before .before .count-pieces .ensures .dwords-are, c .before .before .if2 .left)) (omega (arith, c .before .before .before .before .before .before .count-pieces .ensures .dwords-are, c .if3 .taken))
+returns-5 c =
+    let choice = c .before .before .before .before .before .before .before .before .before .before .before .before .before .before .before .before .before .before .args .pieces in
+    let slots = c .before .before .before .before .before .before .before .before .before .before .before .before .before .before .before .before .before .before .args .slots .now in
+    let found = data-at _ (c .before .before .before .before .before .before .before .before .before .before .before .before .before .before .before .before .before .before .pre) (c .before .before .before .before .before .before .before .before .before .before .before .before .before .before .last .given .1) in
+    let brackets = sym (c .before .before .before .before .before .before .before .before .before .before .before .inside .ensures .is) ∙ c .before .before .before .before .before .before .before .before .before .first .given .1 in
+    let there = data-there choice _ slots found brackets in
+    let refused = bad-there choice _ slots found brackets (c .before .before .before .before .before .before .count-pieces .ensures .bad-is) (c .before .before .before .before .before .refuse-bad .ensures) in
+    data-crowded _ _ _ _ there (refused ∙ c .before .before .before .before .if1 .left) (omega (arith, c .before .before .before .before .before .before .count-pieces .ensures .dwords-are, c .before .before .if2 .left)) (omega (arith, c .before .before .before .before .before .before .count-pieces .ensures .dwords-are, c .if3 .taken))
 
 write-dwords-requires : tie.Need-write-dwords-requires
 write-dwords-requires c κs = omega (arith, c .before .before .before .before .before .before .before .count-pieces .ensures .dwords-are, c .before .if3 .left)
@@ -73,15 +89,24 @@ same-length : tie.Need-same-length
 same-length c = search needs
 
 returns-6 : tie.Need-returns-6
-returns-6 c = data-got _ _ _ _ (data-there (c .before .before .before .before .before .before .before .before .before .before .before .before .before .before .before .before .before .before .before .before .before .before .before .before .args .pieces) _ (c .before .before .before .before .before .before .before .before .before .before .before .before .before .before .before .before .before .before .before .before .before .before .before .before .args .slots .now) (sym (c .before .before .before .before .before .before .before .before .before .before .before .before .before .before .before .before .before .before .before .before .last-pair .ensures .is) ∙ c .before .before .before .before .before .before .before .before .before .before .before .before .before .before .before .before .before .before .from .given .1) (sym (c .before .before .before .before .before .before .before .before .before .before .before .before .before .before .before .inside .ensures .is) ∙ c .before .before .before .before .before .before .before .before .before .before .before .before .before .first .given .1)) ((bad-there (c .before .before .before .before .before .before .before .before .before .before .before .before .before .before .before .before .before .before .before .before .before .before .before .before .args .pieces) _ (c .before .before .before .before .before .before .before .before .before .before .before .before .before .before .before .before .before .before .before .before .before .before .before .before .args .slots .now) (sym (c .before .before .before .before .before .before .before .before .before .before .before .before .before .before .before .before .before .before .before .before .last-pair .ensures .is) ∙ c .before .before .before .before .before .before .before .before .before .before .before .before .before .before .before .before .before .before .from .given .1) (sym (c .before .before .before .before .before .before .before .before .before .before .before .before .before .before .before .inside .ensures .is) ∙ c .before .before .before .before .before .before .before .before .before .before .before .before .before .first .given .1) (c .before .before .before .before .before .before .before .before .before .before .count-pieces .ensures .bad-is) (c .before .before .before .before .before .before .before .before .before .refuse-bad .ensures)) ∙ c .before .before .before .before .before .before .before .before .if1 .left) _ _ (c .before .before .before .before .before .before .before .before .before .before .count-pieces .ensures .dwords-are) (omega (arith, c .before .before .before .before .before .before .before .before .before .before .count-pieces .ensures .dwords-are, c .before .before .before .before .before .before .if2 .left)) (omega (arith, c .before .before .before .before .before .before .before .before .before .before .count-pieces .ensures .dwords-are, c .before .before .before .before .if3 .left)) (c .before .before .write-dwords .ensures)
+returns-6 c =
+    let choice = c .before .before .before .before .before .before .before .before .before .before .before .before .before .before .before .before .before .before .before .before .before .before .args .pieces in
+    let slots = c .before .before .before .before .before .before .before .before .before .before .before .before .before .before .before .before .before .before .before .before .before .before .args .slots .now in
+    let found = data-at _ (c .before .before .before .before .before .before .before .before .before .before .before .before .before .before .before .before .before .before .before .before .before .before .pre) (c .before .before .before .before .before .before .before .before .before .before .before .before .before .before .before .before .before .before .last .given .1) in
+    let brackets = sym (c .before .before .before .before .before .before .before .before .before .before .before .before .before .before .before .inside .ensures .is) ∙ c .before .before .before .before .before .before .before .before .before .before .before .before .before .first .given .1 in
+    let there = data-there choice _ slots found brackets in
+    let refused = bad-there choice _ slots found brackets (c .before .before .before .before .before .before .before .before .before .before .count-pieces .ensures .bad-is) (c .before .before .before .before .before .before .before .before .before .refuse-bad .ensures) in
+    data-got _ _ _ _ there (refused ∙ c .before .before .before .before .before .before .before .before .if1 .left) _ _
+    (c .before .before .before .before .before .before .before .before .before .before .count-pieces .ensures .dwords-are)
+    (omega (arith, c .before .before .before .before .before .before .before .before .before .before .count-pieces .ensures .dwords-are, c .before .before .before .before .before .before .if2 .left))
+    (omega (arith, c .before .before .before .before .before .before .before .before .before .before .count-pieces .ensures .dwords-are, c .before .before .before .before .if3 .left))
+    (c .before .before .write-dwords .ensures)
 
 pub read-data-spec : {M : Type 1} → statement M
 read-data-spec =
     tie.close
     (tie.spec
-    slice-aggregate-last-pair
-    last-pair-requires
-    enum-known-from
+    enum-known-last
     enum-told
     returns
     sub-value

@@ -1,14 +1,12 @@
 """Hard lines, by class: python3 oracle/generate/lines.py --seed N --count N --short N OUT"""
 
-import argparse
 import os
 import sys
 
 sys.dont_write_bytecode = True
 sys.path.insert(0, os.path.join(os.path.dirname(os.path.abspath(__file__)), ".."))
 
-from generate import parts, short
-from generate.seed import Seed, frame
+from generate import classes, parts, short
 
 LONGEST = 4096
 POWERS = (8, 16, 32, 63, 64)
@@ -86,8 +84,7 @@ def repeated(seed):
         if seed.one_in(3):
             value = seed.pick((b"z", b"[1]", b"0x", b"99999999999999999999", value))
         found.insert(seed.below(len(found) + 1), (key, value))
-    body = b", ".join(key + b"=" + value for key, value in found)
-    return parts.header(seed) + b": " + body
+    return parts.header(seed) + b": " + parts.joined(found)
 
 
 BRACKETS = (
@@ -102,7 +99,7 @@ def brackets(seed):
     for _ in range(seed.within(1, 2)):
         found[seed.pick(list(found) + [b"x", b"y"])] = seed.pick(BRACKETS)
     items = seed.shuffled(found.items()) if seed.one_in(2) else list(found.items())
-    body = b", ".join(key + b"=" + value for key, value in items)
+    body = parts.joined(items)
     if seed.one_in(4):
         at = seed.below(len(body) + 1)
         body = body[:at] + seed.pick(BRACKETS) + body[at:]
@@ -458,33 +455,9 @@ SHARE.update((f"damaged, {name}", 0.2) for name in BYTE_CLASSES)
 
 def generate(seed, count, longest_short, only=None):
     """Class and line, about `count` over all classes or one, then all short texts."""
-    each = count / sum(SHARE.get(name, 1) for name in CLASSES if only in (None, name))
-    for index, (name, make) in enumerate(CLASSES.items()):
-        if only not in (None, name):
-            continue
-        source = Seed(seed * 1000 + index)
-        for _ in range(round(each * SHARE.get(name, 1))):
-            yield name, make(source)
+    yield from classes.by_class(CLASSES, SHARE, seed, count, only)
     yield from short.all_short(longest_short)
 
 
-def main():
-    options = argparse.ArgumentParser(description=__doc__)
-    options.add_argument("--seed", type=int, default=1)
-    options.add_argument("--count", type=int, default=10_000)
-    options.add_argument("--short", type=int, default=4, help="tokens in the longest short text")
-    options.add_argument("--only", choices=CLASSES, help="one class and no short texts")
-    options.add_argument("out")
-    chosen = options.parse_args()
-    counts = {}
-    with open(chosen.out, "wb") as out:
-        longest = 0 if chosen.only else chosen.short
-        for name, line in generate(chosen.seed, chosen.count, longest, chosen.only):
-            counts[name] = counts.get(name, 0) + 1
-            out.write(frame(line))
-    for name, count in counts.items():
-        print(f"{name} {count}")
-
-
 if __name__ == "__main__":
-    main()
+    classes.write(__doc__, CLASSES, generate)

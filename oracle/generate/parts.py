@@ -65,11 +65,21 @@ def pairs(seed, optional=None):
     return found
 
 
+def joined(items, between=b", "):
+    """Pairs one after the other; a key may stand twice."""
+    return between.join(key + b"=" + value for key, value in items)
+
+
 def payload(found, between=b", "):
-    return between.join(key + b"=" + value for key, value in found.items())
+    return joined(found.items(), between)
+
+
+def ended(seed, text):
+    """With a newline or without."""
+    return text + (b"\n" if seed.below(2) else b"")
 
 
 def line(seed, head=None, found=None, between=b", "):
     head = header(seed) if head is None else head
     found = pairs(seed) if found is None else found
-    return head + b": " + payload(found, between) + (b"\n" if seed.below(2) else b"")
+    return ended(seed, head + b": " + payload(found, between))

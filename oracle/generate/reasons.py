@@ -91,8 +91,7 @@ def head(seed):
 
 def line_of(seed, items, between=b", "):
     """A line of pairs; a key may stand twice."""
-    body = between.join(key + b"=" + value for key, value in items)
-    return head(seed) + b": " + body + (b"\n" if seed.below(2) else b"")
+    return parts.ended(seed, head(seed) + b": " + parts.joined(items, between))
 
 
 def bracket(pieces, between=b", "):

@@ -1,6 +1,8 @@
 """Lines: inside the limits lenient must say the same as the Rust, beyond them each by its own rule; strict must be lenient where no piece is bad."""
 
-from generate import lines as generator
+from itertools import product
+
+from generate import keys, lines as generator
 from judge.tally import Tally, ask, in_parts
 from reading import line as reading, reasons
 
@@ -60,11 +62,19 @@ def judge(tally, name, line, oracle):
     return tally.all_same(name, both(*said))
 
 
-def compare(seed, count, short):
+def compare(seed, count, short, generate=generator.generate):
     tally = Tally()
-    for some in in_parts(generator.generate(seed, count, short), AT_ONCE):
+    for some in in_parts(generate(seed, count, short), AT_ONCE):
         judge_all(tally, some)
     tally.must_meet("strict refused 18")
+    return tally
+
+
+def compare_keys(seed, count, short):
+    """Lines of repeated keys, an entry and each number that hangs on a key among the answers."""
+    tally = compare(seed, count, short, keys.generate)
+    for choice, answer in product(("lenient", "strict"), keys.ANSWERS):
+        tally.must_meet(f"{choice} {answer}")
     return tally
 
 

@@ -242,8 +242,8 @@ def formed(forms):
 
 
 BETWEEN = (
-    b"", b"", b"\t", b".", b"-", b" ", b",", b"\n", b"=", b"==", b"/", b";", b"]", b"[", b"\0", b"\x7f", b"\v", b"|", b"+", b"'", b"x", b"_", b"0", b"x=",
-    b" = ", b"@", b"`", b"{", b"^", b"\x1f")
+    b"", b"", b"\t", b".", b"-", b" ", b",", b"\n", b"=", b"==", b"/", b";", b"]", b"[", b"\0", b"\x7f", b"\v", b"|", b"+", b"'", b"x", b"_", b"0",
+    b"x=", b" = ", b"@", b"`", b"{", b"^", b"\x1f")
 
 
 def separators(seed):
@@ -273,9 +273,9 @@ CLASSES.update({
 # Two good values of each key, and one that is not read, or of no kind.
 VALUES = {
     b"type": (b"TB_CFG_PKG_READ", b"TB_CFG_PKG_EVENT", b"READ"), b"size": (b"3", b"4", b"3z"), b"domain": (b"5", b"6", b"0x5"),
-    b"route": (b"0x7", b"8", b"0x"), b"data": (b"[0x9]", b"[a, 0xb]", b"9"), b"offset": (b"0xc", b"0xd", b"0x10000"), b"error": (b"0x21", b"7", b"[7]"),
-    b"len": (b"16", b"17", b"65536"), b"port": (b"18", b"19", b"256"), b"config": (b"0x1", b"2", b"g"), b"seq": (b"20", b"21", b"_"),
-    b"unplug": (b"0x1", b"0", b"0X1"), b"dropped": (b"1", b"2", b"z")}
+    b"route": (b"0x7", b"8", b"0x"), b"data": (b"[0x9]", b"[a, 0xb]", b"9"), b"offset": (b"0xc", b"0xd", b"0x10000"),
+    b"error": (b"0x21", b"7", b"[7]"), b"len": (b"16", b"17", b"65536"), b"port": (b"18", b"19", b"256"), b"config": (b"0x1", b"2", b"g"),
+    b"seq": (b"20", b"21", b"_"), b"unplug": (b"0x1", b"0", b"0X1"), b"dropped": (b"1", b"2", b"z")}
 GOOD_HEAD = b"a-1 [002] 1.2: tb_rx: "
 
 
@@ -292,7 +292,7 @@ def around(texts, behind):
 
 
 def every_row(row):
-    """A part of each two keys in this row with every choice of good and bad; the good values of a key differ from one place to the next."""
+    """A part of the short texts: each two keys in this row, every choice of good and bad; a key's good values differ from place to place."""
     def made(_):
         for both, good_ones in product(permutations(KEYS, 2), product((True, False), repeat=len(row))):
             texts = []

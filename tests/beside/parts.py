@@ -9,7 +9,7 @@ import tempfile
 from collections import Counter
 from glob import glob
 
-from generate import lines, packets
+from generate import keys, lines, packets
 from generate.seed import frame
 from judge import differ
 
@@ -18,7 +18,7 @@ TOP = os.path.dirname(os.path.dirname(HERE))
 ROOM = os.path.join(TOP, "target", "beside")
 PROGRAM = os.path.join(ROOM, "release", "beside")
 # Inputs a part, and the books that its packets go over.
-SIZE = {"lines": 100_000, "packets": 25_000}
+SIZE = {"lines": 100_000, "keys": 100_000, "packets": 25_000}
 BOOKS = 100
 # Rows of differences that are shown; all are kept with the parts.
 SHOWN = 80
@@ -120,17 +120,20 @@ def distinct(files):
         return sum(1 for _ in sort.stdout)
 
 
-def lines_part(kept, seed, count, short):
-    part = Part()
+def lines_of(generator):
+    """A maker of parts of one generator's lines."""
+    def made(kept, seed, count, short):
+        part = Part()
 
-    def bodies():
-        for name, line in lines.generate(seed, count, short):
-            part.classes[name] += 1
-            part.digests.append(digest(line))
-            yield line
+        def bodies():
+            for name, line in generator.generate(seed, count, short):
+                part.classes[name] += 1
+                part.digests.append(digest(line))
+                yield line
 
-    part.take(fed(kept, "lines", bodies()))
-    return part
+        part.take(fed(kept, "lines", bodies()))
+        return part
+    return made
 
 
 def packets_part(kept, seed, count, _):
@@ -145,7 +148,7 @@ def packets_part(kept, seed, count, _):
     return part
 
 
-MAKERS = {"lines": lines_part, "packets": packets_part}
+MAKERS = {"lines": lines_of(lines), "keys": lines_of(keys), "packets": packets_part}
 
 
 def run(kept, what, seed, count, short):

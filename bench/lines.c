@@ -1,18 +1,11 @@
-/* The Rust and our two readings of lines, strict and lenient, in one process: bench/lines FRAMES. A frame is a length of four bytes, low byte first, and
- * the line. */
-#include "chomkadieu.h"
+/* The Rust and our two readings of lines, strict and lenient, in one process: bench/lines KERNEL LONG REFUSED, each a file of frames. Prints tables of
+ * nanoseconds a line and of how many times as fast as the Rust ours are. */
+#include "lines.h"
 
-#include <stdio.h>
-#include <stdlib.h>
-#include <string.h>
 #include <time.h>
 
-enum { ROUNDS = 7, LONG = 4096, REPEATS = 200, SLOTS = 256 };
-
-const void *oracle_make_lines(const uint8_t *frames, size_t length);
-uint64_t oracle_run_lines(const void *lines);
-
-static uint32_t slots[SLOTS];
+/* Many lines are read in parts of a thousand, a hostile line twenty times between two looks at the clock. */
+enum { ROUNDS = 7, AT_A_TIME = 1000, HOSTILE_ROUNDS = 70, REPEATS = 20, NUMBERS = 256 };
 
 /* The processor time of this process, so that other work on the machine counts as little as it can. */
 static double now(void) {
@@ -21,67 +14,176 @@ static double now(void) {
     return (double)t.tv_sec * 1e9 + (double)t.tv_nsec;
 }
 
-static uint32_t frame_length(const uint8_t *p) {
-    return p[0] | (uint32_t)p[1] << 8 | (uint32_t)p[2] << 16 | (uint32_t)p[3] << 24;
+/* Lines that are read between two looks at the clock, and the best that each reader did. */
+typedef struct part {
+    lines of;
+    double best[READERS];
+} part;
+
+static part part_of(lines l) {
+    part p = {l, {1e30, 1e30, 1e30}};
+    return p;
 }
 
-typedef ck_entry_answer reader(const uint8_t *line, size_t length, uint32_t *slots, size_t count);
-
-enum { STRICT, LENIENT, OURS };
-static reader *const ours[OURS] = {ck_parse, ck_parse_lenient};
-
-static void better(double *best, double taken) {
-    if (taken < *best) *best = taken;
+static void lap(part *p, int reader, int repeats) {
+    double start = now();
+    for (int i = 0; i < repeats; i++) read_all(reader, &p->of);
+    double taken = (now() - start) / repeats;
+    if (taken < p->best[reader]) p->best[reader] = taken;
 }
 
-typedef struct frames {
-    uint8_t *bytes;
-    size_t length;
-} frames;
+/* Each part by all readers in turn: the machine's speed changes from minute to minute, and what is held to each other is to meet the same. */
+static void race(part *parts, size_t count, int rounds, int repeats) {
+    for (int round = 0; round < rounds; round++)
+        for (size_t i = 0; i < count; i++)
+            for (int reader = 0; reader < READERS; reader++) lap(&parts[i], reader, repeats);
+}
 
-/* Reads every line once; the entries are counted so that nothing can be left out. */
-static uint64_t run_ours(reader *read, frames f, uint64_t *lines) {
-    uint64_t entries = 0;
-    *lines = 0;
-    for (size_t at = 0; at + 4 <= f.length; (*lines)++) {
-        uint32_t n = frame_length(f.bytes + at);
-        entries += read(f.bytes + at + 4, n, slots, SLOTS).number == 0;
-        at += 4 + n;
+/* How often each number is answered; and the sum that the Rust makes: for each entry 1, its kind, how many dwords it has, and they. */
+static uint64_t answers(call *one, frames f, size_t *often) {
+    uint64_t sum = 0;
+    for (size_t at = 0; at < f.length; at += 4 + frame_length(f.bytes + at)) {
+        ck_entry_answer a = one(f.bytes + at + 4, frame_length(f.bytes + at), slots, CK_MOST_DWORDS);
+        often[a.number]++;
+        if (a.number != CK_OK) continue;
+        sum += 1 + a.entry.kind + a.entry.dwords;
+        for (size_t i = 0; i < a.entry.dwords; i++) sum += slots[i];
     }
-    return entries;
+    return sum;
 }
 
-/* All lines, each reader in turn. */
-static void race(const char *what, frames f) {
-    const void *made = oracle_make_lines(f.bytes, f.length);
-    double best[OURS] = {1e30, 1e30}, theirs = 1e30;
-    uint64_t lines = 0, entries[OURS] = {0, 0}, sum = 0;
-    for (int round = 0; round < ROUNDS; round++) {
-        for (int i = 0; i < OURS; i++) {
-            double start = now();
-            entries[i] = run_ours(ours[i], f, &lines);
-            better(&best[i], now() - start);
-        }
-        double start = now();
-        sum = oracle_run_lines(made);
-        better(&theirs, now() - start);
+/* Nothing is timed unless lenient, which is to read as the Rust does, gives the Rust's sum. */
+static void judge(const char *name, const lines *l, size_t *strict, size_t *lenient) {
+    answers(ck_parse, l->in, strict);
+    uint64_t ours = answers(ck_parse_lenient, l->in, lenient), theirs = oracle_run_lines(l->rust);
+    if (ours == theirs) return;
+    printf("%s: our sum is %llu, the Rust's %llu\n", name, (unsigned long long)ours, (unsigned long long)theirs);
+    exit(1);
+}
+
+/* A number as the tables have it, with commas. A text is good until eight more are made. */
+static const char *grouped(double number, int decimals) {
+    static char texts[8][32];
+    static unsigned made;
+    char digits[32], *text = texts[made++ % 8], *to = text;
+    snprintf(digits, sizeof digits, "%.*f", decimals, number);
+    int left = (int)strcspn(digits, ".");
+    for (const char *from = digits; *from; left--) {
+        if (left > 0 && left % 3 == 0 && from != digits) *to++ = ',';
+        *to++ = *from++;
     }
-    double count = (double)lines, strict = best[STRICT], lenient = best[LENIENT];
-    printf("%s: lines %.0f, bytes a line %.1f, entries strict %llu, lenient %llu, the Rust's sum %llu\n", what, count,
-           ((double)f.length - 4 * count) / count, (unsigned long long)entries[STRICT], (unsigned long long)entries[LENIENT], (unsigned long long)sum);
-    printf("  Entry::parse     %.0f ns a line\n", theirs / count);
-    printf("  ck_parse_lenient %.0f ns a line, ratio to the Rust %.3f\n", lenient / count, lenient / theirs);
-    printf("  ck_parse         %.0f ns a line, ratio to the Rust %.3f, to lenient %.3f\n", strict / count, strict / theirs, strict / lenient);
+    *to = 0;
+    return text;
+}
+
+/* An entry, or the number that refuses. */
+static const char *called(size_t number) {
+    return number == CK_OK ? "entry" : grouped((double)number, 0);
+}
+
+/* Best nanoseconds of a line, and how many times as fast as the Rust's. */
+static void print_ours(double rust, double ours) {
+    printf(" %s | %.2f |", grouped(ours, 0), rust / ours);
+}
+
+/* A set of many lines, cut into parts. */
+typedef struct course {
+    const char *name;
+    part *parts;
+    size_t count, lines, bytes;
+} course;
+
+static course course_of(const char *name, frames f) {
+    course c = {name, NULL, 0, 0, 0};
+    while (f.length) {
+        c.parts = realloc(c.parts, (c.count + 1) * sizeof *c.parts);
+        if (!c.parts) exit(2);
+        lines l = first_of(f, AT_A_TIME);
+        c.parts[c.count++] = part_of(l);
+        c.lines += l.count, c.bytes += l.in.length - 4 * l.count;
+        f.bytes += l.in.length, f.length -= l.in.length;
+    }
+    return c;
+}
+
+static void print_often(const char *reader, const size_t *often) {
+    printf("; %s", reader);
+    for (size_t i = 0; i < NUMBERS; i++)
+        if (often[i]) printf(" %s: %s", called(i), grouped((double)often[i], 0));
+}
+
+static void judge_course(const course *c) {
+    size_t strict[NUMBERS] = {0}, lenient[NUMBERS] = {0};
+    for (size_t i = 0; i < c->count; i++) judge(c->name, &c->parts[i].of, strict, lenient);
+    printf("%s", c->name);
+    print_often("strict", strict);
+    print_often("lenient", lenient);
+    printf("\n");
+}
+
+/* What is best of each part, summed, so that other work spoils the parts that it meets and not a whole round. */
+static double each_line(const course *c, int reader) {
+    double sum = 0;
+    for (size_t i = 0; i < c->count; i++) sum += c->parts[i].best[reader];
+    return sum / (double)c->lines;
+}
+
+static void print_course(const course *c) {
+    double rust = each_line(c, RUST);
+    printf("| %s | %s | %s | %s |", c->name, grouped((double)c->lines, 0), grouped((double)c->bytes / (double)c->lines, 1), grouped(rust, 0));
+    print_ours(rust, each_line(c, STRICT));
+    print_ours(rust, each_line(c, LENIENT));
+    printf("\n");
+}
+
+static void many(course *courses, size_t count) {
+    for (size_t i = 0; i < count; i++) judge_course(&courses[i]);
+    printf("\n| lines | how many | bytes a line | `Entry::parse`, ns | `ck_parse`, ns | times as fast | `ck_parse_lenient`, ns | times as fast |\n"
+           "|---|---|---|---|---|---|---|---|\n");
+    for (size_t i = 0; i < count; i++) {
+        race(courses[i].parts, courses[i].count, ROUNDS, 1);
+        print_course(&courses[i]);
+    }
+}
+
+/* The number that one line was answered. */
+static size_t only(const size_t *often) {
+    size_t number = 0;
+    while (number + 1 < NUMBERS && !often[number]) number++;
+    return number;
+}
+
+/* A hostile line at its full length and at half of it, for which a time that grows as the line does is half. */
+static void one_hostile(size_t i, double *plain) {
+    part both[] = {part_of(hostile_line(i, LONGEST)), part_of(hostile_line(i, HALF))};
+    size_t strict[NUMBERS] = {0}, lenient[NUMBERS] = {0}, half[NUMBERS] = {0};
+    judge(hostile[i].name, &both[0].of, strict, lenient);
+    judge(hostile[i].name, &both[1].of, half, half);
+    race(both, 2, HOSTILE_ROUNDS, REPEATS);
+    const double *best = both[0].best, *halved = both[1].best;
+    if (i == 0) *plain = best[STRICT];
+    printf("| %s | %s, %s | %s |", hostile[i].name, called(only(strict)), called(only(lenient)), grouped(best[RUST], 0));
+    print_ours(best[RUST], best[STRICT]);
+    printf(" %.2f | %.2f |", best[STRICT] / *plain, best[STRICT] / halved[STRICT]);
+    print_ours(best[RUST], best[LENIENT]);
+    printf(" %.2f |\n", best[LENIENT] / halved[LENIENT]);
+}
+
+static void all_hostile(void) {
+    double plain = 0;
+    printf("\n| line of 4,096 bytes | strict, lenient | `Entry::parse`, ns | `ck_parse`, ns | times as fast | to the first | to 2,048 bytes | "
+           "`ck_parse_lenient`, ns | times as fast | to 2,048 bytes |\n|---|---|---|---|---|---|---|---|---|---|\n");
+    for (size_t i = 0; i < HOSTILE; i++) one_hostile(i, &plain);
 }
 
 /* The same lines with a bad piece behind the last of each one's data. */
 static frames spoilt(frames f) {
     static const char bad[] = ", 0x04zz";
     enum { MORE = sizeof bad - 1 };
-    frames to = {malloc(2 * f.length + MORE), 0};
-    if (!to.bytes) exit(2);
-    for (size_t at = 0; at + 4 <= f.length;) {
-        uint32_t n = frame_length(f.bytes + at), before = n, size = n;
+    frames to = room_for(2 * f.length + MORE);
+    to.length = 0;
+    for (size_t at = 0; at < f.length;) {
+        size_t n = frame_length(f.bytes + at), before = n, size = n;
         while (before && f.bytes[at + 4 + before - 1] != ']') before--;
         uint8_t *line = to.bytes + to.length + 4;
         memcpy(line, f.bytes + at + 4, n);
@@ -90,94 +192,23 @@ static frames spoilt(frames f) {
             memcpy(line + before - 1, bad, MORE);
             size += MORE;
         }
-        for (int i = 0; i < 4; i++) line[i - 4] = (uint8_t)(size >> 8 * i);
+        put_length(line - 4, size);
         to.length += 4 + size, at += 4 + n;
     }
     return to;
 }
 
-/* Best nanoseconds of one line over the rounds. */
-static double one_line(reader *read, const char *line, size_t length, unsigned *answer) {
-    double best = 1e30;
-    for (int round = 0; round < ROUNDS; round++) {
-        double start = now();
-        for (int i = 0; i < REPEATS; i++)
-            *answer = read((const uint8_t *)line, length, slots, SLOTS).number;
-        better(&best, (now() - start) / REPEATS);
-    }
-    return best;
-}
-
-#define HEAD "fwd-7 [002] d..1. 12.000345: tb_tx: "
-#define KEYS "type=TB_CFG_PKG_READ, size=3, domain=0, route=0, "
-
-/* A line of 4,096 bytes: blanks, front, then the piece as often as it fits, then the end. */
-static void fill(char *line, const char *front, const char *piece, const char *end) {
-    size_t size = strlen(piece), rest = LONG - strlen(front) - strlen(end), at = rest % size;
-    memset(line, ' ', at);
-    memcpy(line + at, front, strlen(front));
-    for (at += strlen(front); at + size + strlen(end) <= LONG; at += size) memcpy(line + at, piece, size);
-    memcpy(line + at, end, strlen(end));
-}
-
-/* Lines of 4,096 bytes: front, piece and end. The first is the ordinary one that the others are held to. */
-static const struct {
-    const char *name, *front, *piece, *end;
-} longest[] = {
-    {"an entry with some 220 dwords", HEAD KEYS "data=[", "0x00000004002001, ", "0x1]"},
-    {"the same, and a bad piece at the end", HEAD KEYS "data=[", "0x00000004002001, ", "0x04zz]"},
-    {"the same, and a bad piece at the start", HEAD KEYS "data=[0x04zz, ", "0x00000004002001, ", "0x1]"},
-    {"bad pieces `0x04zz, `", HEAD KEYS "data=[", "0x04zz, ", "0x1]"},
-    {"empty pieces", HEAD KEYS "data=[", ", ", "0x1]"},
-    {"an entry behind pairs `k=1, `", HEAD, "k=1, ", KEYS "data=[0x0]"},
-    {"an entry behind a word run", HEAD, "a", " " KEYS "data=[0x0]"},
-    {"an entry behind a run of dashes in the task", "", "-", "7 [002] 12.000345: tb_tx: " KEYS "data=[0x0]"},
-    {"a word run as payload", HEAD, "a", ""},
-    {"`a=[` repeated with no `]`", HEAD, "a=[", ""},
-    {"a digit run in the header", "fwd-7 [002] d..1. ", "1", ": tb_tx: " KEYS "data=[0x0]"},
-};
-
-/* The Rust's time for one line. */
-static double rust_line(const char *line) {
-    static uint8_t frame[4 + LONG] = {LONG & 255, LONG >> 8};
-    memcpy(frame + 4, line, LONG);
-    const void *made = oracle_make_lines(frame, sizeof frame);
-    double best = 1e30;
-    for (int round = 0; round < ROUNDS; round++) {
-        double start = now();
-        for (int i = 0; i < REPEATS; i++) oracle_run_lines(made);
-        better(&best, (now() - start) / REPEATS);
-    }
-    return best;
-}
-
-static void hostile(void) {
-    static char line[LONG];
-    double plain = 0;
-    for (size_t i = 0; i < sizeof longest / sizeof *longest; i++) {
-        unsigned answers[OURS];
-        double taken[OURS];
-        fill(line, longest[i].front, longest[i].piece, longest[i].end);
-        for (int k = 0; k < OURS; k++) taken[k] = one_line(ours[k], line, LONG, &answers[k]);
-        double theirs = rust_line(line);
-        if (i == 0) plain = taken[STRICT];
-        printf("%-44s strict %2u: %7.0f ns, %.2f of the first; lenient %2u: %7.0f ns; Entry::parse %7.0f ns, ratio strict %.2f, lenient %.2f\n",
-               longest[i].name, answers[STRICT], taken[STRICT], taken[STRICT] / plain, answers[LENIENT], taken[LENIENT], theirs, taken[STRICT] / theirs,
-               taken[LENIENT] / theirs);
-    }
-}
-
 int main(int argc, char **argv) {
-    FILE *file = argc == 2 ? fopen(argv[1], "rb") : NULL;
-    if (!file) return 2;
-    fseek(file, 0, SEEK_END);
-    frames f = {NULL, (size_t)ftell(file)};
-    rewind(file);
-    f.bytes = malloc(f.length);
-    if (!f.bytes || fread(f.bytes, 1, f.length, file) != f.length) return 2;
-    fclose(file);
-    race("as they are", f);
-    race("each with a bad piece", spoilt(f));
-    hostile();
+    if (argc != 4) return 2;
+    frames kernel = frames_of(argv[1]);
+    course courses[] = {
+        course_of("kernel-like", kernel),
+        course_of("kernel-like, each with a bad piece", spoilt(kernel)),
+        course_of("long, 60 to 250 dwords", frames_of(argv[2])),
+        course_of("short, refused", frames_of(argv[3])),
+    };
+    setvbuf(stdout, NULL, _IOLBF, BUFSIZ);
+    many(courses, sizeof courses / sizeof *courses);
+    all_hostile();
     return 0;
 }

@@ -2,17 +2,27 @@
 -- nothing.
 use Prim.Native.Nat.{ℕ, zero, suc, _+_, _≤_, _<_}
 use mathlib.Core.Path.{_≡_, refl, sym, ap, _∙_}
-use mathlib.Core.Bool.{Bool, true, false, cond, not, _||_}
+use mathlib.Core.Bool.{Bool, true, false, cond, not, _&&_, _||_}
 use mathlib.Core.List.{List, [], _∷_}
 use native.Mathlib.Omega.{arith}
 use lib.Dec.{eqb}
 use lib.ListN.{length}
-use borrow.Author.Tests.{not-true, eq-eqb, ne-eqb, eqb-true, eqb-false}
+use borrow.Author.Tests.{not-true, eq-eqb, ne-eqb}
 use Rattle.text.specs.Same.{sameText}
 use Rattle.text.proofs.Places.{clash}
 use Rattle.text.proofs.Texts.{both-left, both-right, same-true}
 use Rattle.pairs.specs.declared.keys.Key.{Key}
-use Rattle.pairs.specs.Table.{Row, keys, rowIn, rowAt, rowTakes, keyAfter, unknown, keyNamed, has, once}
+use Rattle.pairs.specs.Table.{Row, keys, rowIn, rowAt, rowTakes, keyAfter, unknown, keyNamed}
+
+-- a name stands in some row
+has : List ℕ → List Row → Bool
+has name [] = false
+has name (q ∷ qs) = sameText name (q .name) || has name qs
+
+-- no name stands twice
+once : List Row → Bool
+once [] = true
+once (q ∷ qs) = not (has (q .name) qs) && once qs
 
 -- neither half holds where the whole does not
 neither-left : (a b : Bool) → (a || b) ≡ false → a ≡ false
@@ -94,7 +104,7 @@ taken-by name n (q ∷ qs) key = go (sameText name (q .name)) refl (taken-by nam
     go false e (by-none rest s) = by-none (none e rest) (s ∙ rw e)
 
 -- the one test that the table must pass
-pub keys-once : once keys ≡ true
+keys-once : once keys ≡ true
 unfolding once has keys sameText
 keys-once = refl
 

@@ -1,7 +1,7 @@
 -- The thirteen keys of a payload in one table, and the last pair of each.
 use Prim.Native.Nat.{ℕ, suc, _-_, _^_, _≤_, _<_}
 use mathlib.Core.Path.{_≡_}
-use mathlib.Core.Bool.{Bool, true, false, cond, not, _&&_, _||_}
+use mathlib.Core.Bool.{Bool, true, false, cond}
 use mathlib.Core.List.{List, [], _∷_}
 use lib.ListN.{length, getD}
 use Rattle.text.specs.declared.number.Number.{Number}
@@ -112,13 +112,3 @@ numberIn s L.Nothing = N.Unreadable
 -- a number that a last pair says is at most this
 abbrev pub AtMost : ℕ → List ℕ → Last → Type 0
 AtMost limit s r = (v : ℕ) → numberIn s r ≡ N.Value v → v ≤ limit
-
--- a name stands in some row
-unfoldable pub has : List ℕ → List Row → Bool
-has name [] = false
-has name (q ∷ qs) = sameText name (q .name) || has name qs
-
--- no name stands twice
-unfoldable pub once : List Row → Bool
-once [] = true
-once (q ∷ qs) = not (has (q .name) qs) && once qs

@@ -1,4 +1,4 @@
-// The thirteen keys of a payload: the table of specs/Table.antt, an arm a row, in its order.
+// The thirteen keys of a payload: the table of specs/Table.antt, a line a row, in its order.
 use text::number::MAX_8;
 use text::number::MAX_16;
 use text::number::MAX_32;
@@ -7,6 +7,7 @@ use text::same::same;
 ghost use mathlib.Core.Path.{_≡_};
 ghost use Rattle.pairs.specs.Table.{rowTakes, keyNamed};
 
+// Each key by its row.
 pub const TYPE: usize = 0;
 
 pub const SIZE: usize = 1;
@@ -32,9 +33,11 @@ pub const SEQ: usize = 10;
 pub const UNPLUG: usize = 11;
 
 pub const DROPPED: usize = 12;
+
 // The row of every key that is none of ours, behind the last.
 pub const OTHER: usize = 13;
 
+// The rows, with that one.
 pub const ROWS: usize = 14;
 
 // What a value is read as: a text, a number in a base up to the largest of its width, or dwords in brackets.

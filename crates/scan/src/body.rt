@@ -23,7 +23,7 @@ use refusal::NO_SIZE;
 use refusal::NO_TYPE;
 use text::number::Number;
 ghost use mathlib.Core.Path.{_≡_};
-ghost use Prim.Native.Nat.{_^_, _-_, _≤_};
+ghost use Prim.Native.Nat.{_^_, _-_};
 ghost use Rattle.text.specs.Number.{numberValue};
 ghost use Rattle.pairs.specs.Table.{Within, AtMost, LastPairs, numberIn};
 ghost use Rattle.scan.specs.Body.{asByte, asWord, isOne, optionalsOf, bodyTold, bodyOf};

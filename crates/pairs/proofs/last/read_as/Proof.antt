@@ -1,8 +1,7 @@
 -- `last::read_as` meets its contract, by cases on the form. Assumes nothing.
 use mathlib.Core.Path.{ap, _∙_}
-use Rattle.text.specs.Number.{readValue, hexNumberOf}
+use Rattle.text.specs.Number.{readValue}
 use Rattle.pairs.specs.Table.{readAs}
-use native.Mathlib.Omega.{arith}
 use borrow.Author.Needs.{needs}
 use Rattle.pairs.proofs.last.read_as.Statement.{statement}
 use Rattle.pairs.proofs.last.read_as.Tie as tie

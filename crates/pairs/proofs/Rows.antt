@@ -108,10 +108,6 @@ keys-once : once keys ≡ true
 unfolding once has keys sameText
 keys-once = refl
 
-pub keys-count : length keys ≡ 13
-unfolding keys
-keys-count = refl
-
 module _ (name : List ℕ) where
   -- a name is a row's own exactly where it is that row
   pub key-same : (k : ℕ) → k < length keys → sameText name (rowAt k .name) ≡ eqb (keyNamed name .row) k

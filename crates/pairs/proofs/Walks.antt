@@ -19,7 +19,7 @@ use Rattle.pairs.specs.declared.pair.Span.the-variants as S
 use Rattle.pairs.specs.Pair.{part, nextPair, pairsFrom, lastIn, lastPair}
 use Rattle.pairs.specs.Table.{Row, keys, rowAt, keyNamed, held, lastOf, LastAt, LastPairs}
 use Rattle.pairs.proofs.LastPairs.{last-takes, last-passes, last-end, last-within}
-use Rattle.pairs.proofs.Rows.{keys-count, key-same, key-form, key-within}
+use Rattle.pairs.proofs.Rows.{key-same, key-form, key-within}
 
 -- what the walk holds at a place: for each row the last pair is a span that it holds so far, or a later one
 pub record Walked (s : List ℕ) (lasts : List Last) (at : ℕ) : Type 0 where
@@ -29,13 +29,13 @@ pub record Walked (s : List ℕ) (lasts : List Last) (at : ℕ) : Type 0 where
   pub same : (k : ℕ) → k < length keys → lastPair s (rowAt k .name) ≡ lastIn s (rowAt k .name) (so-far k) (pairsFrom s at)
 
 module _ (s : List ℕ) where
-  pub walked-none : Walked s (replicate 14 L.Nothing) 0
+  pub walked-none : Walked s (replicate (suc (length keys)) L.Nothing) 0
   unfolding lastPair held
   walked-none =
       record {
-        size = length-replicate 14 L.Nothing ∙ ap suc (sym keys-count);
+        size = length-replicate (suc (length keys)) L.Nothing;
         so-far = λ k. S.Nothing;
-        held-so = λ k h. getD-replicate 14 k L.Nothing L.Nothing (omega (arith, keys-count));
+        held-so = λ k h. getD-replicate (suc (length keys)) k L.Nothing L.Nothing (omega arith);
         same = λ k h. refl;
       }
 
@@ -78,8 +78,8 @@ module _ (s : List ℕ) where
             last-passes s (rowAt k .name) (w .so-far k) at q (key-same (part s i m) k h ∙ sym (is-row k) ∙ t)
 
     -- there is a place for it
-    pub row-fits : key .row < 14
-    row-fits = omega (arith, ap (λ (x : Key). x .row) named, key-within (part s i m), keys-count)
+    pub row-fits : key .row < suc (length keys)
+    row-fits = omega (arith, ap (λ (x : Key). x .row) named, key-within (part s i m))
 
   -- what is held at the end is the last pair, within the text
   held-last : (row : Row) {r : Last} {best : Span} → r ≡ held (row .form) best → lastPair s (row .name) ≡ best → LastAt s row r

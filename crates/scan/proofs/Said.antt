@@ -4,7 +4,7 @@ use Prim.Native.Nat.{ℕ, _-_, _^_, _<_}
 use mathlib.Core.Path.{_≡_, refl, sym}
 use mathlib.Core.List.{List}
 use native.Mathlib.Omega.{arith}
-use lib.ListN.{getD}
+use lib.ListN.{length, getD}
 use Rattle.text.specs.Quote.{bytes}
 use Rattle.pairs.specs.declared.keys.Form.{Form}
 use Rattle.pairs.specs.declared.keys.Form.the-variants.{Decimal, Hex, Dwords}
@@ -13,7 +13,6 @@ use Rattle.pairs.specs.declared.last.Last.the-variants as L
 use Rattle.pairs.specs.declared.pair.Span.the-variants as S
 use Rattle.pairs.specs.Pair.{lastPair, decimalOf, hexAt}
 use Rattle.pairs.specs.Table.{must, keys, rowAt, Within, LastAt, LastPairs, numberIn, AtMost}
-use Rattle.pairs.proofs.Rows.{keys-count}
 use Rattle.pairs.proofs.Forms.{stands-at, stands-nowhere, says-decimal, says-hex, decimal-most, hex-most}
 
 -- where `data` stands
@@ -26,13 +25,13 @@ module _ (p : List ℕ) {last : Last} (at : LastAt p (must (bytes "data") Dwords
 
 module _ (p : List ℕ) {lasts : List Last} (w : LastPairs p lasts) where
   -- what is kept for a row
-  row-kept : (k : ℕ) → k < 13 → LastAt p (rowAt k) (getD lasts k L.Nothing)
-  row-kept k h = w .each k (omega (arith, keys-count))
+  row-kept : (k : ℕ) → k < length keys → LastAt p (rowAt k) (getD lasts k L.Nothing)
+  row-kept k h = w .each k h
 
-  pub kept-within : (k : ℕ) → k < 13 → Within p (getD lasts k L.Nothing)
+  pub kept-within : (k : ℕ) → k < length keys → Within p (getD lasts k L.Nothing)
   kept-within k h = row-kept k h .within
 
-  module _ (k : ℕ) (h : k < 13) (limit : ℕ) where
+  module _ (k : ℕ) (h : k < length keys) (limit : ℕ) where
     pub kept-decimal : rowAt k .form ≡ Decimal limit → Within p (getD lasts k L.Nothing) × AtMost limit p (getD lasts k L.Nothing)
     kept-decimal e = (kept-within k h, decimal-most p (rowAt k) (row-kept k h) limit e)
 

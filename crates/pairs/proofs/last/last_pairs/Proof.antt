@@ -2,6 +2,7 @@
 use mathlib.Core.Path.{sym, _∙_}
 use Prim.Native.Nat.{_-_}
 use lib.ListN.{length}
+use Rattle.pairs.specs.Table.{keys}
 use Rattle.pairs.proofs.Walks.{Walked, walked-none, walked-next, row-fits, walked-end}
 use borrow.Author.Needs.{needs}
 use native.Mathlib.Omega.{arith}
@@ -18,6 +19,7 @@ run-start-requires : tie.Need-run-start-requires Inv-loop μ-loop
 run-start-requires c κs = search needs
 
 loop-holds : tie.Need-loop-holds Inv-loop μ-loop
+unfolding keys
 loop-holds c = walked-none _
 
 next-before-requires : tie.Need-next-before-requires Inv-loop μ-loop
@@ -42,9 +44,11 @@ add-t15 : tie.Need-add-t15 Inv-loop μ-loop
 add-t15 c = omega (arith, c .before .before .before .before .before .next-before .ensures .rise _ _ _ (c .before .before .before .i .given .1))
 
 mul-lasts : tie.Need-mul-lasts Inv-loop μ-loop
+unfolding keys
 mul-lasts c = record { fits = omega (arith, row-fits _ (c .before .before .before .before .before .before .loop .inv) (sym (c .before .before .before .before .before .next-before .ensures .is) ∙ c .before .before .before .i .given .1) (c .key-of .ensures)) }
 
 array-set-from-lasts : tie.Need-array-set-from-lasts Inv-loop μ-loop
+unfolding keys
 array-set-from-lasts c = row-fits _ (c .before .before .before .before .before .before .loop .inv) (sym (c .before .before .before .before .before .next-before .ensures .is) ∙ c .before .before .before .i .given .1) (c .key-of .ensures)
 
 loop-less : tie.Need-loop-less Inv-loop μ-loop

@@ -24,12 +24,15 @@ unfolding bodyOf textAt
 returns c = rw (type-nowhere _ (c .before .before .before .before .before .pre) (c .enum-told .given .1))
 
 sub-kind-of : tie.Need-sub-kind-of
+unfolding keys
 sub-kind-of c = omega (arith, kept-within _ (c .before .before .before .before .before .before .pre) 0 (omega arith) _ _ _ (c .before .name2 .given .1))
 
 part-kind-of-start : tie.Need-part-kind-of-start
+unfolding keys
 part-kind-of-start c = omega (arith, kept-within _ (c .before .before .before .before .before .before .pre) 0 (omega arith) _ _ _ (c .before .name2 .given .1))
 
 part-kind-of-end : tie.Need-part-kind-of-end
+unfolding keys
 part-kind-of-end c = omega (arith, kept-within _ (c .before .before .before .before .before .before .pre) 0 (omega arith) _ _ _ (c .before .name2 .given .1))
 
 kind-of-requires : tie.Need-kind-of-requires
@@ -39,6 +42,7 @@ array-copy-out-number-in : tie.Need-array-copy-out-number-in
 array-copy-out-number-in c = search needs
 
 number-in-requires : tie.Need-number-in-requires
+unfolding keys
 number-in-requires c κs = kept-within _ (c .before .before .before .before .before .before .before .before .before .pre) 1 (omega arith)
 
 enum-known-size : tie.Need-enum-known-size
@@ -60,6 +64,7 @@ array-copy-out-number-in-2 : tie.Need-array-copy-out-number-in-2
 array-copy-out-number-in-2 c = search needs
 
 number-in-requires-2 : tie.Need-number-in-requires-2
+unfolding keys
 number-in-requires-2 c κs = kept-within _ (c .before .before .before .before .before .before .before .before .before .before .before .before .before .before .pre) 2 (omega arith)
 
 enum-known-domain : tie.Need-enum-known-domain
@@ -82,6 +87,7 @@ array-copy-out-number-in-3 : tie.Need-array-copy-out-number-in-3
 array-copy-out-number-in-3 c = search needs
 
 number-in-requires-3 : tie.Need-number-in-requires-3
+unfolding keys
 number-in-requires-3 c κs = kept-within _ (c .before .before .before .before .before .before .before .before .before .before .before .before .before .before .before .before .before .before .before .pre) 3 (omega arith)
 
 enum-known-route : tie.Need-enum-known-route
@@ -105,6 +111,7 @@ array-copy-out-is-one : tie.Need-array-copy-out-is-one
 array-copy-out-is-one c = search needs
 
 is-one-requires : tie.Need-is-one-requires
+unfolding keys
 is-one-requires c κs = kept-within _ (c .before .before .before .before .before .before .before .before .before .before .before .before .before .before .before .before .before .before .before .before .before .before .before .before .pre) 12 (omega arith)
 
 read-optionals-requires : tie.Need-read-optionals-requires

@@ -2,7 +2,7 @@
 -- computed or proved where its definitions are. Assumes nothing.
 use Prim.Native.Nat.{ℕ, _+_, _<_, _^_}
 use mathlib.Core.Path.{_≡_, refl}
-use mathlib.Core.List.{List, [], _∷_}
+use mathlib.Core.List.{[], _∷_}
 use mathlib.Core.Option.{some}
 use Rattle.text.specs.declared.number.Number.the-variants as N
 use Rattle.text.specs.declared.number.Reading.the-variants as X

@@ -1,4 +1,4 @@
--- The cases of document 01 that are about pairs and data, by computation. Assumes nothing.
+-- The cases of documents 01 and 02 k) that are about pairs and data, by computation. Assumes nothing.
 use mathlib.Core.Path.{_≡_, refl}
 use mathlib.Core.List.{[], _∷_}
 use mathlib.Core.Option.{some}
@@ -42,10 +42,10 @@ last-counts = record { good-last = refl; bad-last = refl }
 -- keys compare by all their bytes: `seq` is row 10, and what only starts or ends like it is no row's
 pub record WholeNames : Type 0 where
   pub whole : keyNamed (bytes "seq") .row ≡ 10
-  pub longer : keyNamed (bytes "seqs") .row ≡ 13
-  pub shorter : keyNamed (bytes "se") .row ≡ 13
-  pub before : keyNamed (bytes "aseq") .row ≡ 13
-  pub capital : keyNamed (bytes "Seq") .row ≡ 13
+  pub longer : keyNamed (bytes "seqs") ≡ unknown
+  pub shorter : keyNamed (bytes "se") ≡ unknown
+  pub before : keyNamed (bytes "aseq") ≡ unknown
+  pub capital : keyNamed (bytes "Seq") ≡ unknown
 
 pub whole-names : WholeNames
 unfolding computes keys keyAfter unknown keyNamed

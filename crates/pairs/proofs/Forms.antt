@@ -1,13 +1,14 @@
--- What is held of a last pair is what its key's row says: where it stands, and the decimal or hex number that it says, within the row's
+-- What is held of a last pair is what its key's row says: where it stands, and the number that it says in the row's base, within the row's
 -- width. Assumes nothing.
 use Prim.Native.Nat.{ℕ, _≤_}
 use mathlib.Core.Path.{_≡_, refl, sym, ap, _∙_}
 use mathlib.Core.List.{List}
 use native.Mathlib.Omega.{arith}
+use Rattle.text.specs.declared.number.Number.{Number}
 use Rattle.text.specs.declared.number.Number.the-variants as N
 use Rattle.text.proofs.Numbers.{number-is}
 use Rattle.pairs.specs.declared.keys.Form.{Form}
-use Rattle.pairs.specs.declared.keys.Form.the-variants.{Decimal, Hex}
+use Rattle.pairs.specs.declared.keys.Form.the-variants.{Text, Decimal, Hex, Dwords}
 use Rattle.pairs.specs.declared.last.Last.{Last}
 use Rattle.pairs.specs.declared.last.Last.the-variants as L
 use Rattle.pairs.specs.declared.pair.Span.{Span}
@@ -15,6 +16,31 @@ use Rattle.pairs.specs.declared.pair.Span.the-variants as S
 use Rattle.pairs.specs.Pair.{part, lastPair, decimalIn, decimalOf, hexIn, hexAt}
 use Rattle.pairs.specs.Table.{Row, held, lastOf, LastAt, readAs, numberIn, AtMost}
 use Rattle.pairs.proofs.Slots.{hex-fits}
+
+-- the last pair of a key, read as a form
+abbrev pub readKey : Form → List ℕ → List ℕ → Number
+readKey (Decimal limit) s key = decimalOf s key limit
+readKey (Hex limit) s key = hexAt s key limit
+readKey Text s key = N.Unreadable
+readKey Dwords s key = N.Unreadable
+
+-- the largest number of a form
+abbrev pub limitOf : Form → ℕ
+limitOf (Decimal limit) = limit
+limitOf (Hex limit) = limit
+limitOf Text = 0
+limitOf Dwords = 0
+
+unreadable : {A : Type 0} {v : ℕ} → N.Unreadable ≡ N.Value v → A
+unreadable e = absurd (let z : _≡_ {A = ℕ} 0 1 = cc in omega arith)
+
+-- a number that a text says is within its form
+read-most : (form : Form) (t : List ℕ) {v : ℕ} → readAs form t ≡ N.Value v → v ≤ limitOf form
+unfolding readAs
+read-most (Decimal limit) t e = number-is 10 limit t e .within
+read-most (Hex limit) t e = hex-fits limit t e
+read-most Text t e = unreadable e
+read-most Dwords t e = unreadable e
 
 module _ (s : List ℕ) (row : Row) {last : Last} (at : LastAt s row last) where
   -- where it stands
@@ -34,36 +60,25 @@ module _ (s : List ℕ) (row : Row) {last : Last} (at : LastAt s row last) where
       go (S.At x y) q = absurd (let z : _≡_ {A = ℕ} 0 1 = cc in omega arith)
       go S.Nothing q = refl
 
--- what it says
-module _ (s : List ℕ) (row : Row) {last : Last} (at : LastAt s row last) (limit : ℕ) where
-  pub says-decimal : row .form ≡ Decimal limit → numberIn s last ≡ decimalOf s (row .name) limit
-  unfolding lastOf held numberIn readAs decimalOf decimalIn
-  says-decimal e = ap (numberIn s) (at .is) ∙ rw e (go (lastPair s (row .name)))
+  -- what it says
+  pub says : readKey (row .form) s (row .name) ≡ numberIn s last
+  unfolding lastOf held numberIn readAs decimalOf decimalIn hexAt hexIn
+  says = go (row .form) (lastPair s (row .name)) refl ∙ ap (numberIn s) (sym (at .is))
     where
-      go : (r : Span) → numberIn s (held (Decimal limit) r) ≡ decimalIn s limit r
-      go (S.At a b) = refl
-      go S.Nothing = refl
+      go : (form : Form) (r : Span) → lastPair s (row .name) ≡ r → readKey form s (row .name) ≡ numberIn s (held form r)
+      go (Decimal limit) (S.At a b) q = rw q
+      go (Decimal limit) S.Nothing q = rw q
+      go (Hex limit) (S.At a b) q = rw q
+      go (Hex limit) S.Nothing q = rw q
+      go Text (S.At a b) q = refl
+      go Text S.Nothing q = refl
+      go Dwords (S.At a b) q = refl
+      go Dwords S.Nothing q = refl
 
-  pub says-hex : row .form ≡ Hex limit → numberIn s last ≡ hexAt s (row .name) limit
-  unfolding lastOf held numberIn readAs hexAt hexIn
-  says-hex e = ap (numberIn s) (at .is) ∙ rw e (go (lastPair s (row .name)))
+  pub says-most : AtMost (limitOf (row .form)) s last
+  unfolding lastOf held numberIn
+  says-most v e = go (lastPair s (row .name)) (ap (numberIn s) (sym (at .is)) ∙ e)
     where
-      go : (r : Span) → numberIn s (held (Hex limit) r) ≡ hexIn s limit r
-      go (S.At a b) = refl
-      go S.Nothing = refl
-
-  pub decimal-most : row .form ≡ Decimal limit → AtMost limit s last
-  unfolding decimalOf decimalIn
-  decimal-most e v q = go (lastPair s (row .name)) (sym (says-decimal e) ∙ q)
-    where
-      go : (r : Span) → decimalIn s limit r ≡ N.Value v → v ≤ limit
-      go (S.At a b) n = number-is 10 limit (part s a b) n .within
-      go S.Nothing n = absurd (let z : _≡_ {A = ℕ} 0 1 = cc in omega arith)
-
-  pub hex-most : row .form ≡ Hex limit → AtMost limit s last
-  unfolding hexAt hexIn
-  hex-most e v q = go (lastPair s (row .name)) (sym (says-hex e) ∙ q)
-    where
-      go : (r : Span) → hexIn s limit r ≡ N.Value v → v ≤ limit
-      go (S.At a b) n = hex-fits limit (part s a b) n
-      go S.Nothing n = absurd (let z : _≡_ {A = ℕ} 0 1 = cc in omega arith)
+      go : (r : Span) → numberIn s (held (row .form) r) ≡ N.Value v → v ≤ limitOf (row .form)
+      go (S.At a b) q = read-most (row .form) (part s a b) q
+      go S.Nothing q = unreadable q

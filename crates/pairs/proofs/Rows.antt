@@ -2,7 +2,7 @@
 -- nothing.
 use Prim.Native.Nat.{ℕ, zero, suc, _+_, _≤_, _<_}
 use mathlib.Core.Path.{_≡_, refl, sym, ap, _∙_}
-use mathlib.Core.Bool.{Bool, true, false, cond, not, _&&_, _||_}
+use mathlib.Core.Bool.{Bool, true, false, not, _&&_, _||_}
 use mathlib.Core.List.{List, [], _∷_}
 use native.Mathlib.Omega.{arith}
 use lib.Dec.{eqb}
@@ -83,10 +83,13 @@ pub data Taken (name : List ℕ) (n : ℕ) (qs : List Row) (before after : Key) 
 pub taken-by : (name : List ℕ) (n : ℕ) (qs : List Row) (key : Key) → Taken name n qs key (keyAfter name n qs key)
 unfolding keyAfter
 taken-by name n [] key = by-none (λ k h. absurd (omega arith)) refl
-taken-by name n (q ∷ qs) key = go (sameText name (q .name)) refl (taken-by name (suc n) qs (rowTakes name (q .name) (record { row = n; form = q .form }) key))
+taken-by name n (q ∷ qs) key = go (sameText name (q .name)) refl (taken-by name (suc n) qs after-first)
   where
     here : Key
     here = record { row = n; form = q .form }
+
+    after-first : Key
+    after-first = rowTakes name (q .name) here key
 
     -- the first row, and then each of the others
     none : sameText name (q .name) ≡ false → ((k : ℕ) → k < length qs → sameText name (rowIn qs k .name) ≡ false) →
@@ -95,11 +98,11 @@ taken-by name n (q ∷ qs) key = go (sameText name (q .name)) refl (taken-by nam
     none f rest (suc k) h = rest k (omega arith)
 
     go : (b : Bool) → sameText name (q .name) ≡ b →
-        Taken name (suc n) qs (cond (sameText name (q .name)) here key) (keyAfter name (suc n) qs (cond (sameText name (q .name)) here key)) →
-        Taken name n (q ∷ qs) key (keyAfter name (suc n) qs (cond (sameText name (q .name)) here key))
+        Taken name (suc n) qs (rowTakes name (q .name) here key) (keyAfter name (suc n) qs (rowTakes name (q .name) here key)) →
+        Taken name n (q ∷ qs) key (keyAfter name (suc n) qs (rowTakes name (q .name) here key))
     go b e (by-row k h t r f) = by-row (suc k) (omega arith) t (r ∙ omega arith) f
     go true e (by-none rest s) =
-        let is : keyAfter name (suc n) qs (cond (sameText name (q .name)) here key) ≡ here = s ∙ rw e in
+        let is : keyAfter name (suc n) qs (rowTakes name (q .name) here key) ≡ here = s ∙ rw e in
         by-row 0 (omega arith) e (ap (λ (x : Key). x .row) is ∙ omega arith) (ap (λ (x : Key). x .form) is)
     go false e (by-none rest s) = by-none (none e rest) (s ∙ rw e)
 

@@ -2,19 +2,21 @@
 -- a line that has these alone is one. Assumes nothing.
 use Prim.Native.Nat.{ℕ}
 use mathlib.Core.Path.{_≡_, refl}
-use mathlib.Core.Bool.{true, false}
-use mathlib.Core.List.{List, [], _∷_}
+use mathlib.Core.Bool.{Bool, true, false, _&&_, _||_}
+use mathlib.Core.List.{List, [], _∷_, _++_}
 use native.Mathlib.Omega.{arith}
 use Rattle.text.specs.Quote.{bytes}
 use Rattle.text.specs.Told as T
 use Rattle.entry.specs.Entry.{EntryValue}
-use Rattle.pairs.specs.declared.pair.Span.the-variants.{Nothing}
+use Rattle.pairs.specs.declared.pair.Span.{Span}
+use Rattle.pairs.specs.declared.pair.Span.the-variants.{At, Nothing}
 use Rattle.pairs.specs.Pair.{lastPair}
 use Rattle.pairs.specs.Table.{Row, keys}
 use Rattle.scan.specs.declared.Pieces.{Pieces}
 use Rattle.scan.specs.declared.Pieces.the-variants.{Strict, Lenient}
+use Rattle.scan.specs.Frame.{frameOf}
 use Rattle.scan.specs.Line.{KeyText, Line}
-use Rattle.scan.specs.Parse.{parseOf}
+use Rattle.scan.specs.Parse.{payloadOf, parseOf}
 use Rattle.scan.proofs.Cases.{computes, plainEntry}
 
 -- every row of a table is so
@@ -48,33 +50,30 @@ required-are-there line =
     (Each.row not-asked
     (Each.row not-asked Each.end))))))))))))
 
--- a line with the required keys alone, and what it says
+-- no pair was found
+pub isNone : Span → Bool
+isNone (At a b) = false
+isNone Nothing = true
+
+-- of the rows each is required, or the payload has no pair of its key
+pub requiredAlone : List ℕ → List Row → Bool
+requiredAlone p [] = true
+requiredAlone p (q ∷ qs) = (q .required || isNone (lastPair p (q .name))) && requiredAlone p qs
+
+abbrev pub plainPayload : List ℕ
+plainPayload = bytes "type=t size=3 domain=0 route=0 data=[1]"
+
+abbrev pub plainLine : List ℕ
+plainLine = bytes "a-1 [002] 1.2: f: " ++ plainPayload
+
+-- a line whose payload has the required keys alone is an entry
 pub record RequiredSuffice (pieces : Pieces) : Type 0 where
-  pub entry : parseOf pieces (bytes "a-1 [002] 1.2: f: type=t size=3 domain=0 route=0 data=[1]") 256 ≡ T.is (plainEntry 1)
-  pub no-other : Each (λ q. q .required ≡ false → lastPair (bytes "type=t size=3 domain=0 route=0 data=[1]") (q .name) ≡ Nothing) keys
-
--- what is required is not asked here
-not-other : {A : Type 0} → true ≡ false → A
-not-other e = absurd (let z : _≡_ {A = ℕ} 0 1 = cc in omega arith)
-
-none-other : Each (λ q. q .required ≡ false → lastPair (bytes "type=t size=3 domain=0 route=0 data=[1]") (q .name) ≡ Nothing) keys
-unfolding computes keys
-none-other =
-    Each.row not-other
-    (Each.row not-other
-    (Each.row not-other
-    (Each.row not-other
-    (Each.row not-other
-    (Each.row (λ e. refl)
-    (Each.row (λ e. refl)
-    (Each.row (λ e. refl)
-    (Each.row (λ e. refl)
-    (Each.row (λ e. refl)
-    (Each.row (λ e. refl)
-    (Each.row (λ e. refl)
-    (Each.row (λ e. refl) Each.end))))))))))))
+  pub entry : parseOf pieces plainLine 256 ≡ T.is (plainEntry 1)
+  pub colon : frameOf plainLine ≡ T.is 16
+  pub payload : payloadOf plainLine 16 ≡ plainPayload
+  pub alone : requiredAlone plainPayload keys ≡ true
 
 pub required-suffice : (pieces : Pieces) → RequiredSuffice pieces
-unfolding computes
-required-suffice Strict = record { entry = refl; no-other = none-other }
-required-suffice Lenient = record { entry = refl; no-other = none-other }
+unfolding computes keys isNone requiredAlone
+required-suffice Strict = record { entry = refl; colon = refl; payload = refl; alone = refl }
+required-suffice Lenient = record { entry = refl; colon = refl; payload = refl; alone = refl }

@@ -57,8 +57,8 @@ pub fn read_body(p: &[u8], function: &[u8], lasts: [Last; ROWS]) -> BodyAnswer
     requires { ⌜ LastPairs (now p) lasts ⌝ }
     ensures { λ r. ⌜ bodyTold r ≡ bodyOf (now (p .entry)) (now (function .entry)) ⌝ }
 {
-    let name = lasts[TYPE];
-    let Last::At { from, to, form: _ } = name else {
+    let last = lasts[TYPE];
+    let Last::At { from, to, form: _ } = last else {
         return BodyAnswer::Refused(NO_TYPE);
     };
     let kind = kind_of(&p[from..to], function);

@@ -1,20 +1,19 @@
 -- `body::read_body` meets its contract: what the walk kept of each key goes on, in the order of the numbers. Assumes nothing.
 use Rattle.scan.specs.Body.{textAt, isOne, droppedOf, bodyOf}
-use Rattle.scan.proofs.Said.{kept-within, kept-decimal, type-at, type-nowhere, size-said, domain-said, route-said, dropped-said}
+use Rattle.scan.proofs.Said.{kept, type-at, type-nowhere, size-said, domain-said, route-said, dropped-said}
 use Rattle.pairs.specs.Table.{keys, rowAt}
 use Rattle.text.specs.Number.{numberValue}
-use Prim.Native.Nat.{_-_, _^_}
-use mathlib.Core.Path.{refl, sym, ap, _∙_}
+use mathlib.Core.Path.{sym, ap, _∙_}
 use native.Mathlib.Omega.{arith}
 use borrow.Author.Needs.{needs}
 use Rattle.scan.proofs.body.read_body.Statement.{statement}
 use Rattle.scan.proofs.body.read_body.Tie as tie
 
-array-copy-out-name : tie.Need-array-copy-out-name
-array-copy-out-name c = search needs
+array-copy-out-last : tie.Need-array-copy-out-last
+array-copy-out-last c = search needs
 
-enum-known-name : tie.Need-enum-known-name
-enum-known-name c = search needs
+enum-known-last : tie.Need-enum-known-last
+enum-known-last c = search needs
 
 enum-told : tie.Need-enum-told
 enum-told c = search needs
@@ -25,15 +24,15 @@ returns c = rw (type-nowhere _ (c .before .before .before .before .before .pre) 
 
 sub-kind-of : tie.Need-sub-kind-of
 unfolding keys
-sub-kind-of c = omega (arith, kept-within _ (c .before .before .before .before .before .before .pre) 0 (omega arith) _ _ _ (c .before .name2 .given .1))
+sub-kind-of c = omega (arith, kept _ (c .before .before .before .before .before .before .pre) 0 (omega arith) .0 _ _ _ (c .before .last2 .given .1))
 
 part-kind-of-start : tie.Need-part-kind-of-start
 unfolding keys
-part-kind-of-start c = omega (arith, kept-within _ (c .before .before .before .before .before .before .pre) 0 (omega arith) _ _ _ (c .before .name2 .given .1))
+part-kind-of-start c = omega (arith, kept _ (c .before .before .before .before .before .before .pre) 0 (omega arith) .0 _ _ _ (c .before .last2 .given .1))
 
 part-kind-of-end : tie.Need-part-kind-of-end
 unfolding keys
-part-kind-of-end c = omega (arith, kept-within _ (c .before .before .before .before .before .before .pre) 0 (omega arith) _ _ _ (c .before .name2 .given .1))
+part-kind-of-end c = omega (arith, kept _ (c .before .before .before .before .before .before .pre) 0 (omega arith) .0 _ _ _ (c .before .last2 .given .1))
 
 kind-of-requires : tie.Need-kind-of-requires
 kind-of-requires c κs = search needs
@@ -43,7 +42,7 @@ array-copy-out-number-in c = search needs
 
 number-in-requires : tie.Need-number-in-requires
 unfolding keys
-number-in-requires c κs = kept-within _ (c .before .before .before .before .before .before .before .before .before .pre) 1 (omega arith)
+number-in-requires c κs = kept _ (c .before .before .before .before .before .before .before .before .before .pre) 1 (omega arith) .0
 
 enum-known-size : tie.Need-enum-known-size
 enum-known-size c = search needs
@@ -56,7 +55,7 @@ unfolding bodyOf textAt numberValue
 returns-2 c =
     let known = c .before .before .before .before .before .before .before .before .before .before .before .before .pre in
     rw (
-      type-at _ known (c .before .before .before .before .before .before .before .name2 .given .1),
+      type-at _ known (c .before .before .before .before .before .before .before .last2 .given .1),
       size-said _ known ∙ sym (c .before .before .number-in .ensures) ∙ c .enum-told2 .given .1,
     )
 
@@ -65,7 +64,7 @@ array-copy-out-number-in-2 c = search needs
 
 number-in-requires-2 : tie.Need-number-in-requires-2
 unfolding keys
-number-in-requires-2 c κs = kept-within _ (c .before .before .before .before .before .before .before .before .before .before .before .before .before .before .pre) 2 (omega arith)
+number-in-requires-2 c κs = kept _ (c .before .before .before .before .before .before .before .before .before .before .before .before .before .before .pre) 2 (omega arith) .0
 
 enum-known-domain : tie.Need-enum-known-domain
 enum-known-domain c = search needs
@@ -78,7 +77,7 @@ unfolding bodyOf textAt numberValue
 returns-3 c =
     let known = c .before .before .before .before .before .before .before .before .before .before .before .before .before .before .before .before .before .pre in
     rw (
-      type-at _ known (c .before .before .before .before .before .before .before .before .before .before .before .before .name2 .given .1),
+      type-at _ known (c .before .before .before .before .before .before .before .before .before .before .before .before .last2 .given .1),
       size-said _ known ∙ sym (c .before .before .before .before .before .before .before .number-in .ensures) ∙ c .before .before .before .before .before .size .given .1,
       domain-said _ known ∙ sym (c .before .before .number-in2 .ensures) ∙ c .enum-told3 .given .1,
     )
@@ -88,7 +87,7 @@ array-copy-out-number-in-3 c = search needs
 
 number-in-requires-3 : tie.Need-number-in-requires-3
 unfolding keys
-number-in-requires-3 c κs = kept-within _ (c .before .before .before .before .before .before .before .before .before .before .before .before .before .before .before .before .before .before .before .pre) 3 (omega arith)
+number-in-requires-3 c κs = kept _ (c .before .before .before .before .before .before .before .before .before .before .before .before .before .before .before .before .before .before .before .pre) 3 (omega arith) .0
 
 enum-known-route : tie.Need-enum-known-route
 enum-known-route c = search needs
@@ -101,7 +100,7 @@ unfolding bodyOf textAt numberValue
 returns-4 c =
     let known = c .before .before .before .before .before .before .before .before .before .before .before .before .before .before .before .before .before .before .before .before .before .before .pre in
     rw (
-      type-at _ known (c .before .before .before .before .before .before .before .before .before .before .before .before .before .before .before .before .before .name2 .given .1),
+      type-at _ known (c .before .before .before .before .before .before .before .before .before .before .before .before .before .before .before .before .before .last2 .given .1),
       size-said _ known ∙ sym (c .before .before .before .before .before .before .before .before .before .before .before .before .number-in .ensures) ∙ c .before .before .before .before .before .before .before .before .before .before .size .given .1,
       domain-said _ known ∙ sym (c .before .before .before .before .before .before .before .number-in2 .ensures) ∙ c .before .before .before .before .before .domain .given .1,
       route-said _ known ∙ sym (c .before .before .number-in3 .ensures) ∙ c .enum-told4 .given .1,
@@ -112,25 +111,25 @@ array-copy-out-is-one c = search needs
 
 is-one-requires : tie.Need-is-one-requires
 unfolding keys
-is-one-requires c κs = kept-within _ (c .before .before .before .before .before .before .before .before .before .before .before .before .before .before .before .before .before .before .before .before .before .before .before .before .pre) 12 (omega arith)
+is-one-requires c κs = kept _ (c .before .before .before .before .before .before .before .before .before .before .before .before .before .before .before .before .before .before .before .before .before .before .before .before .pre) 12 (omega arith) .0
 
 read-optionals-requires : tie.Need-read-optionals-requires
 read-optionals-requires c κs = search needs
 
 cast-t33 : tie.Need-cast-t33
 unfolding rowAt keys
-cast-t33 c = record { fits = omega (arith, kept-decimal _ (c .before .before .before .before .before .before .before .before .before .before .before .before .before .before .before .before .before .before .before .before .before .before .before .before .before .before .pre) 1 (omega arith) (2 ^ 16 - 1) refl .1 _ (sym (c .before .before .before .before .before .before .before .before .before .before .before .before .before .before .before .before .number-in .ensures) ∙ c .before .before .before .before .before .before .before .before .before .before .before .before .before .before .size .given .1)) }
+cast-t33 c = record { fits = omega (arith, kept _ (c .before .before .before .before .before .before .before .before .before .before .before .before .before .before .before .before .before .before .before .before .before .before .before .before .before .before .pre) 1 (omega arith) .1 _ (sym (c .before .before .before .before .before .before .before .before .before .before .before .before .before .before .before .before .number-in .ensures) ∙ c .before .before .before .before .before .before .before .before .before .before .before .before .before .before .size .given .1)) }
 
 cast-t34 : tie.Need-cast-t34
 unfolding rowAt keys
-cast-t34 c = record { fits = omega (arith, kept-decimal _ (c .before .before .before .before .before .before .before .before .before .before .before .before .before .before .before .before .before .before .before .before .before .before .before .before .before .before .pre) 2 (omega arith) (2 ^ 32 - 1) refl .1 _ (sym (c .before .before .before .before .before .before .before .before .before .before .before .number-in2 .ensures) ∙ c .before .before .before .before .before .before .before .before .before .domain .given .1)) }
+cast-t34 c = record { fits = omega (arith, kept _ (c .before .before .before .before .before .before .before .before .before .before .before .before .before .before .before .before .before .before .before .before .before .before .before .before .before .before .pre) 2 (omega arith) .1 _ (sym (c .before .before .before .before .before .before .before .before .before .before .before .number-in2 .ensures) ∙ c .before .before .before .before .before .before .before .before .before .domain .given .1)) }
 
 returns-5 : tie.Need-returns-5
 unfolding bodyOf textAt numberValue droppedOf
 returns-5 c =
     let known = c .before .before .before .before .before .before .before .before .before .before .before .before .before .before .before .before .before .before .before .before .before .before .before .before .before .before .pre in
     rw (
-      type-at _ known (c .before .before .before .before .before .before .before .before .before .before .before .before .before .before .before .before .before .before .before .before .before .name2 .given .1),
+      type-at _ known (c .before .before .before .before .before .before .before .before .before .before .before .before .before .before .before .before .before .before .before .before .before .last2 .given .1),
       size-said _ known ∙ sym (c .before .before .before .before .before .before .before .before .before .before .before .before .before .before .before .before .number-in .ensures) ∙ c .before .before .before .before .before .before .before .before .before .before .before .before .before .before .size .given .1,
       domain-said _ known ∙ sym (c .before .before .before .before .before .before .before .before .before .before .before .number-in2 .ensures) ∙ c .before .before .before .before .before .before .before .before .before .domain .given .1,
       route-said _ known ∙ sym (c .before .before .before .before .before .before .number-in3 .ensures) ∙ c .before .before .before .before .route .given .1,
@@ -143,8 +142,8 @@ pub read-body-spec : {M : Type 1} → statement M
 read-body-spec =
     tie.close
     (tie.spec
-    array-copy-out-name
-    enum-known-name
+    array-copy-out-last
+    enum-known-last
     enum-told
     returns
     sub-kind-of

@@ -1,6 +1,6 @@
 -- `dwords::read_data` meets its contract: all is judged by the count of the pieces before a dword is written. Assumes nothing.
 use Rattle.scan.proofs.Stages.{data-missing, data-unbracketed, data-there, bad-there, data-bad, data-many, data-crowded, data-got}
-use Rattle.scan.proofs.Said.{data-at, data-nowhere}
+use Rattle.pairs.proofs.Forms.{stands-at, stands-nowhere}
 use mathlib.Core.Path.{sym, _∙_}
 use native.Mathlib.Omega.{arith}
 use borrow.Author.Needs.{needs}
@@ -14,7 +14,7 @@ enum-told : tie.Need-enum-told
 enum-told c = search needs
 
 returns : tie.Need-returns
-returns c = data-missing _ _ _ (data-nowhere _ (c .before .before .before .before .pre) (c .enum-told .given .1))
+returns c = data-missing _ _ _ (stands-nowhere _ _ (c .before .before .before .before .pre) (c .enum-told .given .1))
 
 sub-value : tie.Need-sub-value
 sub-value c = omega (arith, c .before .before .before .before .before .pre .within _ _ _ (c .before .last .given .1))
@@ -35,7 +35,7 @@ enum-told-2 : tie.Need-enum-told-2
 enum-told-2 c = search needs
 
 returns-2 : tie.Need-returns-2
-returns-2 c = data-unbracketed _ _ _ (data-at _ (c .before .before .before .before .before .before .before .before .before .pre) (c .before .before .before .before .before .last .given .1)) (sym (c .before .before .inside .ensures .is) ∙ c .enum-told2 .given .1)
+returns-2 c = data-unbracketed _ _ _ (stands-at _ _ (c .before .before .before .before .before .before .before .before .before .pre) (c .before .before .before .before .before .last .given .1)) (sym (c .before .before .inside .ensures .is) ∙ c .enum-told2 .given .1)
 
 sub-inner : tie.Need-sub-inner
 sub-inner c = omega (arith, c .before .before .before .inside .ensures .within _ _ (c .before .first .given .1))
@@ -56,7 +56,7 @@ returns-3 : tie.Need-returns-3
 returns-3 c =
     let choice = c .before .before .before .before .before .before .before .before .before .before .before .before .before .before .args .pieces in
     let slots = c .before .before .before .before .before .before .before .before .before .before .before .before .before .before .args .slots .now in
-    let found = data-at _ (c .before .before .before .before .before .before .before .before .before .before .before .before .before .before .pre) (c .before .before .before .before .before .before .before .before .before .before .last .given .1) in
+    let found = stands-at _ _ (c .before .before .before .before .before .before .before .before .before .before .before .before .before .before .pre) (c .before .before .before .before .before .before .before .before .before .before .last .given .1) in
     let brackets = sym (c .before .before .before .before .before .before .before .inside .ensures .is) ∙ c .before .before .before .before .before .first .given .1 in
     let there = data-there choice _ slots found brackets in
     let refused = bad-there choice _ slots found brackets (c .before .before .count-pieces .ensures .bad-is) (c .before .refuse-bad .ensures) in
@@ -66,7 +66,7 @@ returns-4 : tie.Need-returns-4
 returns-4 c =
     let choice = c .before .before .before .before .before .before .before .before .before .before .before .before .before .before .before .before .args .pieces in
     let slots = c .before .before .before .before .before .before .before .before .before .before .before .before .before .before .before .before .args .slots .now in
-    let found = data-at _ (c .before .before .before .before .before .before .before .before .before .before .before .before .before .before .before .before .pre) (c .before .before .before .before .before .before .before .before .before .before .before .before .last .given .1) in
+    let found = stands-at _ _ (c .before .before .before .before .before .before .before .before .before .before .before .before .before .before .before .before .pre) (c .before .before .before .before .before .before .before .before .before .before .before .before .last .given .1) in
     let brackets = sym (c .before .before .before .before .before .before .before .before .before .inside .ensures .is) ∙ c .before .before .before .before .before .before .before .first .given .1 in
     let there = data-there choice _ slots found brackets in
     let refused = bad-there choice _ slots found brackets (c .before .before .before .before .count-pieces .ensures .bad-is) (c .before .before .before .refuse-bad .ensures) in
@@ -76,7 +76,7 @@ returns-5 : tie.Need-returns-5
 returns-5 c =
     let choice = c .before .before .before .before .before .before .before .before .before .before .before .before .before .before .before .before .before .before .args .pieces in
     let slots = c .before .before .before .before .before .before .before .before .before .before .before .before .before .before .before .before .before .before .args .slots .now in
-    let found = data-at _ (c .before .before .before .before .before .before .before .before .before .before .before .before .before .before .before .before .before .before .pre) (c .before .before .before .before .before .before .before .before .before .before .before .before .before .before .last .given .1) in
+    let found = stands-at _ _ (c .before .before .before .before .before .before .before .before .before .before .before .before .before .before .before .before .before .before .pre) (c .before .before .before .before .before .before .before .before .before .before .before .before .before .before .last .given .1) in
     let brackets = sym (c .before .before .before .before .before .before .before .before .before .before .before .inside .ensures .is) ∙ c .before .before .before .before .before .before .before .before .before .first .given .1 in
     let there = data-there choice _ slots found brackets in
     let refused = bad-there choice _ slots found brackets (c .before .before .before .before .before .before .count-pieces .ensures .bad-is) (c .before .before .before .before .before .refuse-bad .ensures) in
@@ -92,7 +92,7 @@ returns-6 : tie.Need-returns-6
 returns-6 c =
     let choice = c .before .before .before .before .before .before .before .before .before .before .before .before .before .before .before .before .before .before .before .before .before .before .args .pieces in
     let slots = c .before .before .before .before .before .before .before .before .before .before .before .before .before .before .before .before .before .before .before .before .before .before .args .slots .now in
-    let found = data-at _ (c .before .before .before .before .before .before .before .before .before .before .before .before .before .before .before .before .before .before .before .before .before .before .pre) (c .before .before .before .before .before .before .before .before .before .before .before .before .before .before .before .before .before .before .last .given .1) in
+    let found = stands-at _ _ (c .before .before .before .before .before .before .before .before .before .before .before .before .before .before .before .before .before .before .before .before .before .before .pre) (c .before .before .before .before .before .before .before .before .before .before .before .before .before .before .before .before .before .before .last .given .1) in
     let brackets = sym (c .before .before .before .before .before .before .before .before .before .before .before .before .before .before .before .inside .ensures .is) ∙ c .before .before .before .before .before .before .before .before .before .before .before .before .before .first .given .1 in
     let there = data-there choice _ slots found brackets in
     let refused = bad-there choice _ slots found brackets (c .before .before .before .before .before .before .before .before .before .before .count-pieces .ensures .bad-is) (c .before .before .before .before .before .before .before .before .before .refuse-bad .ensures) in

@@ -1,5 +1,6 @@
 -- The laws of texts that callers' proofs cite, and the cases of document 01 that are about texts alone.
 pub mod Places
+pub mod Blocks
 pub mod Runs
 pub mod Stripping
 pub mod OwnParts

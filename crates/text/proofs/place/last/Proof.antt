@@ -1,10 +1,9 @@
--- `place::last` meets its contract: the last place of the whole is the last place below here. Assumes nothing.
-use Rattle.text.proofs.Places.{last-hit-below, last-miss-below, last-zero}
+-- `place::last` meets its contract: a block without the byte is passed over, and what is last below it is last of all. Assumes nothing.
+use Rattle.text.proofs.Blocks.{last-skip}
 use Rattle.text.specs.Place.{isAt, lastPlace, lastByte}
-use borrow.Author.Tests.{eq-eqb, ne-eqb}
 use lib.ListN.{length}
-use Prim.Native.Nat.{_≤_}
-use mathlib.Core.Path.{_≡_, sym, ap, _∙_}
+use Prim.Native.Nat.{_≤_, _-_, _+_}
+use mathlib.Core.Path.{_≡_, sym, _∙_}
 use borrow.Author.Needs.{needs}
 use native.Mathlib.Omega.{arith}
 use Rattle.text.proofs.place.last.Statement.{statement}
@@ -19,31 +18,30 @@ abbrev μ-loop : tie.MeasureT-loop
 loop-holds : tie.Need-loop-holds Inv-loop μ-loop
 loop-holds c = search needs
 
-sub-if1 : tie.Need-sub-if1 Inv-loop μ-loop
-sub-if1 c = search needs
+may-have-requires : tie.Need-may-have-requires Inv-loop μ-loop
+may-have-requires c κs = search needs
 
-shared-slice-read-if1 : tie.Need-shared-slice-read-if1 Inv-loop μ-loop
-shared-slice-read-if1 c = search needs
-
-sub-t8 : tie.Need-sub-t8 Inv-loop μ-loop
-sub-t8 c = search needs
+last-below-requires : tie.Need-last-below-requires Inv-loop μ-loop
+last-below-requires c κs = search needs
 
 returns : tie.Need-returns Inv-loop μ-loop
 unfolding lastByte
-returns c = sym (c .before .before .before .loop .inv .1 ∙ last-hit-below _ _ (c .before .before .loop-test .taken) (eq-eqb _ _ (c .if1 .taken)))
-
-sub-i : tie.Need-sub-i Inv-loop μ-loop
-sub-i c = search needs
+returns c = c .last-below .ensures ∙ sym (c .before .before .before .before .loop .inv .1)
 
 loop-less : tie.Need-loop-less Inv-loop μ-loop
 loop-less c = search needs
 
 loop-again : tie.Need-loop-again Inv-loop μ-loop
-loop-again c = (omega (arith, c .before .before .before .loop .inv .0), c .before .before .before .loop .inv .1 ∙ last-miss-below _ _ (c .before .before .loop-test .taken) (ne-eqb _ _ (c .if1 .left)))
+loop-again c =
+    let z : c .before .before .before .loop .i - 16 + 16 ≡ c .before .before .before .loop .i = omega (arith, c .before .before .loop-test .taken) in
+    (omega (arith, c .before .before .before .loop .inv .0), c .before .before .before .loop .inv .1 ∙ last-skip _ 16 (c .before .before .loop-test .taken) (rw z at (c .before .may-have .ensures (c .if1 .left))))
+
+last-below-requires-2 : tie.Need-last-below-requires-2 Inv-loop μ-loop
+last-below-requires-2 c κs = search needs
 
 returns-2 : tie.Need-returns-2 Inv-loop μ-loop
 unfolding lastByte
-returns-2 c = let z : c .before .loop .i ≡ 0 = omega arith in sym (c .before .loop .inv .1 ∙ ap (lastPlace _) z ∙ last-zero _)
+returns-2 c = c .last-below2 .ensures ∙ sym (c .before .before .loop .inv .1)
 
 pub last-spec : {M : Type 1} → statement M
 last-spec =
@@ -52,11 +50,10 @@ last-spec =
     Inv-loop
     μ-loop
     loop-holds
-    sub-if1
-    shared-slice-read-if1
-    sub-t8
+    may-have-requires
+    last-below-requires
     returns
-    sub-i
     loop-less
     loop-again
+    last-below-requires-2
     returns-2)

@@ -9,9 +9,11 @@ use lib.ListN.{length, getD}
 use borrow.Author.Tests.{not-true, not-false}
 use Rattle.text.specs.declared.place.Found.{Found}
 use Rattle.text.specs.declared.place.Found.the-variants.{At, Nothing}
-use Rattle.text.specs.Place.{lastPlace}
+use Rattle.text.specs.declared.class.Class.the-variants.{NotSpace, NotClose}
+use Rattle.text.specs.Class.{inClass, otherThan}
+use Rattle.text.specs.Place.{Free, isAt, lastPlace, firstByte, lastByte}
 use Rattle.text.specs.Run.{Run, RunBack, EndsAt, StartsAt, failsAt, runEnd, behind, runStart}
-use Rattle.text.proofs.Places.{by-order, Stops, first-stops, first-end, first-hit, first-miss, one-stop, last-hit-below, last-miss-below, last-zero, last-all, last-none, last-is, last-free}
+use Rattle.text.proofs.Places.{by-order, Stops, first-stops, first-end, first-hit, first-miss, one-stop, last-hit-below, last-miss-below, last-zero, last-all, last-none, last-is, last-free, first-is, first-free}
 
 -- a test that fails is its negation's pass
 flip : {b : Bool} → b ≡ false → not b ≡ true
@@ -145,3 +147,43 @@ module _ (p : ℕ → Bool) (s : List ℕ) where
 
   pub starts-at : {i : ℕ} → i ≡ runStart p s → StartsAt p s i
   starts-at {i} q = record { is = q; within = omega (arith, back-within) }
+
+-- the bytes other than one: their run ends at the first place of that byte, and the run that ends the text starts behind the last
+module _ (b : ℕ) (s : List ℕ) where
+  others : {i e : ℕ} → Free (isAt b s) i e → (k : ℕ) → i ≤ k → k < e → otherThan b (getD s k 0) ≡ true
+  others f k a l = flip (f k a l)
+
+  pub until-found : (i : ℕ) {k : ℕ} → firstByte b s i ≡ At k → k ≡ runEnd (otherThan b) s i
+  unfolding firstByte
+  until-found i {k} e =
+      let r = first-is (isAt b s) e in
+      sym (run-all (otherThan b) s (record { from = r .from; within = omega (arith, r .within); inside = others (r .before); stops = λ l. flop (r .here) }))
+
+  pub until-none : {i : ℕ} → i ≤ length s → firstByte b s i ≡ Nothing → length s ≡ runEnd (otherThan b) s i
+  unfolding firstByte
+  until-none {i} h e =
+      sym (run-all (otherThan b) s (record { from = h; within = omega arith; inside = others (first-free (isAt b s) e h); stops = λ l. absurd (omega arith) }))
+
+  pub behind-found : {k : ℕ} → lastByte b s ≡ At k → suc k ≡ runStart (otherThan b) s
+  unfolding lastByte
+  behind-found {k} e =
+      let r = last-is (isAt b s) e in
+      sym (back-all (otherThan b) s (suc k) (record {
+        within = r .within;
+        inside = others (r .after);
+        stops = λ j q. let z : k ≡ j = omega arith in rw (← z) (flop (r .here));
+      }))
+
+  pub behind-none : lastByte b s ≡ Nothing → 0 ≡ runStart (otherThan b) s
+  unfolding lastByte
+  behind-none e =
+      sym (back-all (otherThan b) s 0 (record { within = omega arith; inside = others (last-free (isAt b s) e); stops = λ j q. absurd (omega arith) }))
+
+-- two classes are the bytes other than one
+pub not-space : inClass NotSpace ≡ otherThan 32
+unfolding inClass
+not-space = refl
+
+pub not-close : inClass NotClose ≡ otherThan 93
+unfolding inClass
+not-close = refl

@@ -25,6 +25,10 @@ isLetter b = between 65 90 b || between 97 122 b
 unfoldable pub isWord : ℕ → Bool
 isWord b = isLetter b || isDigit b || eqb b 95
 
+-- every byte but one
+abbrev pub otherThan : ℕ → ℕ → Bool
+otherThan a b = not (eqb b a)
+
 -- the class by its name: `NotSpace` is every byte but 32, `NotClose` every byte but `]`
 unfoldable pub inClass : Class → ℕ → Bool
 inClass Blank = isBlank

@@ -1,8 +1,11 @@
 // Longest runs of a class, from a place and back from the end, and what stripping leaves.
 use crate::class::Class;
 use crate::class::has;
+use crate::place::Found;
+use crate::place::first;
+use crate::place::last;
 ghost use mathlib.Core.Path.{_≡_};
-ghost use Rattle.text.specs.Class.{inClass, isBlank};
+ghost use Rattle.text.specs.Class.{inClass, isBlank, otherThan};
 ghost use Rattle.text.specs.Run.{EndsAt, StartsAt, runEnd, stripped};
 ghost use Rattle.text.specs.Part.{OwnBytes};
 
@@ -32,6 +35,29 @@ pub fn run_start(s: &[u8], c: Class) -> usize
         i -= 1;
     }
     0
+}
+
+// Where the run of bytes other than b from a place ends: at the next b, else at the text's end.
+pub fn until(s: &[u8], b: u8, from: usize) -> usize
+    ensures { λ r. ⌜ EndsAt (otherThan b) (now (s .entry)) from r ⌝ }
+{
+    if s.len() <= from {
+        return from;
+    }
+    match first(s, b, from) {
+        Found::At(k) => k,
+        Found::Nothing => s.len(),
+    }
+}
+
+// Where the run of bytes other than b that ends the text starts: behind the last b, else at the text's start.
+pub fn behind_last(s: &[u8], b: u8) -> usize
+    ensures { λ r. ⌜ StartsAt (otherThan b) (now (s .entry)) r ⌝ }
+{
+    match last(s, b) {
+        Found::At(k) => k + 1,
+        Found::Nothing => 0,
+    }
 }
 
 // The text without the blanks at its ends: a part of what is lent.

@@ -5,3 +5,4 @@ pub mod number;
 pub mod place;
 pub mod run;
 pub mod same;
+pub mod word;

@@ -7,6 +7,7 @@ pub mod OwnParts
 pub mod Texts
 pub mod Words
 pub mod Numbers
+pub mod Entries
 pub mod Hexes
 pub mod Decimals
 pub mod Told

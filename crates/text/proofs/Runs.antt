@@ -10,7 +10,7 @@ use borrow.Author.Tests.{not-true, not-false}
 use Rattle.text.specs.declared.place.Found.{Found}
 use Rattle.text.specs.declared.place.Found.the-variants.{At, Nothing}
 use Rattle.text.specs.declared.class.Class.the-variants.{NotSpace, NotClose}
-use Rattle.text.specs.Class.{inClass, otherThan}
+use Rattle.text.specs.Class.{isWord, noWord, inClass, otherThan}
 use Rattle.text.specs.Place.{Free, isAt, lastPlace, firstByte, lastByte}
 use Rattle.text.specs.Run.{Run, RunBack, EndsAt, StartsAt, failsAt, runEnd, behind, runStart}
 use Rattle.text.proofs.Places.{by-order, Stops, first-stops, first-end, first-hit, first-miss, one-stop, last-hit-below, last-miss-below, last-zero, last-all, last-none, last-is, last-free, first-is, first-free}
@@ -178,6 +178,22 @@ module _ (b : ℕ) (s : List ℕ) where
   unfolding lastByte
   behind-none e =
       sym (back-all (otherThan b) s 0 (record { within = omega arith; inside = others (last-free (isAt b s) e); stops = λ j q. absurd (omega arith) }))
+
+-- what ends at the first word byte: none stands before it, and where the text goes on one stands there
+module _ (s : List ℕ) {i e : ℕ} (r : EndsAt noWord s i e) where
+  pub no-word : Free (λ (k : ℕ). isWord (getD s k 0)) i e
+  no-word k a b =
+      by-order i (length s) (λ h. within (omega arith)) (λ h. within (omega arith))
+      (λ h. absurd (omega (arith, r .within)))
+    where
+      within : i ≤ length s → isWord (getD s k 0) ≡ false
+      within h = not-true _ (run-is noWord s h .inside k a (rw (← r .is) b))
+
+  pub word-there : e < length s → isWord (getD s e 0) ≡ true
+  word-there h =
+      let z : i ≤ length s = omega (arith, r .up) in
+      let q : runEnd noWord s i ≡ e = sym (r .is) in
+      not-false _ (rw q at (run-is noWord s z .stops (rw q h)))
 
 -- two classes are the bytes other than one
 pub not-space : inClass NotSpace ≡ otherThan 32

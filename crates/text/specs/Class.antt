@@ -25,6 +25,10 @@ isLetter b = between 65 90 b || between 97 122 b
 unfoldable pub isWord : ℕ → Bool
 isWord b = isLetter b || isDigit b || eqb b 95
 
+-- any other byte
+abbrev pub noWord : ℕ → Bool
+noWord b = not (isWord b)
+
 -- every byte but one
 abbrev pub otherThan : ℕ → ℕ → Bool
 otherThan a b = not (eqb b a)

@@ -5,4 +5,5 @@ pub mod number;
 pub mod place;
 pub mod run;
 pub mod same;
+pub mod table;
 pub mod word;

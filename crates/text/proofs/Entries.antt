@@ -1,0 +1,99 @@
+-- What the table says of a byte is what the classes say of it: one test over all 256 bytes, computed. Assumes nothing.
+use Prim.Native.Nat.{ℕ, zero, suc, _+_, _≤_, _<_}
+use mathlib.Core.Path.{_≡_, refl, sym, ap, _∙_}
+use mathlib.Core.Bool.{Bool, true, false, not, cond, _&&_}
+use mathlib.Core.List.{List}
+use native.Mathlib.Omega.{arith}
+use lib.Dec.{ltb, leb, eqb}
+use lib.ListN.{length, getD}
+use borrow.Author.Tests.{lt-ltb, le-ltb, ltb-true, eqb-true}
+use Rattle.text.specs.Class.{between, isLetter, isDigit, isWord, isBlank}
+use Rattle.text.specs.Number.{digitOf}
+use Rattle.text.proofs.Places.{by-order}
+use Rattle.text.proofs.Texts.{both-left, both-right}
+use Rattle.text.specs.Table.{entryOf, entries, table}
+
+-- the test passes for n numbers from b on
+all : (ℕ → Bool) → ℕ → ℕ → Bool
+all p zero b = true
+all p (suc n) b = p b && all p n (suc b)
+
+all-at : (p : ℕ → Bool) (n b : ℕ) → all p n b ≡ true → (k : ℕ) → b ≤ k → k < b + n → p k ≡ true
+unfolding all
+all-at p zero b t k h l = absurd (omega arith)
+all-at p (suc n) b t k h l =
+    by-order b k (λ x. all-at p n (suc b) (both-right (p b) _ t) k (omega arith) (omega arith))
+    (λ e. rw (← e) (both-left _ _ t))
+    (λ x. absurd (omega arith))
+
+entries-at : (n b k : ℕ) → k < n → getD (entries n b) k 0 ≡ entryOf (b + k)
+unfolding entries
+entries-at zero b k h = absurd (omega arith)
+entries-at (suc n) b zero h = let e : b + 0 ≡ b = omega arith in rw e
+entries-at (suc n) b (suc k) h = let e : b + suc k ≡ suc b + k = omega arith in rw e (entries-at n (suc b) k (omega arith))
+
+same : Bool → Bool → Bool
+same true b = b
+same false b = not b
+
+same-is : (a b : Bool) → same a b ≡ true → a ≡ b
+unfolding same
+same-is true b e = sym e
+same-is false true e = e
+same-is false false e = refl
+
+-- a digit's entry is its value; a word byte's is at most 128; a blank's is 254
+right : ℕ → Bool
+right b =
+    same (leb (entryOf b) 128) (isWord b)
+    && same (eqb (entryOf b) 254) (isBlank b)
+    && eqb (digitOf b) (cond (ltb (entryOf b) 16) (entryOf b) 16)
+
+computed : all right 256 0 ≡ true
+unfolding all right same entryOf between isLetter isDigit isWord isBlank digitOf
+computed = refl
+
+-- no entry lies between a digit's and 128, so a sum below 128 is one of digits
+apart : ℕ → Bool
+apart b = same (ltb (entryOf b) 128) (ltb (entryOf b) 16)
+
+apart-computed : all apart 256 0 ≡ true
+unfolding all apart same entryOf between isLetter isDigit isWord isBlank digitOf
+apart-computed = refl
+
+module _ {t : List ℕ} (is : t ≡ table) {b : ℕ} (h : b < 256) where
+  entry : getD t b 0 ≡ entryOf b
+  unfolding table
+  entry = rw is (entries-at 256 0 b h ∙ ap entryOf (omega arith))
+
+  tested : right b ≡ true
+  tested = all-at right 256 0 computed b (omega arith) (omega arith)
+
+  pub entry-word : leb (getD t b 0) 128 ≡ isWord b
+  unfolding right
+  entry-word = rw entry (same-is _ _ (both-left _ _ (both-left _ _ tested)))
+
+  pub entry-blank : eqb (getD t b 0) 254 ≡ isBlank b
+  unfolding right
+  entry-blank = rw entry (same-is _ _ (both-right (same (leb (entryOf b) 128) (isWord b)) _ (both-left _ _ tested)))
+
+  digit : digitOf b ≡ cond (ltb (getD t b 0) 16) (getD t b 0) 16
+  unfolding right
+  digit = rw entry (eqb-true _ _ (both-right (same (leb (entryOf b) 128) (isWord b) && same (eqb (entryOf b) 254) (isBlank b)) _ tested))
+
+  pub entry-digit : getD t b 0 < 16 → digitOf b ≡ getD t b 0
+  entry-digit l = digit ∙ rw (lt-ltb (getD t b 0) 16 l)
+
+  pub entry-none : 16 ≤ getD t b 0 → digitOf b ≡ 16
+  entry-none l = digit ∙ rw (le-ltb (getD t b 0) 16 l)
+
+  pub entry-small : getD t b 0 < 128 → getD t b 0 < 16
+  unfolding apart
+  entry-small l =
+      ltb-true _ _ (sym (same-is _ _ (rw (← entry) at (all-at apart 256 0 apart-computed b (omega arith) (omega arith)))) ∙ lt-ltb (getD t b 0) 128 l)
+
+  -- no digit of the base
+  pub entry-over : {base : ℕ} → base ≤ 16 → base ≤ getD t b 0 → base ≤ digitOf b
+  entry-over {base} u l =
+      by-order (getD t b 0) 16 (λ x. omega (arith, entry-digit x)) (λ x. omega (arith, entry-none (omega arith)))
+      (λ x. omega (arith, entry-none (omega arith)))

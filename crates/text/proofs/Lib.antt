@@ -8,6 +8,7 @@ pub mod Texts
 pub mod Words
 pub mod Numbers
 pub mod Entries
+pub mod FewDigits
 pub mod Hexes
 pub mod Decimals
 pub mod Told

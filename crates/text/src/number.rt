@@ -3,7 +3,8 @@ use crate::class::is_digit;
 use crate::class::lies_between;
 use crate::place::byte_at;
 ghost use mathlib.Core.Path.{_≡_};
-ghost use Prim.Native.Nat.{_≤_, _<_};
+ghost use Prim.Native.Nat.{_≤_, _<_, _+_};
+ghost use lib.ListN.{length};
 ghost use Rattle.text.specs.Number.{digitOf, numberOf, readingOf, reasonOf, digitsFrom, hexOf, readValue};
 
 // The largest value of each width.
@@ -16,6 +17,9 @@ pub const MAX_32: u64 = 0xffff_ffff;
 pub const MAX_63: u64 = 0x7fff_ffff_ffff_ffff;
 
 pub const MAX_64: u64 = 0xffff_ffff_ffff_ffff;
+
+// So many digits of any base up to 16 stay within 64 bits.
+const SHORT: usize = 16;
 
 pub enum Number {
     Value(u64),
@@ -73,8 +77,7 @@ fn digits_from(s: &[u8]) -> usize
     2
 }
 
-// The digits from a place on. The limit is divided once: a value above the quotient has no room for any further digit, and for one that is not,
-// the product stays within the limit, so no sum wraps however many digits there are. What is no number is given up at once; why, `reason` says.
+// The digits from a place on: as many as always stay within 64 bits are read with no look at the limit until the end.
 fn read(s: &[u8], from: usize, base: u64, limit: u64) -> Number
     requires { ⌜ (0 < base) × (base ≤ 16) ⌝ }
     ensures { λ r. ⌜ r ≡ readValue (readingOf base limit from (now (s .entry))) ⌝ }
@@ -82,6 +85,39 @@ fn read(s: &[u8], from: usize, base: u64, limit: u64) -> Number
     if s.len() <= from {
         return Number::Unreadable;
     }
+    if s.len() - from <= SHORT {
+        return read_short(s, from, base, limit);
+    }
+    read_long(s, from, base, limit)
+}
+
+// At most sixteen digits: no value passes 16^16, so no sum wraps, and the limit is looked at once.
+fn read_short(s: &[u8], from: usize, base: u64, limit: u64) -> Number
+    requires { ⌜ (0 < base) × (base ≤ 16) × (from < length (now s)) × (length (now s) ≤ from + 16) ⌝ }
+    ensures { λ r. ⌜ r ≡ readValue (readingOf base limit from (now (s .entry))) ⌝ }
+{
+    let mut v: u64 = 0;
+    let mut i = from;
+    while i < s.len() {
+        let d = digit(s[i]);
+        if base <= d {
+            return Number::Unreadable;
+        }
+        v = v * base + d;
+        i += 1;
+    }
+    if limit < v {
+        return Number::Unreadable;
+    }
+    Number::Value(v)
+}
+
+// The limit is divided once: a value above the quotient has no room for any further digit, and for one that is not, the product stays within the
+// limit, so no sum wraps however many digits there are. What is no number is given up at once; why, `reason` says.
+fn read_long(s: &[u8], from: usize, base: u64, limit: u64) -> Number
+    requires { ⌜ (0 < base) × (from < length (now s)) ⌝ }
+    ensures { λ r. ⌜ r ≡ readValue (readingOf base limit from (now (s .entry))) ⌝ }
+{
     let most = limit / base;
     let mut v: u64 = 0;
     let mut i = from;

@@ -1,85 +1,27 @@
--- `number::read` meets its contract: what is read so far is a `SoFar`, and each way out is one of its laws. Assumes nothing.
-use Rattle.text.proofs.Numbers.{SoFar, so-far-starts, so-far-steps, none-there, none-bad, none-wide, whole-value, within-most, above-most}
-use lib.ListN.{length}
-use Prim.Native.Nat.{_-_}
-use native.Mathlib.Omega.{arith}
+-- `number::read` meets its contract: no digit, or few, or more, each by its own reader. Assumes nothing.
+use Rattle.text.proofs.Numbers.{none-there}
 use borrow.Author.Needs.{needs}
 use Rattle.text.proofs.number.read.Statement.{statement}
 use Rattle.text.proofs.number.read.Tie as tie
 
-abbrev Inv-loop : tie.InvT-loop
-Inv-loop s from base limit most v₀ i₀ v i = SoFar base limit from s v i
-
-abbrev μ-loop : tie.MeasureT-loop
-μ-loop s from base limit most v₀ i₀ v i = length s - i
-
-returns : tie.Need-returns Inv-loop μ-loop
+returns : tie.Need-returns
 returns c = none-there _ _ _ _ (c .if1 .taken)
 
-div-most : tie.Need-div-most Inv-loop μ-loop
-div-most c = search needs
+sub-if2 : tie.Need-sub-if2
+sub-if2 c = search needs
 
-loop-holds : tie.Need-loop-holds Inv-loop μ-loop
-loop-holds c = so-far-starts _ _ _ _ (c .if1 .left)
+read-short-requires : tie.Need-read-short-requires
+read-short-requires c κs = search needs
 
-shared-slice-read-digit : tie.Need-shared-slice-read-digit Inv-loop μ-loop
-shared-slice-read-digit c = search needs
+returns-2 : tie.Need-returns-2
+returns-2 c = search needs
 
-digit-requires : tie.Need-digit-requires Inv-loop μ-loop
-digit-requires c κs = search needs
+read-long-requires : tie.Need-read-long-requires
+read-long-requires c κs = search needs
 
-returns-2 : tie.Need-returns-2 Inv-loop μ-loop
-returns-2 c = none-bad _ _ _ _ (c .before .before .before .before .loop .inv) (c .before .before .before .loop-test .taken) (c .before .digit .ensures) (c .if2 .taken)
-
-returns-3 : tie.Need-returns-3 Inv-loop μ-loop
-returns-3 c = none-wide _ _ _ _ (c .before .before .before .before .before .before .before .before .pre .0) (c .before .before .before .before .before .loop .inv) (c .before .before .before .before .loop-test .taken) (c .before .before .digit .ensures) (above-most _ _ (c .before .before .before .before .before .before .before .before .pre .0) _ (c .if3 .taken))
-
-mul-if4 : tie.Need-mul-if4 Inv-loop μ-loop
-mul-if4 c = record { fits = omega (arith, within-most _ _ (c .before .before .before .before .before .before .before .before .pre .0) (c .if3 .left), c .before .before .before .before .before .before .before .before .fits .limit) }
-
-sub-if4 : tie.Need-sub-if4 Inv-loop μ-loop
-sub-if4 c = within-most _ _ (c .before .before .before .before .before .before .before .before .pre .0) (c .if3 .left)
-
-returns-4 : tie.Need-returns-4 Inv-loop μ-loop
-returns-4 c = none-wide _ _ _ _ (c .before .before .before .before .before .before .before .before .before .pre .0) (c .before .before .before .before .before .before .loop .inv) (c .before .before .before .before .before .loop-test .taken) (c .before .before .before .digit .ensures) (omega (arith, within-most _ _ (c .before .before .before .before .before .before .before .before .before .pre .0) (c .before .if3 .left), c .if4 .taken))
-
-mul-v : tie.Need-mul-v Inv-loop μ-loop
-mul-v c = record { fits = omega (arith, within-most _ _ (c .before .before .before .before .before .before .before .before .before .pre .0) (c .before .if3 .left), c .before .before .before .before .before .before .before .before .before .fits .limit) }
-
-add-v : tie.Need-add-v Inv-loop μ-loop
-add-v c = record { fits = omega (arith, within-most _ _ (c .before .before .before .before .before .before .before .before .before .pre .0) (c .before .if3 .left), c .if4 .left, c .before .before .before .before .before .before .before .before .before .fits .limit) }
-
-add-i : tie.Need-add-i Inv-loop μ-loop
-add-i c = search needs
-
-loop-less : tie.Need-loop-less Inv-loop μ-loop
-loop-less c = search needs
-
-loop-again : tie.Need-loop-again Inv-loop μ-loop
-loop-again c = so-far-steps _ _ _ _ (c .before .before .before .before .before .before .loop .inv) (c .before .before .before .before .before .loop-test .taken) (c .before .before .before .digit .ensures) (c .before .before .if2 .left) (omega (arith, within-most _ _ (c .before .before .before .before .before .before .before .before .before .pre .0) (c .before .if3 .left), c .if4 .left))
-
-returns-5 : tie.Need-returns-5 Inv-loop μ-loop
-returns-5 c = whole-value _ _ _ _ (c .before .loop .inv) (c .loop-test .left)
+returns-3 : tie.Need-returns-3
+returns-3 c = search needs
 
 pub read-spec : {M : Type 1} → statement M
 read-spec =
-    tie.close
-    (tie.spec
-    Inv-loop
-    μ-loop
-    returns
-    div-most
-    loop-holds
-    shared-slice-read-digit
-    digit-requires
-    returns-2
-    returns-3
-    mul-if4
-    sub-if4
-    returns-4
-    mul-v
-    add-v
-    add-i
-    loop-less
-    loop-again
-    returns-5)
+    tie.close (tie.spec returns sub-if2 read-short-requires returns-2 read-long-requires returns-3)

@@ -1,0 +1,65 @@
+-- `number::read_short` meets its contract: what is read so far is a `Few`, and each way out is one of its laws. Assumes nothing.
+use Rattle.text.proofs.FewDigits.{Few, few-starts, few-steps, few-fit, few-bad, few-wide, few-whole}
+use lib.ListN.{length}
+use Prim.Native.Nat.{_-_}
+use borrow.Author.Needs.{needs}
+use native.Mathlib.Omega.{arith}
+use Rattle.text.proofs.number.read_short.Statement.{statement}
+use Rattle.text.proofs.number.read_short.Tie as tie
+
+abbrev Inv-loop : tie.InvT-loop
+Inv-loop s from base limit v₀ i₀ v i = Few base from s v i
+
+abbrev μ-loop : tie.MeasureT-loop
+μ-loop s from base limit v₀ i₀ v i = length s - i
+
+loop-holds : tie.Need-loop-holds Inv-loop μ-loop
+loop-holds c = few-starts _ _ _ (c .before .pre .2)
+
+shared-slice-read-digit : tie.Need-shared-slice-read-digit Inv-loop μ-loop
+shared-slice-read-digit c = search needs
+
+digit-requires : tie.Need-digit-requires Inv-loop μ-loop
+digit-requires c κs = search needs
+
+returns : tie.Need-returns Inv-loop μ-loop
+returns c = few-bad _ _ _ _ (c .before .before .before .before .loop .inv) (c .before .before .before .loop-test .taken) (c .before .digit .ensures) (c .if1 .taken)
+
+mul-v : tie.Need-mul-v Inv-loop μ-loop
+mul-v c = record { fits = omega (arith, few-fit _ _ _ (c .before .before .before .before .loop .inv) (omega (arith, c .before .before .before .loop-test .taken, c .before .before .before .before .before .before .pre .3)) (c .before .before .before .before .before .before .pre .1) (c .if1 .left)) }
+
+add-v : tie.Need-add-v Inv-loop μ-loop
+add-v c = record { fits = omega (arith, few-fit _ _ _ (c .before .before .before .before .loop .inv) (omega (arith, c .before .before .before .loop-test .taken, c .before .before .before .before .before .before .pre .3)) (c .before .before .before .before .before .before .pre .1) (c .if1 .left)) }
+
+add-i : tie.Need-add-i Inv-loop μ-loop
+add-i c = search needs
+
+loop-less : tie.Need-loop-less Inv-loop μ-loop
+loop-less c = search needs
+
+loop-again : tie.Need-loop-again Inv-loop μ-loop
+loop-again c = few-steps _ _ _ (c .before .before .before .before .loop .inv) (c .before .before .before .loop-test .taken) (c .before .before .before .before .before .before .pre .1) (c .before .digit .ensures) (c .if1 .left)
+
+returns-2 : tie.Need-returns-2 Inv-loop μ-loop
+returns-2 c = few-wide _ _ _ _ (c .before .before .loop .inv) (c .before .loop-test .left) (c .if2 .taken)
+
+returns-3 : tie.Need-returns-3 Inv-loop μ-loop
+returns-3 c = few-whole _ _ _ _ (c .before .before .loop .inv) (c .before .loop-test .left) (c .if2 .left)
+
+pub read-short-spec : {M : Type 1} → statement M
+read-short-spec =
+    tie.close
+    (tie.spec
+    Inv-loop
+    μ-loop
+    loop-holds
+    shared-slice-read-digit
+    digit-requires
+    returns
+    mul-v
+    add-v
+    add-i
+    loop-less
+    loop-again
+    returns-2
+    returns-3)

@@ -1,5 +1,5 @@
 -- The CPU stands at a first place, whose brackets and digits all lie within the header. Assumes nothing.
-use Prim.Native.Nat.{ℕ, _+_, _-_, _<_}
+use Prim.Native.Nat.{ℕ, _+_, _-_, _<_, _≤_}
 use mathlib.Core.Path.{_≡_, refl, sym, _∙_}
 use mathlib.Core.Bool.{true, false, _&&_}
 use mathlib.Core.List.{List}
@@ -12,8 +12,8 @@ use Rattle.text.specs.declared.place.Found.{Found}
 use Rattle.text.specs.declared.place.Found.the-variants.{At, Nothing}
 use Rattle.text.specs.Class.{isDigit}
 use Rattle.text.specs.Number.{numberOf}
-use Rattle.text.specs.Place.{firstPlace}
-use Rattle.text.proofs.Places.{first-is, first-all, stands-within}
+use Rattle.text.specs.Place.{First, firstPlace, isAt, firstByte}
+use Rattle.text.proofs.Places.{place-hit, place-miss, place-skip-to, first-is, first-all, first-none, first-free, stands-within}
 use Rattle.text.proofs.Texts.{both-right}
 use Rattle.text.proofs.Numbers.{number-is, number-all}
 use Rattle.header.specs.Cpu.{cpuAt, Cpu, digitsWithin, cpuOf}
@@ -46,6 +46,45 @@ module _ (h : List ℕ) (k : ℕ) where
   cpu-within t =
       let close : getD h (k + 4) 0 ≡ 93 = eqb-true _ _ (both-right (eqb (getD h k 0) 91 && isDigit (getD h (k + 1) 0) && isDigit (getD h (k + 2) 0) && isDigit (getD h (k + 3) 0)) _ t) in
       stands-within h (k + 4) (λ e. absurd (omega arith))
+
+-- the walk from bracket to bracket: the first CPU is the first from here
+module _ (h : List ℕ) where
+  pub record Seeking (n : ℕ) : Type 0 where
+    pub within : n ≤ length h
+    pub same : firstPlace (cpuAt h) (length h) 0 ≡ firstPlace (cpuAt h) (length h) n
+
+  pub seeking-starts : Seeking 0
+  seeking-starts = record { within = omega arith; same = refl }
+
+  -- where no bracket opens, no CPU stands
+  no-bracket : (k : ℕ) → isAt 91 h k ≡ false → cpuAt h k ≡ false
+  unfolding cpuAt
+  no-bracket k e = rw e
+
+  pub next-bracket : {n k : ℕ} → firstByte 91 h n ≡ At k → First (isAt 91 h) n (length h) k
+  unfolding firstByte
+  next-bracket e = first-is (isAt 91 h) e
+
+  module _ {n : ℕ} (s : Seeking n) where
+    module _ {k : ℕ} (e : firstByte 91 h n ≡ At k) where
+      at-bracket : firstPlace (cpuAt h) (length h) 0 ≡ firstPlace (cpuAt h) (length h) k
+      at-bracket =
+          let r = next-bracket e in
+          s .same ∙ place-skip-to (cpuAt h) n k (length h) (r .from) (λ m a b. no-bracket m (r .before m a b))
+
+      pub seeking-hits : cpuAt h k ≡ true → firstPlace (cpuAt h) (length h) 0 ≡ At k
+      seeking-hits t = at-bracket ∙ place-hit (cpuAt h) (next-bracket e .within) t
+
+      pub seeking-steps : cpuAt h k ≡ false → Seeking (k + 1)
+      seeking-steps t =
+          record {
+            within = omega (arith, next-bracket e .within);
+            same = at-bracket ∙ place-miss (cpuAt h) (next-bracket e .within) t;
+          }
+
+    pub seeking-ends : firstByte 91 h n ≡ Nothing → firstPlace (cpuAt h) (length h) 0 ≡ Nothing
+    unfolding firstByte
+    seeking-ends e = s .same ∙ first-none (cpuAt h) (λ m a b. no-bracket m (first-free (isAt 91 h) e (s .within) m a b))
 
 -- the three digits, as code cuts them
 pub cpu-some : (h : List ℕ) {k : ℕ} → firstPlace (cpuAt h) (length h) 0 ≡ At k → numberOf 10 999 (take 3 (drop (k + 1) h)) ≡ cpuOf h

@@ -1,98 +1,162 @@
--- The timestamp: within one run of digits only its first place can start a whole run, so a walk may pass over runs, and the first place
--- that fits is the sentence's first whole run. Assumes nothing.
-use Prim.Native.Nat.{ℕ, _+_, _-_, _^_, _≤_, _<_}
+-- The timestamp: looking back from a colon finds the two digit runs of the stamp that ends there, and stamps come in the order of their
+-- colons, so the first colon that ends one ends the first; and that is the sentence's first whole run. Assumes nothing.
+use Prim.Native.Nat.{ℕ, zero, suc, _+_, _-_, _^_, _≤_, _<_}
 use mathlib.Core.Path.{_≡_, refl, sym, _∙_}
 use mathlib.Core.Bool.{Bool, true, false, not, _&&_}
 use mathlib.Core.List.{List}
 use native.Mathlib.Omega.{arith}
 use lib.Dec.{ltb, eqb}
-use lib.ListN.{length, getD, take, drop, List·getD-eq-default}
-use borrow.Author.Tests.{lt-ltb, le-ltb, eq-eqb, ne-eqb, ltb-true, eqb-true, not-true}
+use lib.ListN.{length, getD, take, drop}
+use lib.Seq.{getD-take, length-take-le}
+use borrow.Author.Tests.{lt-ltb, eq-eqb, ltb-true, eqb-true, not-true}
 use Rattle.text.specs.declared.number.Number.{Number}
 use Rattle.text.specs.declared.number.Number.the-variants as N
 use Rattle.text.specs.declared.place.Found.{Found}
 use Rattle.text.specs.declared.place.Found.the-variants as F
 use Rattle.text.specs.Class.{between, isDigit, isBlank}
 use Rattle.text.specs.Number.{numberOf}
-use Rattle.text.specs.Place.{firstPlace, byteBefore}
-use Rattle.text.specs.Run.{runEnd}
-use Rattle.text.proofs.Places.{by-order, clash, place-hit, place-end, place-skip-to, first-is, first-all, before-none, before-some, stands-within}
-use Rattle.text.proofs.Runs.{run-is, run-all, run-over, run-up, run-within}
+use Rattle.text.specs.Place.{First, isAt, firstPlace, firstByte, byteBefore}
+use Rattle.text.specs.Run.{Inside, RunBack, runEnd, runStart}
+use Rattle.text.proofs.Places.{by-order, clash, first-is, first-all, first-none, first-free, before-none, before-some, stands-within}
+use Rattle.text.proofs.Runs.{run-is, run-all, back-is, back-all}
 use Rattle.text.proofs.Texts.{both-left, both-right}
-use Rattle.text.proofs.Numbers.{number-is, number-all, none-empty}
+use Rattle.text.proofs.Numbers.{number-is, number-all}
 use Rattle.header.specs.declared.stamp.Stamp.{Stamp}
 use Rattle.header.specs.declared.stamp.Stamp.the-variants as S
-use Rattle.header.specs.Stamp.{StampAt, Timestamp, followed, stampAt, bothRead, readStamp, stampFrom, stampOf}
+use Rattle.header.specs.declared.stamp.Parts.{Parts}
+use Rattle.header.specs.declared.stamp.Parts.the-variants as P
+use Rattle.header.specs.Stamp.{StampAt, Timestamp, followed, stampAt, bothRead, readStamp, stampFrom, stampOf, PartsBefore}
 
 zero-is-no-digit : isDigit 0 ≡ false
 unfolding isDigit between
 zero-is-no-digit = refl
 
+dot-is-no-digit : isDigit 46 ≡ false
+unfolding isDigit between
+dot-is-no-digit = refl
+
+colon-is-no-digit : isDigit 58 ≡ false
+unfolding isDigit between
+colon-is-no-digit = refl
+
 module _ (h : List ℕ) where
-  -- the ways of the rest behind a digit run
-  module _ (j : ℕ) where
-    pub no-dot : (getD h j 0 ≡ 46 → ⊥) → followed h j ≡ false
-    unfolding followed
-    no-dot n = rw (ne-eqb _ _ n)
+  -- the digits right before place e start at i
+  record DigitsBefore (i e : ℕ) : Type 0 where
+    up : i ≤ e
+    inside : Inside isDigit h i e
+    starts : isDigit (byteBefore h i) ≡ false
 
-    module _ (k : ℕ) (k-is : k ≡ runEnd isDigit h (j + 1)) (dot : getD h j 0 ≡ 46) where
-      pub no-digits : k ≤ j + 1 → followed h j ≡ false
-      unfolding followed
-      no-digits l = rw (← k-is, eq-eqb _ _ dot, le-ltb (j + 1) k l)
+  -- code looks back in the part before e
+  module _ (e : ℕ) (e-within : e ≤ length h) where
+    size : length (take e h) ≡ e
+    size = length-take-le e h e-within
 
-      pub no-colon : j + 1 < k → (getD h k 0 ≡ 58 → ⊥) → followed h j ≡ false
-      unfolding followed
-      no-colon l n = rw (← k-is, eq-eqb _ _ dot, lt-ltb (j + 1) k l, ne-eqb _ _ n)
+    same-byte : (k : ℕ) → k < e → getD (take e h) k 0 ≡ getD h k 0
+    same-byte k l = getD-take e h k 0 l
 
-      pub by-blank : j + 1 < k → getD h k 0 ≡ 58 → followed h j ≡ isBlank (getD h (k + 1) 0)
-      unfolding followed
-      by-blank l e = rw (← k-is, eq-eqb _ _ dot, lt-ltb (j + 1) k l, eq-eqb _ _ e)
+    digits-are : (i : ℕ) → i ≡ runStart isDigit (take e h) → DigitsBefore i e
+    unfolding byteBefore
+    digits-are i i-is =
+        let r : RunBack isDigit (take e h) i = rw i-is (back-is isDigit (take e h)) in
+        record {
+          up = omega (arith, r .within, size);
+          inside = λ k a b. rw (← same-byte k b) (r .inside k a (omega (arith, size)));
+          starts = first-digit i r;
+        }
+      where
+        first-digit : (i : ℕ) → RunBack isDigit (take e h) i → isDigit (byteBefore h i) ≡ false
+        first-digit zero r = zero-is-no-digit
+        first-digit (suc m) r = rw (← same-byte m (omega (arith, r .within, size))) (r .stops m refl)
 
-  -- the byte where a run of digits ends is no digit
-  run-ends : (i : ℕ) → i ≤ length h → isDigit (getD h (runEnd isDigit h i) 0) ≡ false
-  run-ends i l =
-      by-order (runEnd isDigit h i) (length h) (λ q. run-is isDigit h l .stops q) (λ q. past (omega arith)) (λ q. past (omega arith))
-    where
-      past : length h ≤ runEnd isDigit h i → isDigit (getD h (runEnd isDigit h i) 0) ≡ false
-      past q = rw (List·getD-eq-default h 0 q) zero-is-no-digit
+    digits-one : (i : ℕ) → DigitsBefore i e → runStart isDigit (take e h) ≡ i
+    unfolding byteBefore
+    digits-one i r =
+        back-all isDigit (take e h) i
+        (record {
+          within = omega (arith, r .up, size);
+          inside = λ k a b. let l : k < e = omega (arith, size) in rw (same-byte k l) (r .inside k a l);
+          stops = λ k q. let l : k < e = omega (arith, r .up) in rw (same-byte k l) (no-digit k q);
+        })
+      where
+        no-digit : (k : ℕ) → i ≡ suc k → isDigit (getD h k 0) ≡ false
+        no-digit k q = rw q at (r .starts)
 
-  -- the walk: before the present place stands no digit, and the first timestamp is the first from here
-  pub record Seeking (i : ℕ) : Type 0 where
-    pub starts : isDigit (byteBefore h i) ≡ false
-    pub same : firstPlace (stampAt h) (length h) 0 ≡ firstPlace (stampAt h) (length h) i
+  -- the byte before the place behind j stands at j
+  byte-behind : (j : ℕ) → byteBefore h (j + 1) ≡ getD h j 0
+  byte-behind j = let back : j + 1 - 1 ≡ j = omega arith in rw back at (before-some h (j + 1) (omega arith))
 
-  pub seeking-starts : Seeking 0
-  seeking-starts = record { starts = rw (before-none h {i = 0} refl) zero-is-no-digit; same = refl }
+  -- looking back from a stamp's colon finds its two runs
+  module _ (i j c : ℕ) (r : StampAt h i j c) where
+    second-start : runStart isDigit (take c h) ≡ j + 1
+    second-start =
+        digits-one c (r .digits .within) (j + 1)
+        (record {
+          up = r .digits .from;
+          inside = r .digits .inside;
+          starts = rw (byte-behind j, r .dot) dot-is-no-digit;
+        })
 
-  pub seeking-hits : {i j : ℕ} → Seeking i → i < length h → j ≡ runEnd isDigit h i → (ltb i j && followed h j) ≡ true → firstPlace (stampAt h) (length h) 0 ≡ F.At i
-  unfolding stampAt
-  seeking-hits {i} {j} r l e t =
-      let here : stampAt h i ≡ true = rw (r .starts, ← e) t in
-      r .same ∙ place-hit (stampAt h) l here
+    first-start : runStart isDigit (take j h) ≡ i
+    first-start =
+        digits-one j (r .whole .within) i
+        (record { up = r .whole .from; inside = r .whole .inside; starts = r .starts })
 
-  inside-run : (i k : ℕ) → i ≤ length h → i < k → k ≤ runEnd isDigit h i → stampAt h k ≡ false
-  unfolding stampAt
-  inside-run i k l a b =
-      let d : isDigit (getD h (k - 1) 0) ≡ true = run-is isDigit h l .inside (k - 1) (omega arith) (omega arith) in
-      rw (before-some h k (omega arith), d)
+  -- a colon stands within the text, and a dot before a place makes it another than the first
+  pub colon-within : {c : ℕ} → getD h c 0 ≡ 58 → c < length h
+  colon-within {c} e = stands-within h c (λ z. absurd (omega arith))
 
-  pub seeking-steps : {i j : ℕ} → Seeking i → i < length h → j ≡ runEnd isDigit h i → (ltb i j && followed h j) ≡ false → Seeking (j + 1)
-  unfolding stampAt
-  seeking-steps {i} {j} r l e t =
-      let near : i ≤ length h = omega arith in
-      let up : i ≤ runEnd isDigit h i = run-up isDigit h i in
-      let here : stampAt h i ≡ false = rw (r .starts, ← e) t in
-      let back : j + 1 - 1 ≡ j = omega arith in
-      record {
-        starts = rw (before-some h (j + 1) (omega arith), back, e) (run-ends i near);
-        same =
-            r .same
-            ∙ place-skip-to (stampAt h) i (j + 1) (length h) (omega arith)
-            (λ k a b. by-order i k (λ q. inside-run i k near q (omega arith)) (λ q. rw (← q) here) (λ q. absurd (omega arith)));
-      }
+  pub dot-before : {k : ℕ} → byteBefore h k ≡ 46 → 0 < k
+  dot-before {k} e =
+      by-order 0 k (λ l. l) (λ q. absurd (omega (arith, before-none h (sym q)))) (λ l. absurd (omega arith))
 
-  pub seeking-ends : {i : ℕ} → Seeking i → length h ≤ i → firstPlace (stampAt h) (length h) 0 ≡ F.Nothing
-  seeking-ends r l = r .same ∙ place-end (stampAt h) l
+  -- the ways of the look back from a colon, with the places as code has them
+  module _ (c : ℕ) where
+    pub no-blank : isBlank (getD h (c + 1) 0) ≡ false → PartsBefore h c P.Nothing
+    unfolding PartsBefore
+    no-blank f i j r = clash (r .blank) f
+
+    module _ (k : ℕ) (k-is : k ≡ runStart isDigit (take c h)) where
+      pub no-microseconds : k ≡ c → PartsBefore h c P.Nothing
+      unfolding PartsBefore
+      no-microseconds e i j r = absurd (omega (arith, k-is, r .more, second-start i j c r))
+
+      pub no-dot : (byteBefore h k ≡ 46 → ⊥) → PartsBefore h c P.Nothing
+      unfolding PartsBefore
+      no-dot n i j r = n (rw (k-is ∙ second-start i j c r) (byte-behind j ∙ r .dot))
+
+      module _ (dot : ℕ) (dot-is : k ≡ dot + 1) (from : ℕ) (from-is : from ≡ runStart isDigit (take dot h)) where
+        pub no-seconds : from ≡ dot → PartsBefore h c P.Nothing
+        unfolding PartsBefore
+        no-seconds e i j r =
+            let same : j ≡ dot = omega (arith, k-is, second-start i j c r) in
+            let start : runStart isDigit (take dot h) ≡ i = rw same at (first-start i j c r) in
+            absurd (omega (arith, r .some))
+
+        pub both-runs : k < c → byteBefore h k ≡ 46 → getD h c 0 ≡ 58 → isBlank (getD h (c + 1) 0) ≡ true → (from ≡ dot → ⊥) → PartsBefore h c (P.At from dot)
+        unfolding PartsBefore
+        both-runs some point colon blank n =
+            let l : c < length h = colon-within colon in
+            let dot-there : getD h dot 0 ≡ 46 = sym (byte-behind dot) ∙ rw dot-is at point in
+            let second : DigitsBefore k c = digits-are c (omega arith) k k-is in
+            let one : DigitsBefore from dot = digits-are dot (omega arith) from from-is in
+            record {
+              starts = one .starts;
+              some = by-order from dot (λ q. q) (λ q. absurd (n q)) (λ q. absurd (omega (arith, one .up)));
+              whole = record { from = one .up; within = omega arith; inside = one .inside; stops = λ q. rw dot-there dot-is-no-digit };
+              dot = dot-there;
+              more = omega arith;
+              digits = record { from = omega arith; within = omega arith; inside = λ m a b. second .inside m (omega arith) b; stops = λ q. rw colon colon-is-no-digit };
+              colon = colon;
+              blank = blank;
+            }
+
+    -- what is told, by its two cases
+    pub parts-some : {p : Parts} {from dot : ℕ} → PartsBefore h c p → p ≡ P.At from dot → StampAt h from dot c
+    unfolding PartsBefore
+    parts-some r e = rw e at r
+
+    pub parts-none : {p : Parts} → PartsBefore h c p → p ≡ P.Nothing → PartsBefore h c P.Nothing
+    parts-none r e = rw e at r
 
   -- the two runs of a stamp, as code cuts and reads them
   seconds-none : (u : Number) → bothRead N.Unreadable u ≡ S.Unreadable
@@ -113,14 +177,6 @@ module _ (h : List ℕ) where
     pub read-half : numberOf 10 (2 ^ 63 - 1) (take (k - (j + 1)) (drop (j + 1) h)) ≡ N.Unreadable → S.Unreadable ≡ readStamp h i
     unfolding readStamp
     read-half e = rw (← j-is, ← k-is, e) (sym (microseconds-none _))
-
-    pub read-short : length h < k → S.Unreadable ≡ readStamp h i
-    read-short l =
-        read-half
-        (none-empty 10 (2 ^ 63 - 1) (take (k - (j + 1)) (drop (j + 1) h))
-        (let past : length h ≤ j + 1 = by-order (j + 1) (length h) (λ q. absurd (omega (arith, run-within isDigit h (j + 1) (omega arith)))) (λ q. omega arith) (λ q. omega arith) in
-        let same : k - (j + 1) ≡ 0 = omega (arith, run-over isDigit h past) in
-        rw same refl))
 
     pub read-both : {s u : ℕ} → numberOf 10 (2 ^ 63 - 1) (take (j - i) (drop i h)) ≡ N.Value s → numberOf 10 (2 ^ 63 - 1) (take (k - (j + 1)) (drop (j + 1) h)) ≡ N.Value u → S.At s u ≡ readStamp h i
     unfolding readStamp bothRead
@@ -162,25 +218,90 @@ module _ (h : List ℕ) where
         blank = both-right (eqb (getD h j 0) 46 && ltb (j + 1) k && eqb (getD h k 0) 58) _ rest;
       }
 
+  -- where no stamp starts, the test fails
+  no-stamp-at : (i : ℕ) → i < length h → ((j k : ℕ) → StampAt h i j k → ⊥) → stampAt h i ≡ false
+  no-stamp-at i l n = go (stampAt h i) refl
+    where
+      go : (b : Bool) → stampAt h i ≡ b → b ≡ false
+      go true t = absurd (n _ _ (stamp-at-is i l t))
+      go false t = refl
+
+  -- a stamp with none that starts before it is the first
+  first-stamp : {i j k : ℕ} → StampAt h i j k → ((a b c : ℕ) → a < i → StampAt h a b c → ⊥) → firstPlace (stampAt h) (length h) 0 ≡ F.At i
+  first-stamp {i} {j} {k} r n =
+      first-all (stampAt h)
+      (record {
+        from = omega arith;
+        within = omega (arith, r .some, r .whole .within);
+        here = stamp-at-all _ _ _ r;
+        before = λ a l m. no-stamp-at a (omega (arith, r .some, r .whole .within)) (λ b c q. n a b c m q);
+      })
+
+  -- of two stamps the one that starts first has the first colon: whole runs do not overlap, and no dot is a digit
+  starts-later : {i j k a b c : ℕ} → StampAt h i j k → StampAt h a b c → a < i → c < k
+  starts-later {i} {j} {k} {a} {b} {c} r q l =
+      by-order c k (λ m. m) (λ m. absurd (inside-second (omega arith))) (λ m. absurd (inside-second (omega arith)))
+    where
+      before-i : isDigit (getD h (i - 1) 0) ≡ false
+      before-i = rw (before-some h i (omega arith)) at (r .starts)
+
+      -- the other's first run has ended where this stamp starts
+      ended : b < i
+      ended =
+          by-order b i (λ m. m) (λ m. absurd (clash (q .whole .inside (i - 1) (omega arith) (omega arith)) before-i))
+          (λ m. absurd (clash (q .whole .inside (i - 1) (omega arith) (omega arith)) before-i))
+
+      inside-second : k ≤ c → ⊥
+      inside-second m =
+          let digit : isDigit (getD h j 0) ≡ true = q .digits .inside j (omega (arith, ended, r .some)) (omega (arith, r .more)) in
+          clash digit (rw (r .dot) dot-is-no-digit)
+
+  -- the walk from colon to colon: no stamp has its colon before the present place
+  pub record Seeking (n : ℕ) : Type 0 where
+    pub within : n ≤ length h
+    pub later : (i j k : ℕ) → StampAt h i j k → n ≤ k
+
+  pub seeking-starts : Seeking 0
+  seeking-starts = record { within = omega arith; later = λ i j k r. omega arith }
+
+  pub next-colon : {n c : ℕ} → firstByte 58 h n ≡ F.At c → First (isAt 58 h) n (length h) c
+  unfolding firstByte
+  next-colon e = first-is (isAt 58 h) e
+
+  module _ {n : ℕ} (s : Seeking n) where
+    module _ {c : ℕ} (e : firstByte 58 h n ≡ F.At c) where
+      none-sooner : (i j k : ℕ) → StampAt h i j k → c ≤ k
+      none-sooner i j k r =
+          by-order k c (λ l. absurd (clash (eq-eqb _ _ (r .colon)) (next-colon e .before k (s .later i j k r) l)))
+          (λ q. omega arith)
+          (λ l. omega arith)
+
+      pub seeking-steps : PartsBefore h c P.Nothing → Seeking (c + 1)
+      unfolding PartsBefore
+      seeking-steps none =
+          record {
+            within = omega (arith, next-colon e .within);
+            later = λ i j k r. by-order c k (λ l. omega arith) (λ q. absurd (none i j (rw q r))) (λ l. absurd (omega (arith, none-sooner i j k r)));
+          }
+
+      pub seeking-hits : {from dot : ℕ} → StampAt h from dot c → firstPlace (stampAt h) (length h) 0 ≡ F.At from
+      seeking-hits r =
+          first-stamp r (λ i j k l q. absurd (omega (arith, starts-later r q l, none-sooner i j k q)))
+
+    pub seeking-ends : firstByte 58 h n ≡ F.Nothing → firstPlace (stampAt h) (length h) 0 ≡ F.Nothing
+    unfolding firstByte
+    seeking-ends e =
+        first-none (stampAt h) {i = 0} {n = length h}
+        (λ i a l. no-stamp-at i l
+        (λ j k r. clash (eq-eqb _ _ (r .colon)) (first-free (isAt 58 h) e (s .within) k (s .later i j k r) (colon-within (r .colon)))))
+
   pub timestamp-all : {s u : ℕ} → Timestamp h s u → stampOf h ≡ S.At s u
   timestamp-all {s} {u} r =
       let j-is : r .dot ≡ runEnd isDigit h (r .from) = sym (run-all isDigit h (r .here .whole)) in
       let k-is : r .colon ≡ runEnd isDigit h (r .dot + 1) = sym (run-all isDigit h (r .here .digits)) in
-      let place : firstPlace (stampAt h) (length h) 0 ≡ F.At (r .from) =
-      first-all (stampAt h)
-      (record {
-        from = omega arith;
-        within = omega (arith, r .here .some, r .here .whole .within);
-        here = stamp-at-all _ _ _ (r .here);
-        before = λ i a b. not-before i b (stampAt h i) refl;
-      }) in
+      let place : firstPlace (stampAt h) (length h) 0 ≡ F.At (r .from) = first-stamp (r .here) (r .first) in
       sym (stamp-some place)
       ∙ sym (read-both (r .from) (r .dot) (r .colon) j-is k-is (number-all 10 (2 ^ 63 - 1) _ (r .seconds-read)) (number-all 10 (2 ^ 63 - 1) _ (r .microseconds-read)))
-    where
-      not-before : (i : ℕ) → i < r .from → (b : Bool) → stampAt h i ≡ b → b ≡ false
-      not-before i l true t =
-          absurd (r .first i _ _ l (stamp-at-is i (omega (arith, r .here .some, r .here .whole .within)) t))
-      not-before i l false t = refl
 
   both-values : (a b : Number) {s u : ℕ} → bothRead a b ≡ S.At s u → (a ≡ N.Value s) × (b ≡ N.Value u)
   unfolding bothRead

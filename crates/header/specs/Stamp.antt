@@ -15,6 +15,8 @@ use Rattle.text.specs.Place.{firstPlace, isAt, byteBefore}
 use Rattle.text.specs.Run.{Run, runEnd}
 use Rattle.header.specs.declared.stamp.Stamp.{Stamp}
 use Rattle.header.specs.declared.stamp.Stamp.the-variants as S
+use Rattle.header.specs.declared.stamp.Parts.{Parts}
+use Rattle.header.specs.declared.stamp.Parts.the-variants as P
 
 -- a whole digit run from i to j, followed by `.`, a digit run up to k, `:` and a blank
 pub record StampAt (h : List ℕ) (i j k : ℕ) : Type 0 where
@@ -69,3 +71,8 @@ stampFrom h F.Nothing = S.Unreadable
 -- the timestamp
 unfoldable pub stampOf : List ℕ → Stamp
 stampOf h = stampFrom h (firstPlace (stampAt h) (length h) 0)
+
+-- what is told of the colon at c: the two digit runs of the timestamp that it ends, or that it ends none
+unfoldable pub PartsBefore : List ℕ → ℕ → Parts → Type 0
+PartsBefore h c (P.At from dot) = StampAt h from dot c
+PartsBefore h c P.Nothing = (i j : ℕ) → StampAt h i j c → ⊥

@@ -10,6 +10,7 @@ use text::run::run_end;
 ghost use mathlib.Core.Path.{_≡_};
 ghost use Prim.Native.Nat.{_≤_, _<_};
 ghost use lib.ListN.{length};
+ghost use Rattle.text.specs.declared.place.Found.the-variants.{At};
 ghost use Rattle.text.specs.Place.{lastPlace};
 ghost use Rattle.header.specs.Dash.{dashAt, taskOf, pidOf};
 
@@ -21,12 +22,13 @@ pub fn parse_task(h: &[u8]) -> Found
     last_dash(h, to, false)
 }
 
-// The whole digit run behind the last dash that has a byte before it and a digit behind it.
-pub fn parse_pid(h: &[u8]) -> Number
+// The whole digit run behind the last dash that has a byte before it and a digit behind it. The task's dash is the last of all in the run,
+// so no byte behind it is looked at again.
+pub fn parse_pid(h: &[u8], task: usize) -> Number
+    requires { ⌜ taskOf (now h) ≡ At task ⌝ }
     ensures { λ r. ⌜ r ≡ pidOf (now (h .entry)) ⌝ }
 {
-    let to = run_end(h, Class::NotSpace, 0);
-    match last_dash(h, to, true) {
+    match last_dash(h, task + 1, true) {
         Found::At(k) => {
             let from = k + 1;
             let end = run_end(h, Class::Digit, from);

@@ -6,88 +6,80 @@ use text::number::Number;
 use text::number::decimal;
 use text::place::Found;
 use text::place::byte_at;
-use text::run::run_end;
+use text::place::byte_before;
+use text::place::first;
+use text::run::run_start;
 ghost use mathlib.Core.Path.{_≡_};
-ghost use Prim.Native.Nat.{_<_, _≤_};
-ghost use mathlib.Core.Bool.{_&&_};
-ghost use lib.Dec.{ltb};
-ghost use lib.ListN.{length};
-ghost use Rattle.text.specs.Place.{firstPlace};
-ghost use Rattle.header.specs.Stamp.{stampAt, followed, readStamp, stampOf};
+ghost use lib.ListN.{getD};
+ghost use Rattle.header.specs.Stamp.{StampAt, PartsBefore, readStamp, stampOf};
 
 pub enum Stamp {
     At { seconds: u64, microseconds: u64 },
     Unreadable,
 }
 
-// The first whole digit run that a dot, a digit run, a colon and a blank follow, and what both runs read as.
+// Where the two digit runs of a timestamp stand: the first from `from` up to `dot`, the second behind it.
+enum Parts {
+    At { from: usize, dot: usize },
+    Nothing,
+}
+
+// The first whole digit run that a dot, a digit run, a colon and a blank follow, and what both runs read as. Colons are rarer than digits,
+// so the walk goes from colon to colon and looks back from each: the first colon that ends a timestamp ends the first one.
 pub fn parse_timestamp(h: &[u8]) -> Stamp
     ensures { λ r. ⌜ r ≡ stampOf (now (h .entry)) ⌝ }
 {
-    match find_stamp(h) {
-        Found::At(i) => read_stamp(h, i),
-        Found::Nothing => Stamp::Unreadable,
-    }
-}
-
-// A run that no timestamp follows is passed over whole, so that a long one costs no more than its length.
-fn find_stamp(h: &[u8]) -> Found
-    ensures { λ r. ⌜ r ≡ firstPlace (stampAt (now (h .entry))) (length (now (h .entry))) 0 ⌝ }
-{
     let mut i = 0;
-    while i < h.len() {
-        let j = run_end(h, Class::Digit, i);
-        if is_stamp(h, i, j) {
-            return Found::At(i);
+    loop {
+        match first(h, b':', i) {
+            Found::At(c) => {
+                if let Parts::At { from, dot } = parts_before(h, c) {
+                    return read_stamp(h, from, dot, c);
+                }
+                i = c + 1;
+            }
+            Found::Nothing => {
+                return Stamp::Unreadable;
+            }
         }
-        i = j + 1;
     }
-    Found::Nothing
 }
 
-// Is the run from i to j one that a timestamp's rest follows?
-fn is_stamp(h: &[u8], i: usize, j: usize) -> bool
-    requires { ⌜ j ≤ length (now h) ⌝ }
-    ensures { λ r. ⌜ r ≡ (ltb i j && followed (now (h .entry)) j) ⌝ }
+// The parts of the timestamp that this colon ends. The blank is asked for first, because most other colons have none behind them.
+fn parts_before(h: &[u8], c: usize) -> Parts
+    requires { ⌜ getD (now h) c 0 ≡ 58 ⌝ }
+    ensures { λ r. ⌜ PartsBefore (now (h .entry)) c r ⌝ }
 {
-    if j <= i {
-        return false;
+    if !is_blank(byte_at(h, c + 1)) {
+        return Parts::Nothing;
     }
-    is_followed(h, j)
+    let k = run_start(&h[..c], Class::Digit);
+    if k == c {
+        return Parts::Nothing;
+    }
+    if byte_before(h, k) != b'.' {
+        return Parts::Nothing;
+    }
+    let dot = k - 1;
+    let from = run_start(&h[..dot], Class::Digit);
+    if from == dot {
+        return Parts::Nothing;
+    }
+    Parts::At {
+        from: from,
+        dot: dot,
+    }
 }
 
-// Do a dot, a digit run, a colon and a blank stand from here on?
-fn is_followed(h: &[u8], j: usize) -> bool
-    requires { ⌜ j ≤ length (now h) ⌝ }
-    ensures { λ r. ⌜ r ≡ followed (now (h .entry)) j ⌝ }
+fn read_stamp(h: &[u8], from: usize, dot: usize, colon: usize) -> Stamp
+    requires { ⌜ StampAt (now h) from dot colon ⌝ }
+    ensures { λ r. ⌜ r ≡ readStamp (now (h .entry)) from ⌝ }
 {
-    if byte_at(h, j) != b'.' {
-        return false;
-    }
-    let k = run_end(h, Class::Digit, j + 1);
-    if k == j + 1 {
-        return false;
-    }
-    if byte_at(h, k) != b':' {
-        return false;
-    }
-    is_blank(byte_at(h, k + 1))
-}
-
-fn read_stamp(h: &[u8], i: usize) -> Stamp
-    requires { ⌜ i < length (now h) ⌝ }
-    ensures { λ r. ⌜ r ≡ readStamp (now (h .entry)) i ⌝ }
-{
-    let j = run_end(h, Class::Digit, i);
-    let from = j + 1;
-    let k = run_end(h, Class::Digit, from);
-    let Number::Value(seconds) = decimal(&h[i..j], MAX_63) else {
+    let behind = dot + 1;
+    let Number::Value(seconds) = decimal(&h[from..dot], MAX_63) else {
         return Stamp::Unreadable;
     };
-    if h.len() < k {
-        return Stamp::Unreadable;
-    }
-    let Number::Value(microseconds) = decimal(&h[from..k], MAX_63) else {
+    let Number::Value(microseconds) = decimal(&h[behind..colon], MAX_63) else {
         return Stamp::Unreadable;
     };
     Stamp::At {

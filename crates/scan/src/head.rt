@@ -36,7 +36,7 @@ pub fn read_head(h: &[u8]) -> HeadAnswer
     let Found::At(task) = parse_task(h) else {
         return HeadAnswer::Refused(NO_TASK);
     };
-    let Number::Value(pid) = parse_pid(h) else {
+    let Number::Value(pid) = parse_pid(h, task) else {
         return HeadAnswer::Refused(NO_PID);
     };
     let Number::Value(cpu) = parse_cpu(h) else {

@@ -1,6 +1,6 @@
--- `dash::parse_pid` meets its contract: the digit run behind the last numbered dash. Assumes nothing.
+-- `dash::parse_pid` meets its contract: behind the task's dash no dash stands, so the last numbered one is below. Assumes nothing.
 use Rattle.text.proofs.Places.{last-is}
-use Rattle.header.proofs.Dashes.{pid-some, pid-none}
+use Rattle.header.proofs.Dashes.{task-within, pid-before-task, pid-some, pid-none}
 use Rattle.header.specs.Dash.{dashAt, firstRun}
 use Rattle.text.specs.Place.{lastPlace}
 use Rattle.text.specs.Class.{inClass}
@@ -8,23 +8,30 @@ use lib.ListN.{length, take, drop}
 use Prim.Native.Nat.{ℕ, _<_, _+_, _-_, _^_}
 use Rattle.text.specs.Number.{numberOf}
 use mathlib.Core.Bool.{true}
-use mathlib.Core.Path.{sym, ap, _∙_}
+use mathlib.Core.Path.{_≡_, sym, ap, _∙_}
 use native.Mathlib.Omega.{arith}
 use borrow.Author.Needs.{needs}
 use Rattle.header.proofs.dash.parse_pid.Statement.{statement}
 use Rattle.header.proofs.dash.parse_pid.Tie as tie
 
--- the dash lies within the header
-near : (c : tie.After-known-told) → c .before .k .given .0 .0 < length (c .before .before .before .before .before .before .args .h .now)
-near c =
-    let r = last-is (dashAt true (c .before .before .before .before .before .before .args .h .now)) (sym (c .before .before .before .last-dash .ensures) ∙ c .before .k .given .1) in
-    omega (arith, r .within, c .before .before .before .before .run-end .ensures .within)
+inside : (c : tie.After-shared-slice-known) → c .before .args .task < length (c .before .args .h .now)
+inside c = task-within (c .before .args .h .now) (c .before .pre)
 
-run-end-requires : tie.Need-run-end-requires
-run-end-requires c κs = search needs
+-- the search below the task's dash is that of the whole run
+same-dash : (c : tie.After-last-dash) → lastPlace (dashAt true (c .before .before .args .h .now)) (firstRun (c .before .before .args .h .now)) ≡ c .last-dash .result
+same-dash c = pid-before-task (c .before .before .args .h .now) (c .before .before .pre) ∙ sym (c .last-dash .ensures)
+
+-- the dash lies within the header
+near : (c : tie.After-known-told) → c .before .k .given .0 .0 < length (c .before .before .before .before .before .args .h .now)
+near c =
+    let r = last-is (dashAt true (c .before .before .before .before .before .args .h .now)) (sym (c .before .before .before .last-dash .ensures) ∙ c .before .k .given .1) in
+    omega (arith, r .within, inside (c .before .before .before .before))
+
+add-last-dash : tie.Need-add-last-dash
+add-last-dash c = omega (arith, inside c)
 
 last-dash-requires : tie.Need-last-dash-requires
-last-dash-requires c κs = search needs
+last-dash-requires c κs = omega (arith, inside c)
 
 enum-known-k : tie.Need-enum-known-k
 enum-known-k c = search needs
@@ -32,8 +39,8 @@ enum-known-k c = search needs
 add-from : tie.Need-add-from
 add-from c = omega (arith, near c)
 
-run-end-requires-2 : tie.Need-run-end-requires-2
-run-end-requires-2 c κs = search needs
+run-end-requires : tie.Need-run-end-requires
+run-end-requires c κs = search needs
 
 sub-decimal : tie.Need-sub-decimal
 sub-decimal c = search needs
@@ -42,7 +49,7 @@ part-decimal-start : tie.Need-part-decimal-start
 part-decimal-start c = search needs
 
 part-decimal-end : tie.Need-part-decimal-end
-part-decimal-end c = omega (arith, near (c .before), c .run-end2 .ensures .within)
+part-decimal-end c = omega (arith, near (c .before), c .run-end .ensures .within)
 
 decimal-requires : tie.Need-decimal-requires
 decimal-requires c κs = search needs
@@ -51,23 +58,24 @@ enum-told : tie.Need-enum-told
 enum-told c = search needs
 
 returns : tie.Need-returns
-unfolding inClass firstRun
+unfolding inClass
 returns c =
-    c .decimal .ensures ∙ ap (λ (e : ℕ). numberOf 10 (2 ^ 32 - 1) (take (e - (c .before .before .before .before .k .given .0 .0 + 1)) (drop (c .before .before .before .before .k .given .0 .0 + 1) (c .before .before .before .before .before .before .before .before .before .args .h .now)))) (c .before .before .run-end2 .ensures .is) ∙ pid-some _ (ap (lastPlace _) (sym (c .before .before .before .before .before .before .before .run-end .ensures .is)) ∙ sym (c .before .before .before .before .before .before .last-dash .ensures) ∙ c .before .before .before .before .k .given .1)
+    c .decimal .ensures
+    ∙ ap (λ (e : ℕ). numberOf 10 (2 ^ 32 - 1) (take (e - (c .before .before .before .before .k .given .0 .0 + 1)) (drop (c .before .before .before .before .k .given .0 .0 + 1) (c .before .before .before .before .before .before .before .before .args .h .now)))) (c .before .before .run-end .ensures .is)
+    ∙ pid-some _ (same-dash (c .before .before .before .before .before .before) ∙ c .before .before .before .before .k .given .1)
 
 returns-2 : tie.Need-returns-2
-unfolding firstRun
-returns-2 c = pid-none _ (ap (lastPlace _) (sym (c .before .before .before .run-end .ensures .is)) ∙ sym (c .before .before .last-dash .ensures) ∙ c .enum-told .given .1)
+returns-2 c = pid-none _ (same-dash (c .before .before) ∙ c .enum-told .given .1)
 
 pub parse-pid-spec : {M : Type 1} → statement M
 parse-pid-spec =
     tie.close
     (tie.spec
-    run-end-requires
+    add-last-dash
     last-dash-requires
     enum-known-k
     add-from
-    run-end-requires-2
+    run-end-requires
     sub-decimal
     part-decimal-start
     part-decimal-end

@@ -24,7 +24,7 @@ unfolding headOf placeValue
 returns c = rw (sym (c .before .before .parse-task .ensures) ∙ c .enum-told .given .1)
 
 parse-pid-requires : tie.Need-parse-pid-requires
-parse-pid-requires c κs = search needs
+parse-pid-requires c κs = sym (c .before .before .before .parse-task .ensures) ∙ c .before .task .given .1
 
 enum-known-pid : tie.Need-enum-known-pid
 enum-known-pid c = search needs

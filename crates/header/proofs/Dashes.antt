@@ -1,5 +1,5 @@
 -- Task and pid: both are last dashes of the first run, so their laws are those of last places. Assumes nothing.
-use Prim.Native.Nat.{ℕ, zero, suc, _+_, _-_, _^_, _≤_, _<_}
+use Prim.Native.Nat.{ℕ, suc, _+_, _-_, _^_, _≤_, _<_}
 use mathlib.Core.Path.{_≡_, refl, sym, ap, _∙_}
 use mathlib.Core.Bool.{Bool, true, false, _&&_}
 use mathlib.Core.List.{List}
@@ -13,9 +13,10 @@ use Rattle.text.specs.declared.place.Found.{Found}
 use Rattle.text.specs.declared.place.Found.the-variants.{At, Nothing}
 use Rattle.text.specs.Class.{isDigit, inClass}
 use Rattle.text.specs.Number.{numberOf}
-use Rattle.text.specs.Place.{Free, lastPlace, isAt}
+use Rattle.text.specs.Place.{lastPlace, isAt}
 use Rattle.text.specs.Run.{Run, runEnd}
-use Rattle.text.proofs.Places.{by-order, clash, last-miss, last-is, last-all}
+use Rattle.text.proofs.Blocks.{last-skip}
+use Rattle.text.proofs.Places.{clash, last-is, last-all}
 use Rattle.text.proofs.Runs.{run-is, run-all, run-within}
 use Rattle.text.proofs.Numbers.{number-is, number-all}
 use Rattle.header.specs.Dash.{dashAt, Task, Pid, firstRun, taskOf, digitsBehind, pidOf}
@@ -89,21 +90,14 @@ no-numbered h k e = go (ltb 0 k && isAt 45 h k) refl
     go true t = absurd (clash (rw t refl) e)
     go false t = refl
 
--- places that do not pass are passed over from above
-last-skip : (p : ℕ → Bool) (m n : ℕ) → m ≤ n → Free p m n → lastPlace p n ≡ lastPlace p m
-last-skip p m zero l f = let e : m ≡ 0 = omega arith in rw e
-last-skip p m (suc n) l f =
-    by-order m (suc n) (λ q. last-miss p n (f n (omega arith) (omega arith)) ∙ last-skip p m n (omega arith) (λ k a b. f k a (omega arith)))
-    (λ q. ap (lastPlace p) (sym q))
-    (λ q. absurd (omega arith))
-
 -- behind the task's dash the first run has no dash at all
 pub pid-before-task : (h : List ℕ) {m : ℕ} → taskOf h ≡ At m → lastPlace (dashAt true h) (firstRun h) ≡ lastPlace (dashAt true h) (m + 1)
 unfolding taskOf
 pid-before-task h {m} e =
     let r = last-is (dashAt false h) e in
-    last-skip (dashAt true h) (m + 1) (firstRun h) (omega (arith, r .within))
-    (λ k a b. no-numbered h k (r .after k (omega arith) b))
+    let e : firstRun h - (firstRun h - (m + 1)) ≡ m + 1 = omega (arith, r .within) in
+    last-skip (dashAt true h) (firstRun h - (m + 1)) (omega arith) (λ k a b. no-numbered h k (r .after k (omega (arith, r .within)) b))
+    ∙ ap (lastPlace (dashAt true h)) e
 
 -- the digits behind a dash, as code cuts them
 pub pid-some : (h : List ℕ) {k : ℕ} → lastPlace (dashAt true h) (firstRun h) ≡ At k → numberOf 10 (2 ^ 32 - 1) (take (runEnd isDigit h (k + 1) - (k + 1)) (drop (k + 1) h)) ≡ pidOf h

@@ -1,4 +1,5 @@
 -- The laws of the reading, and that it is the grammar's.
+pub mod Levels
 pub mod Frames
 pub mod Splits
 pub mod Keys

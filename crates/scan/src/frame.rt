@@ -7,6 +7,8 @@ use text::place::Found;
 use text::place::byte_at;
 use text::place::last;
 ghost use mathlib.Core.Path.{_≡_};
+ghost use lib.ListN.{length};
+ghost use Rattle.scan.specs.High.{isNothing, Level};
 ghost use Rattle.scan.specs.Frame.{idle, firstHigh, frameTold, frameOf};
 
 pub enum FrameAnswer {
@@ -24,7 +26,7 @@ pub fn read_frame(line: &[u8]) -> FrameAnswer
     if 4096 < line.len() {
         return FrameAnswer::Refused(LONG_LINE);
     }
-    if let Found::At(_) = first_high(line) {
+    if !none_high(line) {
         return FrameAnswer::Refused(NOT_ASCII);
     }
     match last(line, b':') {
@@ -49,16 +51,33 @@ fn is_idle(line: &[u8]) -> bool
     false
 }
 
-// The first byte of 128 or more.
-fn first_high(line: &[u8]) -> Found
-    ensures { λ r. ⌜ r ≡ firstHigh (now (line .entry)) ⌝ }
+// Is every byte below 128? Whole blocks of 32, and the last 32 bytes once more, so that the compiler has no odd bytes to walk behind a block.
+fn none_high(s: &[u8]) -> bool
+    ensures { λ r. ⌜ r ≡ isNothing (firstHigh (now (s .entry))) ⌝ }
 {
+    let n = s.len();
+    if n < 96 {
+        return max_byte(s) < 128;
+    }
+    let whole = n - n % 32;
+    if 128 <= max_byte(&s[..whole]) {
+        return false;
+    }
+    max_byte(&s[n - 32..]) < 128
+}
+
+// The largest byte: a running maximum, which the compiler makes one for sixteen bytes at a time, as it does no comparison with 128.
+fn max_byte(s: &[u8]) -> u8
+    ensures { λ r. ⌜ Level (now (s .entry)) (length (now (s .entry))) r ⌝ }
+{
+    let mut m: u8 = 0;
     let mut i = 0;
-    while i < line.len() {
-        if 128 <= line[i] {
-            return Found::At(i);
+    while i < s.len() {
+        let b = s[i];
+        if m < b {
+            m = b;
         }
         i += 1;
     }
-    Found::Nothing
+    m
 }

@@ -4,10 +4,10 @@ pub mod Matches
 pub mod PairLists
 pub mod LastPairs
 pub mod Rows
-pub mod Walks
 pub mod Cuts
 pub mod Slots
-pub mod Forms
 pub mod BadPieces
+pub mod Printed
+pub mod Bracketing
 pub mod Pieces
 pub mod Cases

@@ -61,15 +61,15 @@ module _ (s : List ℕ) where
   pub seeking-starts : (from : ℕ) → Seeking from from
   seeking-starts from = record { up = omega arith; same = refl }
 
-  next-ends : {i : ℕ} → length s ≤ i → nextPair s i ≡ Miss
+  pub next-ends : {i : ℕ} → length s ≤ i → nextPair s i ≡ Miss
   unfolding nextPair pairFrom
   next-ends l = rw (place-end hits l)
 
-  next-hits : (i : ℕ) {a m e : ℕ} → i < length s → pairAt s i ≡ Hit a m e → nextPair s i ≡ Hit a m e
+  pub next-hits : (i : ℕ) {a m e : ℕ} → i < length s → pairAt s i ≡ Hit a m e → nextPair s i ≡ Hit a m e
   unfolding nextPair pairFrom
   next-hits i l q = rw (place-hit hits {i = i} {n = length s} l (hit-passes i q)) q
 
-  next-skips : (i e : ℕ) → i ≤ e → ((k : ℕ) → i ≤ k → k < e → pairAt s k ≡ Miss) → nextPair s i ≡ nextPair s e
+  pub next-skips : (i e : ℕ) → i ≤ e → ((k : ℕ) → i ≤ k → k < e → pairAt s k ≡ Miss) → nextPair s i ≡ nextPair s e
   unfolding nextPair
   next-skips i e l f = ap (pairFrom s) (place-skip-to hits i e (length s) l (λ k a b. miss-fails k (f k a b)))
 

@@ -1,7 +1,7 @@
 -- The pairs of a text: each search starts behind the last match, so the list from a place is the next match and the list from its end, and
 -- as each next match is one, so is the list. Assumes nothing.
 use Prim.Native.Nat.{ℕ, zero, suc, _+_, _-_, _≤_}
-use mathlib.Core.Path.{_≡_, refl}
+use mathlib.Core.Path.{_≡_, refl, sym, _∙_}
 use mathlib.Core.List.{List, [], _∷_, _++_}
 use native.Mathlib.Omega.{arith}
 use lib.ListN.{length}
@@ -61,6 +61,14 @@ module _ (s : List ℕ) where
 
   pub pairs-end : (from : ℕ) → nextPair s from ≡ Miss → pairsFrom s from ≡ []
   pairs-end from q = pairs-all (Pairs.none (no-pair-is s q))
+
+  -- the list goes by the next match alone
+  pub pairs-same : (a b : ℕ) → nextPair s a ≡ nextPair s b → pairsFrom s a ≡ pairsFrom s b
+  pairs-same a b q = go (nextPair s b) refl
+    where
+      go : (p : Pair) → nextPair s b ≡ p → pairsFrom s a ≡ pairsFrom s b
+      go (Hit i m e) r = pairs-next a (q ∙ r) ∙ sym (pairs-next b r)
+      go Miss r = pairs-end a (q ∙ r) ∙ sym (pairs-end b r)
 
   -- each pair of the list is one
   pub pairs-each : (l : List Match) {p : Match} (r : List Match) {from : ℕ} → Pairs s from (l ++ (p ∷ r)) →

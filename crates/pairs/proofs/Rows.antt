@@ -7,10 +7,11 @@ use mathlib.Core.List.{List, [], _∷_}
 use native.Mathlib.Omega.{arith}
 use lib.Dec.{eqb}
 use lib.ListN.{length}
-use borrow.Author.Tests.{not-true, eq-eqb, ne-eqb}
+use borrow.Author.Tests.{not-true, eq-eqb, ne-eqb, eqb-true}
 use Rattle.text.specs.Same.{sameText}
 use Rattle.text.proofs.Places.{clash}
-use Rattle.text.proofs.Texts.{both-left, both-right, same-true}
+use Rattle.text.proofs.Texts.{both-left, both-right, same-refl, same-true}
+use Rattle.pairs.specs.declared.keys.Form.{Form}
 use Rattle.pairs.specs.declared.keys.Key.{Key}
 use Rattle.pairs.specs.Table.{Row, keys, rowIn, rowAt, rowTakes, keyAfter, unknown, keyNamed}
 
@@ -141,3 +142,22 @@ module _ (name : List ℕ) where
       go : {after : Key} → Taken name 0 keys unknown after → after .row ≤ length keys
       go (by-none none same) = omega (arith, ap (λ (x : Key). x .row) same)
       go (by-row j l s r f) = omega (arith, r)
+
+  -- a name that is no row's is the one that stands behind the last
+  pub key-none : length keys ≤ keyNamed name .row → keyNamed name ≡ unknown
+  unfolding unknown keyNamed
+  key-none h = go (taken-by name 0 keys unknown) h
+    where
+      go : {after : Key} → Taken name 0 keys unknown after → length keys ≤ after .row → after ≡ unknown
+      go (by-none none same) l = same
+      go (by-row j l s r f) m = absurd (omega (arith, r))
+
+-- a key is its row and its form
+pub key-parts : (key : Key) {row : ℕ} {form : Form} → key .row ≡ row → key .form ≡ form → key ≡ record { row = row; form = form }
+key-parts key a b = rw (← a, ← b)
+
+-- a row's own name is that row
+pub key-own : (k : ℕ) → k < length keys → keyNamed (rowAt k .name) ≡ record { row = k; form = rowAt k .form }
+key-own k h =
+    let own : keyNamed (rowAt k .name) .row ≡ k = eqb-true _ _ (sym (key-same (rowAt k .name) k h) ∙ same-refl (rowAt k .name)) in
+    key-parts _ own (key-form (rowAt k .name) k h own)

@@ -8,8 +8,8 @@ use mathlib.Core.Option.{some}
 use native.Mathlib.Numerals.{add-one}
 use native.Mathlib.Omega.{arith}
 use lib.Dec.{ltb, eqb}
-use lib.ListN.{length, getD, take, drop, set, length-append, length-drop, drop-of-length-le, List·getD-append}
-use lib.Seq.{drop-cons, drop-drop, set-at, take-at, take-suc, take-length, split-at, getD-append-add, getD-take, getD-drop, length-take-le}
+use lib.ListN.{length, getD, take, drop, set, length-append, length-take, length-drop, drop-of-length-le, List·getD-append}
+use lib.Seq.{drop-cons, drop-drop, set-at, take-at, take-suc, take-length, take-all, take-append-seam, split-at, getD-append-add, getD-take, getD-drop, length-take-le}
 use borrow.Author.Tests.{lt-ltb, le-ltb, eq-eqb, ne-eqb, ltb-true, eqb-true}
 use Rattle.text.specs.declared.class.Class.the-variants.{NotClose}
 use Rattle.text.specs.declared.number.Number.{Number}
@@ -25,8 +25,9 @@ use Rattle.pairs.specs.declared.pair.Span.{Span}
 use Rattle.pairs.specs.declared.pair.Span.the-variants.{At, Nothing}
 use Rattle.pairs.specs.declared.dwords.Piece.{Piece}
 use Rattle.pairs.specs.declared.dwords.Piece.the-variants.{Dword, Bad}
+use Rattle.pairs.specs.declared.dwords.Tally.{Tally}
 use Rattle.pairs.specs.Pair.{part}
-use Rattle.pairs.specs.Data.{Dwords, Data, cut, pieceBy, pieceOf, taken, dwordsIn, dwordsOf, pieceEnd, insideOf, dataIn, dataOf, filled, Bracketed}
+use Rattle.pairs.specs.Data.{Dwords, Data, cut, pieceBy, pieceOf, taken, dwordsIn, dwordsOf, pieceEnd, insideOf, dataIn, dataOf, filled, Bracketed, Taken}
 use Rattle.pairs.proofs.Tries.{ends-close}
 use Rattle.pairs.proofs.Cuts.{cut-all, cut-is, cut-last, cut-next}
 
@@ -137,9 +138,9 @@ module _ (l : List ℕ) where
           }
 
 -- the first n dwords in the slots, and one more
-pub filled-more : (ds out : List ℕ) (n v : ℕ) → n < length ds → length ds ≤ length out → getD ds n 0 ≡ v →
+filled-next : (ds out : List ℕ) (n v : ℕ) → n < length ds → n < length out → getD ds n 0 ≡ v →
     set (filled (take n ds) out) n v ≡ filled (take (n + 1) ds) out
-filled-more ds out n v h fits e =
+filled-next ds out n v h fits e =
     let size : length (take n ds) ≡ n = length-take-le n ds (omega arith) in
     let more : length (take (suc n) ds) ≡ suc n = length-take-le (suc n) ds (omega arith) in
     rw (
@@ -148,11 +149,15 @@ filled-more ds out n v h fits e =
       more,
       take-suc ds n 0 h,
       e,
-      drop-cons out n 0 (omega arith),
+      drop-cons out n 0 fits,
       set-at (take n ds) (getD out n 0)
           (drop (suc n) out) v n size,
       append-assoc,
     )
+
+pub filled-more : (ds out : List ℕ) (n v : ℕ) → n < length ds → length ds ≤ length out → getD ds n 0 ≡ v →
+    set (filled (take n ds) out) n v ≡ filled (take (n + 1) ds) out
+filled-more ds out n v h fits e = filled-next ds out n v h (omega arith) e
 
 pub filled-length : (ds out : List ℕ) (n : ℕ) → n ≤ length ds → length ds ≤ length out →
     length (filled (take n ds) out) ≡ length out
@@ -162,6 +167,44 @@ filled-length ds out n h fits =
 
 pub filled-all : (ds out : List ℕ) (n : ℕ) → n ≡ length ds → filled (take n ds) out ≡ filled ds out
 filled-all ds out n e = rw (e, take-length ds)
+
+-- the first dwords are kept, as many as there are of them and of the 256 places
+pub record Kept (ds out : List ℕ) (n : ℕ) (own : List ℕ) : Type 0 where
+  pub few : n ≤ 256 → own ≡ filled (take n ds) out
+  pub many : 256 ≤ n → own ≡ filled (take 256 ds) out
+
+module _ (ds out : List ℕ) where
+  pub kept-starts : Kept ds out 0 out
+  kept-starts = record { few = λ h. refl; many = λ h. absurd (omega arith) }
+
+  pub kept-stored : {n v : ℕ} {own : List ℕ} → Kept ds out n own → n < 256 → length out ≡ 256 → n < length ds → getD ds n 0 ≡ v →
+      Kept ds out (n + 1) (set own n v)
+  kept-stored {n} {v} {own} r h size l e =
+      let more : set own n v ≡ filled (take (n + 1) ds) out = rw (r .few (omega arith)) (filled-next ds out n v l (omega arith) e) in
+      record { few = λ x. more; many = λ x. let last : n + 1 ≡ 256 = omega arith in rw last at more }
+
+  pub kept-passed : {n : ℕ} {own : List ℕ} → Kept ds out n own → 256 ≤ n → Kept ds out (n + 1) own
+  kept-passed r h = record { few = λ x. absurd (omega arith); many = λ x. r .many h }
+
+  pub kept-all : {n : ℕ} {own : List ℕ} → Kept ds out n own → n ≡ length ds → own ≡ filled (take 256 ds) out
+  kept-all {n} {own} r e = by-order n 256 (λ h. short (omega arith)) (λ h. short (omega arith)) (λ h. r .many (omega arith))
+    where
+      short : n ≤ 256 → own ≡ filled (take 256 ds) out
+      short h = r .few h ∙ ap (λ (l : List ℕ). filled l out) (take-all n ds (omega arith) ∙ sym (take-all 256 ds (omega arith)))
+
+-- where all that were taken are kept, they stand from the first place on
+module _ {inner own exit : List ℕ} {r : Tally} (t : Taken inner own exit r) (all : r .dwords ≤ 256) where
+  pub taken-front : take (r .dwords) exit ≡ dwordsOf inner
+  taken-front =
+      let n = t .tally .dwords-are in
+      let whole : take 256 (dwordsOf inner) ≡ dwordsOf inner = take-all 256 (dwordsOf inner) (omega arith) in
+      rw (t .kept, whole, n) (take-append-seam (dwordsOf inner) (drop (length (dwordsOf inner)) own))
+
+  pub taken-count : r .dwords ≡ length (take (r .dwords) exit)
+  taken-count = t .tally .dwords-are ∙ sym (ap length taken-front)
+
+  pub taken-fits : r .dwords ≤ length exit
+  taken-fits = omega (arith, taken-count, length-take (r .dwords) exit)
 
 -- the dwords of the pieces are the sentence's
 pub dwords-in-is : (ps : List (List ℕ)) → Dwords ps (dwordsIn ps)

@@ -20,12 +20,12 @@ use Rattle.pairs.specs.declared.pair.Pair.the-variants.{Hit, Miss}
 use Rattle.pairs.specs.Pair.{Value, PairAt, bracketEnd, valueEnd, withValue, pairWith, pairAt}
 
 -- brackets are no word
-bracket-is-no-word : isWord 91 ≡ false
+pub bracket-is-no-word : isWord 91 ≡ false
 unfolding isWord isLetter isDigit between
 bracket-is-no-word = refl
 
 -- the one byte that is not other than `]`
-close-ends : {b : ℕ} → b ≡ 93 → inClass NotClose b ≡ false
+pub close-ends : {b : ℕ} → b ≡ 93 → inClass NotClose b ≡ false
 unfolding inClass
 close-ends e = rw e
 

@@ -5,7 +5,7 @@ use mathlib.Core.Bool.{Bool, true, false, cond, _&&_, _||_}
 use mathlib.Core.List.{List, [], _∷_, _++_}
 use mathlib.Core.Option.{Option, some, none}
 use lib.Dec.{ltb, eqb}
-use lib.ListN.{length, getD, drop}
+use lib.ListN.{length, getD, take, drop}
 use Rattle.text.specs.declared.class.Class.the-variants.{NotClose}
 use Rattle.text.specs.declared.number.Number.{Number}
 use Rattle.text.specs.declared.number.Number.the-variants as N
@@ -17,6 +17,7 @@ use Rattle.pairs.specs.declared.pair.Span.{Span}
 use Rattle.pairs.specs.declared.pair.Span.the-variants.{At, Nothing}
 use Rattle.pairs.specs.declared.dwords.Piece.{Piece}
 use Rattle.pairs.specs.declared.dwords.Piece.the-variants.{Dword, Bad}
+use Rattle.pairs.specs.declared.dwords.NextPiece.{NextPiece}
 use Rattle.pairs.specs.declared.dwords.Tally.{Tally}
 use Rattle.pairs.specs.Pair.{part}
 
@@ -182,3 +183,17 @@ pub record NthPiece (l : List ℕ) (i : ℕ) (r : Span) : Type 0 where
 pub record Tallied (inner : List ℕ) (r : Tally) : Type 0 where
   pub dwords-are : r .dwords ≡ length (dwordsOf inner)
   pub bad-is : r .bad ≡ badOf inner
+
+-- the piece that a number stands for: a dword, and bad for every number past 32 bits
+unfoldable pub pieceFor : ℕ → Piece
+pieceFor d = cond (ltb d (2 ^ 32)) (Dword d) Bad
+
+-- an answer is the piece from a place on: its end, and the number that stands for it
+pub record PieceHere (l : List ℕ) (from : ℕ) (r : NextPiece) : Type 0 where
+  pub ends : EndsPiece l from (r .end)
+  pub is : pieceOf (part l from (r .end)) ≡ pieceFor (r .dword)
+
+-- an answer tallies the pieces; their dwords stand from the first place on, as many as there are places, and the other places are as found
+pub record Taken (inner own exit : List ℕ) (r : Tally) : Type 0 where
+  pub tally : Tallied inner r
+  pub kept : exit ≡ filled (take 256 (dwordsOf inner)) own

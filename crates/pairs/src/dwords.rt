@@ -1,21 +1,32 @@
 // The dwords of a bracketed value.
 use crate::pair::Span;
-use text::class::Class;
 use text::number::MAX_32;
 use text::number::Number;
 use text::number::hex;
 use text::number::value_of;
 use text::place::byte_at;
-use text::run::run_end;
+use text::run::until;
+use text::table::wide;
+use text::word::one;
+use text::word::two;
 ghost use mathlib.Core.Path.{_≡_};
-ghost use Prim.Native.Nat.{_≤_};
-ghost use lib.ListN.{length};
-ghost use Rattle.pairs.specs.Data.{Bracketed, commaSpace, EndsPiece, dwordsOf, pieceOf, filled, Tallied, NthPiece};
+ghost use Prim.Native.Nat.{_+_, _≤_, _<_};
+ghost use lib.ListN.{length, take, drop};
+ghost use Rattle.text.specs.Number.{numberOf};
+ghost use Rattle.text.specs.declared.number.Number.the-variants as N;
+ghost use Rattle.text.specs.Table.{table};
+ghost use Rattle.pairs.specs.Data.{Bracketed, commaSpace, EndsPiece, pieceOf, pieceFor, PieceHere, Taken, NthPiece};
 
 // What a piece is: a dword, or bad, that is not 32-bit hex.
 pub enum Piece {
     Dword(u32),
     Bad,
+}
+
+// A piece by its end and its dword, which is `OTHER` for a bad one.
+pub struct NextPiece {
+    pub end: usize,
+    pub dword: u64,
 }
 
 // How many dwords the pieces are, and whether one of the pieces is bad.
@@ -31,7 +42,7 @@ pub fn inside(value: &[u8]) -> Span
     if byte_at(value, 0) != b'[' {
         return Span::Nothing;
     }
-    let c = run_end(value, Class::NotClose, 1);
+    let c = until(value, b']', 1);
     if c == 1 {
         return Span::Nothing;
     }
@@ -44,47 +55,110 @@ pub fn inside(value: &[u8]) -> Span
     Span::At { from: 1, to: c }
 }
 
-// What the pieces between the brackets are, counted in one walk.
-pub fn count_pieces(inner: &[u8]) -> Tally
-    ensures { λ r. ⌜ Tallied (now (inner .entry)) r ⌝ }
+// The dwords that the pieces between the brackets are, from the first place on; those past the last place are counted and not kept. A bad piece adds
+// none.
+pub fn take_dwords(inner: &[u8], t: &[u8; 256], own: &mut [u32; 256]) -> Tally
+    requires { ⌜ (now t ≡ table) × (length (now own) ≡ 256) ⌝ }
+    ensures { λ r. ⌜ Taken (now (inner .entry)) (now (own .entry)) (now (own .exit)) r ⌝ }
 {
     let mut n = 0;
     let mut bad = false;
     let mut at = 0;
     loop {
-        let to = piece_end(inner, at);
-        match read_piece(&inner[at..to]) {
-            Piece::Dword(_) => n += 1,
-            Piece::Bad => bad = true,
+        let piece = piece_at(inner, t, at);
+        if piece.dword < OTHER {
+            if n < 256 {
+                own[n] = piece.dword as u32;
+            }
+            n += 1;
+        } else {
+            bad = true;
         }
-        if to == inner.len() {
+        if piece.end == inner.len() {
             return Tally {
                 dwords: n,
                 bad: bad,
             };
         }
-        at = to + 2;
+        at = piece.end + 2;
     }
 }
 
-// Writes the dwords from the first slot on; a bad piece adds none. Asked for: a slot for each, which the one caller counted (17).
-pub fn write_dwords(inner: &[u8], out: &mut [u32])
-    requires { ⌜ length (dwordsOf (now inner)) ≤ length (now out) ⌝ }
-    ensures { λ r. ⌜ now (out .exit) ≡ filled (dwordsOf (now (inner .entry))) (now (out .entry)) ⌝ }
+// The piece from a place on. One as the kernel prints it is read by its places; any other is looked at again from its start.
+fn piece_at(inner: &[u8], t: &[u8; 256], at: usize) -> NextPiece
+    requires { ⌜ (now t ≡ table) × (at ≤ length (now inner)) ⌝ }
+    ensures { λ r. ⌜ PieceHere (now (inner .entry)) at r ⌝ }
 {
-    let mut n = 0;
-    let mut at = 0;
-    loop {
-        let to = piece_end(inner, at);
-        if let Piece::Dword(v) = read_piece(&inner[at..to]) {
-            out[n] = v;
-            n += 1;
-        }
-        if to == inner.len() {
-            return;
-        }
-        at = to + 2;
+    let v = printed(inner, t, at);
+    if v < OTHER {
+        return NextPiece {
+            end: at + 10,
+            dword: v,
+        };
     }
+    let to = piece_end(inner, at);
+    NextPiece {
+        end: to,
+        dword: dword_of(read_piece(&inner[at..to])),
+    }
+}
+
+fn dword_of(piece: Piece) -> u64
+    ensures { λ r. ⌜ piece ≡ pieceFor r ⌝ }
+{
+    match piece {
+        Piece::Dword(v) => v as u64,
+        Piece::Bad => OTHER,
+    }
+}
+
+// Stands where there is no dword.
+pub const OTHER: u64 = 0x1_0000_0000;
+
+// `0x` and `, ` as numbers.
+const PREFIX: u64 = 0x7830;
+
+const COMMA_SPACE: u64 = 0x202c;
+
+// A piece as the kernel prints it: `0x` and eight digits.
+fn printed(s: &[u8], t: &[u8; 256], at: usize) -> u64
+    requires { ⌜ (now t ≡ table) × (at ≤ length (now s)) ⌝ }
+    ensures { λ r. ⌜ (r < 4294967296 → PieceHere (now (s .entry)) at (record { end = at + 10; dword = r })) ⌝ }
+{
+    if s.len() < at + 10 {
+        return OTHER;
+    }
+    if two(s, at) != PREFIX {
+        return OTHER;
+    }
+    if s.len() != at + 10 {
+        if s.len() < at + 12 {
+            return OTHER;
+        }
+        if two(s, at + 10) != COMMA_SPACE {
+            return OTHER;
+        }
+    }
+    eight_digits(s, t, at + 2)
+}
+
+// The number of eight hex digits: an entry that is no digit's is 128 or more, and so is the sum then.
+fn eight_digits(s: &[u8], t: &[u8; 256], at: usize) -> u64
+    requires { ⌜ (now t ≡ table) × (at + 8 ≤ length (now s)) ⌝ }
+    ensures { λ r. ⌜ (r < 4294967296 → numberOf 16 4294967295 (take 8 (drop at (now (s .entry)))) ≡ N.Value r) ⌝ }
+{
+    let mut v: u64 = 0;
+    let mut sum: u64 = 0;
+    for k in 0..8 {
+        let j = wide(s[at + k]);
+        let d = one(t[j]);
+        v = v * 16 + d;
+        sum += d;
+    }
+    if 128 <= sum {
+        return OTHER;
+    }
+    v
 }
 
 // The piece of that number, from 0.

@@ -1,5 +1,4 @@
-// The pairs of a payload, the last pair of each key, and the dwords of a bracketed value.
+// The pairs of a payload, the table of its keys, the last pair of a key, and the dwords of a bracketed value.
 pub mod dwords;
 pub mod keys;
-pub mod last;
 pub mod pair;

@@ -2,8 +2,9 @@
 use text::class::Class;
 use text::place::Found;
 use text::place::byte_at;
+use text::run::behind_last;
 use text::run::run_end;
-use text::run::run_start;
+use text::run::until;
 use text::same::same;
 ghost use mathlib.Core.Path.{_≡_};
 ghost use Prim.Native.Nat.{_+_, _≤_};
@@ -33,7 +34,7 @@ pub enum Span {
 pub fn last_pair(s: &[u8], key: &[u8]) -> Span
     ensures { λ r. ⌜ ValueAt (now (s .entry)) (now (key .entry)) r ⌝ }
 {
-    let tail = run_start(s, Class::NotClose);
+    let tail = behind_last(s, b']');
     let mut best = Span::Nothing;
     let mut at = 0;
     loop {
@@ -113,13 +114,13 @@ fn value_end(s: &[u8], v: usize, tail: usize) -> Found
 }
 
 // `[`, one or more bytes other than `]`, `]`.
-fn bracket_end(s: &[u8], v: usize) -> Found
+pub fn bracket_end(s: &[u8], v: usize) -> Found
     ensures { λ r. ⌜ r ≡ bracketEnd (now (s .entry)) v ⌝ }
 {
     if byte_at(s, v) != b'[' {
         return Found::Nothing;
     }
-    let c = run_end(s, Class::NotClose, v + 1);
+    let c = until(s, b']', v + 1);
     if c == v + 1 {
         return Found::Nothing;
     }

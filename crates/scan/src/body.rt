@@ -15,17 +15,15 @@ use pairs::keys::SEQ;
 use pairs::keys::SIZE;
 use pairs::keys::TYPE;
 use pairs::keys::UNPLUG;
-use pairs::last::Last;
-use pairs::last::number_in;
 use refusal::NO_DOMAIN;
 use refusal::NO_ROUTE;
 use refusal::NO_SIZE;
 use refusal::NO_TYPE;
-use text::number::Number;
 ghost use mathlib.Core.Path.{_≡_};
-ghost use Prim.Native.Nat.{_^_, _-_};
+ghost use Prim.Native.Nat.{ℕ, _^_, _-_, _≤_, _<_};
+ghost use mathlib.Core.List.{List};
 ghost use Rattle.text.specs.Number.{numberValue};
-ghost use Rattle.pairs.specs.Table.{Within, AtMost, LastPairs, numberIn};
+ghost use Rattle.walk.specs.Kept.{LastKept, saidBy};
 ghost use Rattle.scan.specs.Body.{asByte, asWord, isOne, optionalsOf, bodyTold, bodyOf};
 
 pub struct Optionals {
@@ -52,27 +50,36 @@ pub enum BodyAnswer {
     Refused(u8),
 }
 
-// The kind goes by the type and the header's function. Asked for: the last pair of each key.
-pub fn read_body(p: &[u8], function: &[u8], lasts: [Last; ROWS]) -> BodyAnswer
-    requires { ⌜ LastPairs (now p) lasts ⌝ }
+// The kind goes by the type and the header's function. Asked for: what the walk keeps of each key.
+pub fn read_body(
+    p: &[u8],
+    function: &[u8],
+    values: &[u64; ROWS],
+    ends: &[usize; ROWS],
+) -> BodyAnswer
+    requires { ⌜ LastKept (now p) (now values) (now ends) ⌝ }
     ensures { λ r. ⌜ bodyTold r ≡ bodyOf (now (p .entry)) (now (function .entry)) ⌝ }
 {
-    let last = lasts[TYPE];
-    let Last::At { from, to, form: _ } = last else {
+    if ends[TYPE] == 0 {
         return BodyAnswer::Refused(NO_TYPE);
-    };
+    }
+    let from = values[TYPE] as usize;
+    let to = ends[TYPE];
     let kind = kind_of(&p[from..to], function);
-    let Number::Value(size) = number_in(p, lasts[SIZE]) else {
+    if ends[SIZE] == 0 {
         return BodyAnswer::Refused(NO_SIZE);
-    };
-    let Number::Value(domain) = number_in(p, lasts[DOMAIN]) else {
+    }
+    let size = values[SIZE];
+    if ends[DOMAIN] == 0 {
         return BodyAnswer::Refused(NO_DOMAIN);
-    };
-    let Number::Value(route) = number_in(p, lasts[ROUTE]) else {
+    }
+    let domain = values[DOMAIN];
+    if ends[ROUTE] == 0 {
         return BodyAnswer::Refused(NO_ROUTE);
-    };
-    let dropped = is_one(p, lasts[DROPPED]);
-    let optionals = read_optionals(p, lasts);
+    }
+    let route = values[ROUTE];
+    let dropped = is_one(values[DROPPED], ends[DROPPED]);
+    let optionals = read_optionals(values, ends);
     BodyAnswer::Got(Body {
         kind: kind,
         size: size as u16,
@@ -84,27 +91,26 @@ pub fn read_body(p: &[u8], function: &[u8], lasts: [Last; ROWS]) -> BodyAnswer
 }
 
 // True if it reads as 1, else false.
-fn is_one(p: &[u8], last: Last) -> bool
-    requires { ⌜ Within (now p) last ⌝ }
-    ensures { λ r. ⌜ r ≡ isOne (numberIn (now (p .entry)) last) ⌝ }
+fn is_one(value: u64, end: usize) -> bool
+    ensures { λ r. ⌜ r ≡ isOne (saidBy value end) ⌝ }
 {
-    match number_in(p, last) {
-        Number::Value(v) => v == 1,
-        Number::Unreadable => false,
+    if end == 0 {
+        return false;
     }
+    value == 1
 }
 
-fn read_optionals(p: &[u8], lasts: [Last; ROWS]) -> Optionals
-    requires { ⌜ LastPairs (now p) lasts ⌝ }
-    ensures { λ r. ⌜ r ≡ optionalsOf (now (p .entry)) ⌝ }
+fn read_optionals(values: &[u64; ROWS], ends: &[usize; ROWS]) -> Optionals
+    requires { ⌜ ((p : List ℕ) × LastKept p (now values) (now ends)) ⌝ }
+    ensures { λ r. ⌜ ((p : List ℕ) → LastKept p (now (values .entry)) (now (ends .entry)) → r ≡ optionalsOf p) ⌝ }
 {
-    let offset = word_in(p, lasts[OFFSET]);
-    let code = byte_in(p, lasts[ERROR]);
-    let len = word_in(p, lasts[LEN]);
-    let port = byte_in(p, lasts[PORT]);
-    let config = byte_in(p, lasts[CONFIG]);
-    let seq = byte_in(p, lasts[SEQ]);
-    let unplug = byte_in(p, lasts[UNPLUG]);
+    let offset = word_in(values[OFFSET], ends[OFFSET]);
+    let code = byte_in(values[ERROR], ends[ERROR]);
+    let len = word_in(values[LEN], ends[LEN]);
+    let port = byte_in(values[PORT], ends[PORT]);
+    let config = byte_in(values[CONFIG], ends[CONFIG]);
+    let seq = byte_in(values[SEQ], ends[SEQ]);
+    let unplug = byte_in(values[UNPLUG], ends[UNPLUG]);
     Optionals {
         offset: offset,
         code: code,
@@ -116,23 +122,23 @@ fn read_optionals(p: &[u8], lasts: [Last; ROWS]) -> Optionals
     }
 }
 
-// Asked for by this and the next: a value within the text that says no wider number.
-fn byte_in(p: &[u8], last: Last) -> MaybeByte
-    requires { ⌜ Within (now p) last × AtMost (2 ^ 8 - 1) (now p) last ⌝ }
-    ensures { λ r. ⌜ r ≡ asByte (numberValue (numberIn (now (p .entry)) last)) ⌝ }
+// Asked for by this and the next: no wider number.
+fn byte_in(value: u64, end: usize) -> MaybeByte
+    requires { ⌜ (0 < end → value ≤ 2 ^ 8 - 1) ⌝ }
+    ensures { λ r. ⌜ r ≡ asByte (numberValue (saidBy value end)) ⌝ }
 {
-    match number_in(p, last) {
-        Number::Value(v) => MaybeByte::Is(v as u8),
-        Number::Unreadable => MaybeByte::Absent,
+    if end == 0 {
+        return MaybeByte::Absent;
     }
+    MaybeByte::Is(value as u8)
 }
 
-fn word_in(p: &[u8], last: Last) -> MaybeWord
-    requires { ⌜ Within (now p) last × AtMost (2 ^ 16 - 1) (now p) last ⌝ }
-    ensures { λ r. ⌜ r ≡ asWord (numberValue (numberIn (now (p .entry)) last)) ⌝ }
+fn word_in(value: u64, end: usize) -> MaybeWord
+    requires { ⌜ (0 < end → value ≤ 2 ^ 16 - 1) ⌝ }
+    ensures { λ r. ⌜ r ≡ asWord (numberValue (saidBy value end)) ⌝ }
 {
-    match number_in(p, last) {
-        Number::Value(v) => MaybeWord::Is(v as u16),
-        Number::Unreadable => MaybeWord::Absent,
+    if end == 0 {
+        return MaybeWord::Absent;
     }
+    MaybeWord::Is(value as u16)
 }

@@ -1,18 +1,18 @@
 // A payload's dwords into the lent slots: numbers 15, 18, 16 and 17.
 use crate::Pieces;
-use pairs::dwords::count_pieces;
-use pairs::dwords::inside;
-use pairs::dwords::write_dwords;
-use pairs::last::Last;
-use pairs::pair::Span;
+use pairs::dwords::take_dwords;
 use refusal::BAD_PIECE;
 use refusal::FEW_SLOTS;
 use refusal::MANY_DWORDS;
 use refusal::NO_DATA;
 ghost use mathlib.Core.Path.{_≡_};
+ghost use Prim.Native.Nat.{_≤_, _<_};
+ghost use lib.ListN.{length};
 ghost use Rattle.text.specs.Quote.{bytes};
-ghost use Rattle.pairs.specs.declared.keys.Form.the-variants.{Dwords};
-ghost use Rattle.pairs.specs.Table.{must, LastAt};
+ghost use Rattle.text.specs.Table.{table};
+ghost use Rattle.pairs.specs.declared.pair.Span.the-variants.{At, Nothing};
+ghost use Rattle.pairs.specs.Pair.{lastPair};
+ghost use Rattle.pairs.specs.Data.{filled};
 ghost use Rattle.scan.specs.Dwords.{refuses, DataRead};
 
 pub enum DataAnswer {
@@ -20,35 +20,52 @@ pub enum DataAnswer {
     Refused(u8),
 }
 
-// All is judged before the first dword is written. Asked for: the last pair of `data`.
-pub fn read_data(p: &[u8], last: Last, pieces: Pieces, slots: &mut [u32]) -> DataAnswer
-    requires { ⌜ LastAt (now p) (must (bytes "data") Dwords) last ⌝ }
+// All is judged before the first slot is written. Asked for: the places of the last pair of `data`, with an end of 0 where there is none.
+pub fn read_data(
+    p: &[u8],
+    t: &[u8; 256],
+    from: usize,
+    end: usize,
+    pieces: Pieces,
+    slots: &mut [u32],
+) -> DataAnswer
+    requires { ⌜ (now t ≡ table)
+        × (end ≡ 0 → lastPair (now p) (bytes "data") ≡ Nothing)
+        × (0 < end → lastPair (now p) (bytes "data") ≡ At from end) ⌝ }
     ensures { λ r. ⌜ DataRead pieces (now (p .entry)) (now (slots .entry)) (now (slots .exit)) r ⌝ }
 {
-    let Last::At { from, to, form: _ } = last else {
+    if end == 0 {
         return DataAnswer::Refused(NO_DATA);
-    };
-    let value = &p[from..to];
-    let Span::At {
-        from: first,
-        to: end,
-    } = inside(value)
-    else {
+    }
+    if p[from] != b'[' {
         return DataAnswer::Refused(NO_DATA);
-    };
-    let inner = &value[first..end];
-    let tally = count_pieces(inner);
+    }
+    let mut own = [0u32; 256];
+    let tally = take_dwords(&p[from + 1..end - 1], t, &mut own);
     if refuse_bad(pieces, tally.bad) {
         return DataAnswer::Refused(BAD_PIECE);
     }
-    if 256 < tally.dwords {
+    let n = tally.dwords;
+    if 256 < n {
         return DataAnswer::Refused(MANY_DWORDS);
     }
-    if slots.len() < tally.dwords {
+    if slots.len() < n {
         return DataAnswer::Refused(FEW_SLOTS);
     }
-    write_dwords(inner, slots);
-    DataAnswer::Got(tally.dwords)
+    copy(&own[..n], slots);
+    DataAnswer::Got(n)
+}
+
+// Into the first slots. Asked for: a slot for each.
+fn copy(from: &[u32], to: &mut [u32])
+    requires { ⌜ length (now from) ≤ length (now to) ⌝ }
+    ensures { λ _. ⌜ now (to .exit) ≡ filled (now (from .entry)) (now (to .entry)) ⌝ }
+{
+    let mut i = 0;
+    while i < from.len() {
+        to[i] = from[i];
+        i += 1;
+    }
 }
 
 // Is a line refused, by whether a piece of its data is bad?

@@ -16,13 +16,15 @@ use crate::head::HeadAnswer;
 use crate::head::read_head;
 use entry::Entry;
 use pairs::keys::DATA;
-use pairs::last::last_pairs;
+use pairs::keys::ROWS;
 use text::class::Class;
 use text::run::run_end;
 use text::run::strip;
+use walk::last::last_pairs;
 ghost use mathlib.Core.Path.{_≡_};
 ghost use Prim.Native.Nat.{_+_, _^_, _≤_, _<_};
 ghost use lib.ListN.{length};
+ghost use Rattle.text.specs.Table.{table};
 ghost use Rattle.scan.specs.Parse.{Parsed, PartedRead, PayloadRead, entryOf};
 
 pub enum Answer {
@@ -65,7 +67,7 @@ fn parse_parted(line: &[u8], colon: usize, pieces: Pieces, slots: &mut [u32]) ->
     }
 }
 
-// Then the payload, and what both say together.
+// Then the payload. The table of byte classes is made here, once a line, and lent to all that read the payload.
 fn parse_payload(
     header: &[u8],
     start: usize,
@@ -77,19 +79,42 @@ fn parse_payload(
     requires { ⌜ (head .function ≤ length (now header)) × (start + length (now header) < 2 ^ 64) ⌝ }
     ensures { λ r. ⌜ PayloadRead pieces (now (header .entry)) start head (now (payload .entry)) (now (slots .entry)) (now (slots .exit)) r ⌝ }
 {
+    let t =
+        b"\xfc\xfc\xfc\xfc\xfc\xfc\xfc\xfc\xfc\xfe\xfe\xfe\xfe\xfe\xfc\xfc\xfc\xfc\xfc\xfc\xfc\xfc\xfc\xfc\xfc\xfc\xfc\xfc\xfc\xfc\xfc\xfc\xfe\xfc\xfc\xfc\xfc\xfc\xfc\xfc\xfc\xfc\xfc\xfc\xfc\xfc\xfc\xfc\x00\x01\x02\x03\x04\x05\x06\x07\x08\x09\xfc\xfc\xfc\xfc\xfc\xfc\xfc\x0a\x0b\x0c\x0d\x0e\x0f\x80\x80\x80\x80\x80\x80\x80\x80\x80\x80\x80\x80\x80\x80\x80\x80\x80\x80\x80\x80\xfd\xfc\xfc\xfc\x80\xfc\x0a\x0b\x0c\x0d\x0e\x0f\x80\x80\x80\x80\x80\x80\x80\x80\x80\x80\x80\x80\x80\x80\x80\x80\x80\x80\x80\x80\xfc\xfc\xfc\xfc\xfc\xfc\xfc\xfc\xfc\xfc\xfc\xfc\xfc\xfc\xfc\xfc\xfc\xfc\xfc\xfc\xfc\xfc\xfc\xfc\xfc\xfc\xfc\xfc\xfc\xfc\xfc\xfc\xfc\xfc\xfc\xfc\xfc\xfc\xfc\xfc\xfc\xfc\xfc\xfc\xfc\xfc\xfc\xfc\xfc\xfc\xfc\xfc\xfc\xfc\xfc\xfc\xfc\xfc\xfc\xfc\xfc\xfc\xfc\xfc\xfc\xfc\xfc\xfc\xfc\xfc\xfc\xfc\xfc\xfc\xfc\xfc\xfc\xfc\xfc\xfc\xfc\xfc\xfc\xfc\xfc\xfc\xfc\xfc\xfc\xfc\xfc\xfc\xfc\xfc\xfc\xfc\xfc\xfc\xfc\xfc\xfc\xfc\xfc\xfc\xfc\xfc\xfc\xfc\xfc\xfc\xfc\xfc\xfc\xfc\xfc\xfc\xfc\xfc\xfc\xfc\xfc\xfc\xfc\xfc\xfc\xfc\xfc\xfc\xfc\xfc\xfc\xfc\xfc";
+    read_payload(header, start, head, payload, t, pieces, slots)
+}
+
+// What the payload says, and what both say together.
+fn read_payload(
+    header: &[u8],
+    start: usize,
+    head: Head,
+    payload: &[u8],
+    t: &[u8; 256],
+    pieces: Pieces,
+    slots: &mut [u32],
+) -> Answer
+    requires { ⌜ (head .function ≤ length (now header)) × (start + length (now header) < 2 ^ 64) × (now t ≡ table) ⌝ }
+    ensures { λ r. ⌜ PayloadRead pieces (now (header .entry)) start head (now (payload .entry)) (now (slots .entry)) (now (slots .exit)) r ⌝ }
+{
     let from = head.function;
-    let lasts = last_pairs(payload);
-    match read_body(payload, &header[from..], lasts) {
-        BodyAnswer::Got(body) => match read_data(payload, lasts[DATA], pieces, slots) {
-            DataAnswer::Got(dwords) => Answer::Entry(assemble(
-                start,
-                header.len(),
-                head,
-                body,
-                dwords,
-            )),
-            DataAnswer::Refused(number) => Answer::Refused(number),
-        },
+    let mut values = [0u64; ROWS];
+    let mut ends = [0usize; ROWS];
+    last_pairs(payload, t, &mut values, &mut ends);
+    match read_body(payload, &header[from..], &values, &ends) {
+        BodyAnswer::Got(body) => {
+            let at = values[DATA] as usize;
+            match read_data(payload, t, at, ends[DATA], pieces, slots) {
+                DataAnswer::Got(dwords) => Answer::Entry(assemble(
+                    start,
+                    header.len(),
+                    head,
+                    body,
+                    dwords,
+                )),
+                DataAnswer::Refused(number) => Answer::Refused(number),
+            }
+        }
         BodyAnswer::Refused(number) => Answer::Refused(number),
     }
 }

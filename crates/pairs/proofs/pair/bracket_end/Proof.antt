@@ -2,6 +2,7 @@
 use mathlib.Core.Path.{sym, _∙_}
 use Rattle.text.proofs.Places.{stands-within}
 use Rattle.pairs.proofs.Tries.{no-bracket, bracket-empty, bracket-unclosed, bracket-closed}
+use Rattle.text.specs.Class.{inClass}
 use native.Mathlib.Omega.{arith}
 use borrow.Author.Needs.{needs}
 use Rattle.pairs.proofs.pair.bracket_end.Statement.{statement}
@@ -13,16 +14,16 @@ byte-at-requires c κs = search needs
 returns : tie.Need-returns
 returns c = sym (no-bracket _ _ (λ e. c .if1 .taken (c .before .byte-at .ensures ∙ e)))
 
-add-run-end : tie.Need-add-run-end
-add-run-end c =
+add-until : tie.Need-add-until
+add-until c =
     omega (
       arith,
       stands-within (c .before .before .before .args .s .now) (c .before .before .before .args .v)
           (λ e. absurd (omega (arith, c .before .byte-at .ensures, c .if1 .left))),
     )
 
-run-end-requires : tie.Need-run-end-requires
-run-end-requires c κs = search needs
+until-requires : tie.Need-until-requires
+until-requires c κs = search needs
 
 add-if2 : tie.Need-add-if2
 add-if2 c =
@@ -34,27 +35,30 @@ add-if2 c =
     )
 
 returns-2 : tie.Need-returns-2
+unfolding inClass
 returns-2 c =
     sym
-    (bracket-empty _ _ (c .before .run-end .result) (c .before .run-end .ensures .is)
+    (bracket-empty _ _ (c .before .until .result) (c .before .until .ensures .is)
     (sym (c .before .before .before .byte-at .ensures) ∙ c .before .before .if1 .left) (omega (arith, c .if2 .taken)))
 
 returns-3 : tie.Need-returns-3
+unfolding inClass
 returns-3 c =
     sym
-    (bracket-unclosed _ _ (c .before .before .run-end .result) (c .before .before .run-end .ensures .is)
+    (bracket-unclosed _ _ (c .before .before .until .result) (c .before .before .until .ensures .is)
     (sym (c .before .before .before .before .byte-at .ensures) ∙ c .before .before .before .if1 .left)
-    (omega (arith, c .before .if2 .left, c .before .before .run-end .ensures .up)) (c .if3 .taken))
+    (omega (arith, c .before .if2 .left, c .before .before .until .ensures .up)) (c .if3 .taken))
 
-add-t7 : tie.Need-add-t7
-add-t7 c = search needs
+add-t6 : tie.Need-add-t6
+add-t6 c = search needs
 
 returns-4 : tie.Need-returns-4
+unfolding inClass
 returns-4 c =
     sym
-    (bracket-closed _ _ (c .before .before .run-end .result) (c .before .before .run-end .ensures .is)
+    (bracket-closed _ _ (c .before .before .until .result) (c .before .before .until .ensures .is)
     (sym (c .before .before .before .before .byte-at .ensures) ∙ c .before .before .before .if1 .left)
-    (omega (arith, c .before .if2 .left, c .before .before .run-end .ensures .up)) (c .if3 .left))
+    (omega (arith, c .before .if2 .left, c .before .before .until .ensures .up)) (c .if3 .left))
 
 pub bracket-end-spec : {M : Type 1} → statement M
 bracket-end-spec =
@@ -62,10 +66,10 @@ bracket-end-spec =
     (tie.spec
     byte-at-requires
     returns
-    add-run-end
-    run-end-requires
+    add-until
+    until-requires
     add-if2
     returns-2
     returns-3
-    add-t7
+    add-t6
     returns-4)

@@ -5,6 +5,7 @@ use lib.ListN.{length}
 use Rattle.pairs.specs.Pair.{pairsFrom, lastIn, lastPair}
 use Rattle.pairs.proofs.LastPairs.{last-takes, last-passes, last-end, value-at}
 use borrow.Author.Needs.{needs}
+use Rattle.text.specs.Class.{inClass}
 use native.Mathlib.Omega.{arith}
 use Rattle.pairs.proofs.pair.last_pair.Statement.{statement}
 use Rattle.pairs.proofs.pair.last_pair.Tie as tie
@@ -15,14 +16,15 @@ Inv-loop s key tail best₀ at₀ best at = lastPair s key ≡ lastIn s key best
 abbrev μ-loop : tie.MeasureT-loop
 μ-loop s key tail best₀ at₀ best at = length s - at
 
-run-start-requires : tie.Need-run-start-requires Inv-loop μ-loop
-run-start-requires c κs = search needs
+behind-last-requires : tie.Need-behind-last-requires Inv-loop μ-loop
+behind-last-requires c κs = search needs
 
 loop-holds : tie.Need-loop-holds Inv-loop μ-loop
 unfolding lastPair
 loop-holds c = refl
 
 next-before-requires : tie.Need-next-before-requires Inv-loop μ-loop
+unfolding inClass
 next-before-requires c κs = search needs
 
 enum-known-i : tie.Need-enum-known-i Inv-loop μ-loop
@@ -40,8 +42,8 @@ part-same-end c = omega (arith, c .before .before .before .next-before .ensures 
 same-requires : tie.Need-same-requires Inv-loop μ-loop
 same-requires c κs = search needs
 
-add-t16 : tie.Need-add-t16 Inv-loop μ-loop
-add-t16 c =
+add-t15 : tie.Need-add-t15 Inv-loop μ-loop
+add-t15 c =
     omega (
       arith,
       c .before .before .before .before .before .before .next-before .ensures .rise _ _ _
@@ -93,7 +95,7 @@ last-pair-spec =
     (tie.spec
     Inv-loop
     μ-loop
-    run-start-requires
+    behind-last-requires
     loop-holds
     next-before-requires
     enum-known-i
@@ -101,7 +103,7 @@ last-pair-spec =
     part-same-start
     part-same-end
     same-requires
-    add-t16
+    add-t15
     loop-less
     loop-again
     loop-less-2

@@ -1,26 +1,17 @@
--- `body::is_one` meets its contract, by cases on what was read. Assumes nothing.
+-- `body::is_one` meets its contract, by whether a number is kept. Assumes nothing.
 use Rattle.scan.specs.Body.{isOne}
-use mathlib.Core.Path.{sym, _∙_}
-use borrow.Author.Needs.{needs}
+use Rattle.walk.specs.Kept.{saidBy}
+use borrow.Author.Tests.{eq-eqb, ne-eqb}
 use Rattle.scan.proofs.body.is_one.Statement.{statement}
 use Rattle.scan.proofs.body.is_one.Tie as tie
 
-number-in-requires : tie.Need-number-in-requires
-number-in-requires c κs = search needs
-
-enum-known-v : tie.Need-enum-known-v
-enum-known-v c = search needs
-
-enum-told : tie.Need-enum-told
-enum-told c = search needs
-
 returns : tie.Need-returns
-unfolding isOne
-returns c = rw (sym (c .before .before .before .number-in .ensures) ∙ c .before .v .given .1)
+unfolding isOne saidBy
+returns c = rw (eq-eqb _ _ (c .if1 .taken))
 
 returns-2 : tie.Need-returns-2
-unfolding isOne
-returns-2 c = rw (sym (c .before .before .number-in .ensures) ∙ c .enum-told .given .1)
+unfolding isOne saidBy
+returns-2 c = rw (ne-eqb _ _ (c .if1 .left))
 
 pub is-one-spec : {M : Type 1} → statement M
-is-one-spec = tie.close (tie.spec number-in-requires enum-known-v enum-told returns returns-2)
+is-one-spec = tie.close (tie.spec returns returns-2)

@@ -1,173 +1,145 @@
 -- `body::read_body` meets its contract: what the walk kept of each key goes on, in the order of the numbers. Assumes nothing.
-use Rattle.scan.specs.Body.{textAt, isOne, droppedOf, bodyOf}
-use Rattle.scan.proofs.Said.{kept, type-at, type-nowhere, size-said, domain-said, route-said, dropped-said}
-use Rattle.pairs.specs.Table.{keys, rowAt}
-use Rattle.text.specs.Number.{numberValue}
 use mathlib.Core.Path.{sym, ap, _∙_}
+use borrow.Author.Tests.{eq-eqb, ne-eqb}
+use Rattle.text.specs.Number.{numberValue}
+use Rattle.walk.specs.Kept.{saidBy}
+use Rattle.pairs.proofs.LastPairs.{last-within}
+use Rattle.scan.specs.Body.{textAt, isOne, droppedOf, bodyOf}
+use Rattle.scan.proofs.Said.{type-at, type-nowhere, size-said, size-most, domain-said, domain-most, route-said, dropped-said}
 use native.Mathlib.Omega.{arith}
 use borrow.Author.Needs.{needs}
 use Rattle.scan.proofs.body.read_body.Statement.{statement}
 use Rattle.scan.proofs.body.read_body.Tie as tie
+use Rattle.scan.proofs.body.read_body.Reads as reads
+use Rattle.scan.proofs.body.read_body.Lts as lts
+use Rattle.entry.proofs.kind.kind_of.Reads as kind-of-reads
+use Rattle.scan.proofs.body.is_one.Reads as is-one-reads
+use Rattle.scan.proofs.body.read_optionals.Reads as read-optionals-reads
 
-array-copy-out-last : tie.Need-array-copy-out-last
-array-copy-out-last c = search needs
-
-enum-known-last : tie.Need-enum-known-last
-enum-known-last c = search needs
-
-enum-told : tie.Need-enum-told
-enum-told c = search needs
+element-copy-out-if1 : tie.Need-element-copy-out-if1
+element-copy-out-if1 c = search needs
 
 returns : tie.Need-returns
 unfolding bodyOf textAt
-returns c = rw (type-nowhere _ (c .before .before .before .before .before .pre) (c .enum-told .given .1))
+returns c = rw (type-nowhere _ (c .before .before .before .before .pre) (c .if1 .taken))
+
+element-copy-out-from : tie.Need-element-copy-out-from
+element-copy-out-from c = search needs
+
+element-copy-out-to : tie.Need-element-copy-out-to
+element-copy-out-to c = search needs
 
 sub-kind-of : tie.Need-sub-kind-of
-unfolding keys
-sub-kind-of c = omega (arith, kept _ (c .before .before .before .before .before .before .pre) 0 (omega arith) .0 _ _ _ (c .before .last2 .given .1))
+sub-kind-of c = omega (arith, last-within _ _ (type-at _ (c .before .before .before .before .before .before .pre) (c .before .before .if1 .left)))
 
 part-kind-of-start : tie.Need-part-kind-of-start
-unfolding keys
-part-kind-of-start c = omega (arith, kept _ (c .before .before .before .before .before .before .pre) 0 (omega arith) .0 _ _ _ (c .before .last2 .given .1))
+part-kind-of-start c = omega (arith, last-within _ _ (type-at _ (c .before .before .before .before .before .before .pre) (c .before .before .if1 .left)))
 
 part-kind-of-end : tie.Need-part-kind-of-end
-unfolding keys
-part-kind-of-end c = omega (arith, kept _ (c .before .before .before .before .before .before .pre) 0 (omega arith) .0 _ _ _ (c .before .last2 .given .1))
+part-kind-of-end c = omega (arith, last-within _ _ (type-at _ (c .before .before .before .before .before .before .pre) (c .before .before .if1 .left)))
 
 kind-of-requires : tie.Need-kind-of-requires
 kind-of-requires c κs = search needs
 
-array-copy-out-number-in : tie.Need-array-copy-out-number-in
-array-copy-out-number-in c = search needs
-
-number-in-requires : tie.Need-number-in-requires
-unfolding keys
-number-in-requires c κs = kept _ (c .before .before .before .before .before .before .before .before .before .pre) 1 (omega arith) .0
-
-enum-known-size : tie.Need-enum-known-size
-enum-known-size c = search needs
-
-enum-told-2 : tie.Need-enum-told-2
-enum-told-2 c = search needs
+element-copy-out-if2 : tie.Need-element-copy-out-if2
+element-copy-out-if2 c = search needs
 
 returns-2 : tie.Need-returns-2
-unfolding bodyOf textAt numberValue
-returns-2 c =
-    let known = c .before .before .before .before .before .before .before .before .before .before .before .before .pre in
-    rw (
-      type-at _ known (c .before .before .before .before .before .before .before .last2 .given .1),
-      size-said _ known ∙ sym (c .before .before .number-in .ensures) ∙ c .enum-told2 .given .1,
-    )
+unfolding bodyOf textAt numberValue saidBy
+returns-2 c = rw (type-at _ (c .before .before .before .before .before .before .before .before .before .before .pre) (c .before .before .before .before .before .before .if1 .left), size-said _ (c .before .before .before .before .before .before .before .before .before .before .pre), eq-eqb _ _ (c .if2 .taken))
 
-array-copy-out-number-in-2 : tie.Need-array-copy-out-number-in-2
-array-copy-out-number-in-2 c = search needs
+element-copy-out-size : tie.Need-element-copy-out-size
+element-copy-out-size c = search needs
 
-number-in-requires-2 : tie.Need-number-in-requires-2
-unfolding keys
-number-in-requires-2 c κs = kept _ (c .before .before .before .before .before .before .before .before .before .before .before .before .before .before .pre) 2 (omega arith) .0
-
-enum-known-domain : tie.Need-enum-known-domain
-enum-known-domain c = search needs
-
-enum-told-3 : tie.Need-enum-told-3
-enum-told-3 c = search needs
+element-copy-out-if3 : tie.Need-element-copy-out-if3
+element-copy-out-if3 c = search needs
 
 returns-3 : tie.Need-returns-3
-unfolding bodyOf textAt numberValue
-returns-3 c =
-    let known = c .before .before .before .before .before .before .before .before .before .before .before .before .before .before .before .before .before .pre in
-    rw (
-      type-at _ known (c .before .before .before .before .before .before .before .before .before .before .before .before .last2 .given .1),
-      size-said _ known ∙ sym (c .before .before .before .before .before .before .before .number-in .ensures) ∙ c .before .before .before .before .before .size .given .1,
-      domain-said _ known ∙ sym (c .before .before .number-in2 .ensures) ∙ c .enum-told3 .given .1,
-    )
+unfolding bodyOf textAt numberValue saidBy
+returns-3 c = rw (type-at _ (c .before .before .before .before .before .before .before .before .before .before .before .before .before .pre) (c .before .before .before .before .before .before .before .before .before .if1 .left), size-said _ (c .before .before .before .before .before .before .before .before .before .before .before .before .before .pre), ne-eqb _ _ (c .before .before .before .if2 .left), domain-said _ (c .before .before .before .before .before .before .before .before .before .before .before .before .before .pre), eq-eqb _ _ (c .if3 .taken))
 
-array-copy-out-number-in-3 : tie.Need-array-copy-out-number-in-3
-array-copy-out-number-in-3 c = search needs
+element-copy-out-domain : tie.Need-element-copy-out-domain
+element-copy-out-domain c = search needs
 
-number-in-requires-3 : tie.Need-number-in-requires-3
-unfolding keys
-number-in-requires-3 c κs = kept _ (c .before .before .before .before .before .before .before .before .before .before .before .before .before .before .before .before .before .before .before .pre) 3 (omega arith) .0
-
-enum-known-route : tie.Need-enum-known-route
-enum-known-route c = search needs
-
-enum-told-4 : tie.Need-enum-told-4
-enum-told-4 c = search needs
+element-copy-out-if4 : tie.Need-element-copy-out-if4
+element-copy-out-if4 c = search needs
 
 returns-4 : tie.Need-returns-4
-unfolding bodyOf textAt numberValue
+unfolding bodyOf textAt numberValue saidBy
 returns-4 c =
-    let known = c .before .before .before .before .before .before .before .before .before .before .before .before .before .before .before .before .before .before .before .before .before .before .pre in
     rw (
-      type-at _ known (c .before .before .before .before .before .before .before .before .before .before .before .before .before .before .before .before .before .last2 .given .1),
-      size-said _ known ∙ sym (c .before .before .before .before .before .before .before .before .before .before .before .before .number-in .ensures) ∙ c .before .before .before .before .before .before .before .before .before .before .size .given .1,
-      domain-said _ known ∙ sym (c .before .before .before .before .before .before .before .number-in2 .ensures) ∙ c .before .before .before .before .before .domain .given .1,
-      route-said _ known ∙ sym (c .before .before .number-in3 .ensures) ∙ c .enum-told4 .given .1,
+      type-at _ (c .before .before .before .before .before .before .before .before .before .before .before .before .before .before .before .before .pre) (c .before .before .before .before .before .before .before .before .before .before .before .before .if1 .left),
+      size-said _ (c .before .before .before .before .before .before .before .before .before .before .before .before .before .before .before .before .pre),
+      ne-eqb _ _ (c .before .before .before .before .before .before .if2 .left),
+      domain-said _ (c .before .before .before .before .before .before .before .before .before .before .before .before .before .before .before .before .pre),
+      ne-eqb _ _ (c .before .before .before .if3 .left),
+      route-said _ (c .before .before .before .before .before .before .before .before .before .before .before .before .before .before .before .before .pre),
+      eq-eqb _ _ (c .if4 .taken),
     )
 
-array-copy-out-is-one : tie.Need-array-copy-out-is-one
-array-copy-out-is-one c = search needs
+element-copy-out-route : tie.Need-element-copy-out-route
+element-copy-out-route c = search needs
+
+element-copy-out-is-one : tie.Need-element-copy-out-is-one
+element-copy-out-is-one c = search needs
+
+element-copy-out-is-one-2 : tie.Need-element-copy-out-is-one-2
+element-copy-out-is-one-2 c = search needs
 
 is-one-requires : tie.Need-is-one-requires
-unfolding keys
-is-one-requires c κs = kept _ (c .before .before .before .before .before .before .before .before .before .before .before .before .before .before .before .before .before .before .before .before .before .before .before .before .pre) 12 (omega arith) .0
+is-one-requires c κs = search needs
 
 read-optionals-requires : tie.Need-read-optionals-requires
-read-optionals-requires c κs = search needs
+read-optionals-requires c κs = (_, c .before .before .before .before .before .before .before .before .before .before .before .before .before .before .before .before .before .before .before .before .pre)
 
-cast-t33 : tie.Need-cast-t33
-unfolding rowAt keys
-cast-t33 c = record { fits = omega (arith, kept _ (c .before .before .before .before .before .before .before .before .before .before .before .before .before .before .before .before .before .before .before .before .before .before .before .before .before .before .pre) 1 (omega arith) .1 _ (sym (c .before .before .before .before .before .before .before .before .before .before .before .before .before .before .before .before .number-in .ensures) ∙ c .before .before .before .before .before .before .before .before .before .before .before .before .before .before .size .given .1)) }
+cast-t41 : tie.Need-cast-t41
+cast-t41 c = record { fits = omega (arith, size-most _ (c .before .before .before .before .before .before .before .before .before .before .before .before .before .before .before .before .before .before .before .before .before .pre) (omega (arith, c .before .before .before .before .before .before .before .before .before .before .before .if2 .left))) }
 
-cast-t34 : tie.Need-cast-t34
-unfolding rowAt keys
-cast-t34 c = record { fits = omega (arith, kept _ (c .before .before .before .before .before .before .before .before .before .before .before .before .before .before .before .before .before .before .before .before .before .before .before .before .before .before .pre) 2 (omega arith) .1 _ (sym (c .before .before .before .before .before .before .before .before .before .before .before .number-in2 .ensures) ∙ c .before .before .before .before .before .before .before .before .before .domain .given .1)) }
+cast-t42 : tie.Need-cast-t42
+cast-t42 c = record { fits = omega (arith, domain-most _ (c .before .before .before .before .before .before .before .before .before .before .before .before .before .before .before .before .before .before .before .before .before .pre) (omega (arith, c .before .before .before .before .before .before .before .before .if3 .left))) }
 
 returns-5 : tie.Need-returns-5
-unfolding bodyOf textAt numberValue droppedOf
+unfolding bodyOf textAt numberValue saidBy droppedOf
 returns-5 c =
-    let known = c .before .before .before .before .before .before .before .before .before .before .before .before .before .before .before .before .before .before .before .before .before .before .before .before .before .before .pre in
     rw (
-      type-at _ known (c .before .before .before .before .before .before .before .before .before .before .before .before .before .before .before .before .before .before .before .before .before .last2 .given .1),
-      size-said _ known ∙ sym (c .before .before .before .before .before .before .before .before .before .before .before .before .before .before .before .before .number-in .ensures) ∙ c .before .before .before .before .before .before .before .before .before .before .before .before .before .before .size .given .1,
-      domain-said _ known ∙ sym (c .before .before .before .before .before .before .before .before .before .before .before .number-in2 .ensures) ∙ c .before .before .before .before .before .before .before .before .before .domain .given .1,
-      route-said _ known ∙ sym (c .before .before .before .before .before .before .number-in3 .ensures) ∙ c .before .before .before .before .route .given .1,
-      c .before .before .before .before .before .before .before .before .before .before .before .before .before .before .before .before .before .before .kind-of .ensures,
-      c .before .is-one .ensures ∙ ap isOne (sym (dropped-said _ known)),
-      c .read-optionals .ensures,
+      type-at _ (c .before .before .before .before .before .before .before .before .before .before .before .before .before .before .before .before .before .before .before .before .before .pre) (c .before .before .before .before .before .before .before .before .before .before .before .before .before .before .before .before .before .if1 .left),
+      size-said _ (c .before .before .before .before .before .before .before .before .before .before .before .before .before .before .before .before .before .before .before .before .before .pre),
+      ne-eqb _ _ (c .before .before .before .before .before .before .before .before .before .before .before .if2 .left),
+      domain-said _ (c .before .before .before .before .before .before .before .before .before .before .before .before .before .before .before .before .before .before .before .before .before .pre),
+      ne-eqb _ _ (c .before .before .before .before .before .before .before .before .if3 .left),
+      route-said _ (c .before .before .before .before .before .before .before .before .before .before .before .before .before .before .before .before .before .before .before .before .before .pre),
+      ne-eqb _ _ (c .before .before .before .before .before .if4 .left),
+      c .before .before .before .before .before .before .before .before .before .before .before .before .before .kind-of .ensures,
+      dropped-said _ (c .before .before .before .before .before .before .before .before .before .before .before .before .before .before .before .before .before .before .before .before .before .pre),
+      c .before .is-one .ensures,
+      c .read-optionals .ensures _ (c .before .before .before .before .before .before .before .before .before .before .before .before .before .before .before .before .before .before .before .before .before .pre),
     )
 
 pub read-body-spec : {M : Type 1} → statement M
 read-body-spec =
     tie.close
     (tie.spec
-    array-copy-out-last
-    enum-known-last
-    enum-told
+    element-copy-out-if1
     returns
+    element-copy-out-from
+    element-copy-out-to
     sub-kind-of
     part-kind-of-start
     part-kind-of-end
     kind-of-requires
-    array-copy-out-number-in
-    number-in-requires
-    enum-known-size
-    enum-told-2
+    element-copy-out-if2
     returns-2
-    array-copy-out-number-in-2
-    number-in-requires-2
-    enum-known-domain
-    enum-told-3
+    element-copy-out-size
+    element-copy-out-if3
     returns-3
-    array-copy-out-number-in-3
-    number-in-requires-3
-    enum-known-route
-    enum-told-4
+    element-copy-out-domain
+    element-copy-out-if4
     returns-4
-    array-copy-out-is-one
+    element-copy-out-route
+    element-copy-out-is-one
+    element-copy-out-is-one-2
     is-one-requires
     read-optionals-requires
-    cast-t33
-    cast-t34
+    cast-t41
+    cast-t42
     returns-5)

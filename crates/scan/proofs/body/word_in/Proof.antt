@@ -1,32 +1,22 @@
--- `body::word_in` meets its contract, by cases on what was read. Assumes nothing.
+-- `body::word_in` meets its contract, by whether a number is kept. Assumes nothing.
 use Rattle.scan.specs.Body.{asWord}
 use Rattle.text.specs.Number.{numberValue}
-use mathlib.Core.Path.{sym, _∙_}
+use Rattle.walk.specs.Kept.{saidBy}
 use native.Mathlib.Omega.{arith}
-use borrow.Author.Needs.{needs}
+use borrow.Author.Tests.{eq-eqb, ne-eqb}
 use Rattle.scan.proofs.body.word_in.Statement.{statement}
 use Rattle.scan.proofs.body.word_in.Tie as tie
 
-number-in-requires : tie.Need-number-in-requires
-number-in-requires c κs = c .before .pre .0
-
-enum-known-v : tie.Need-enum-known-v
-enum-known-v c = search needs
-
-cast-t6 : tie.Need-cast-t6
-cast-t6 c = record { fits = omega (arith, c .before .before .before .before .before .pre .1 _ (sym (c .before .before .before .number-in .ensures) ∙ c .before .v .given .1)) }
-
-enum-told : tie.Need-enum-told
-enum-told c = search needs
-
 returns : tie.Need-returns
-unfolding asWord numberValue
-returns c = rw (sym (c .before .before .before .number-in .ensures) ∙ c .before .v .given .1)
+unfolding asWord numberValue saidBy
+returns c = rw (eq-eqb _ _ (c .if1 .taken))
+
+cast-t4 : tie.Need-cast-t4
+cast-t4 c = record { fits = omega (arith, c .before .pre (omega (arith, c .if1 .left))) }
 
 returns-2 : tie.Need-returns-2
-unfolding asWord numberValue
-returns-2 c = rw (sym (c .before .before .number-in .ensures) ∙ c .enum-told .given .1)
+unfolding asWord numberValue saidBy
+returns-2 c = rw (ne-eqb _ _ (c .if1 .left))
 
 pub word-in-spec : {M : Type 1} → statement M
-word-in-spec =
-    tie.close (tie.spec number-in-requires enum-known-v cast-t6 enum-told returns returns-2)
+word-in-spec = tie.close (tie.spec returns cast-t4 returns-2)

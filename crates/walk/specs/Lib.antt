@@ -1,0 +1,3 @@
+-- What the one walk over a payload keeps of each key.
+pub mod Start
+pub mod Kept

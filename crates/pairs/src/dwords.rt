@@ -118,7 +118,7 @@ pub const OTHER: u64 = 0x1_0000_0000;
 // `0x` and `, ` as numbers.
 const PREFIX: u64 = 0x7830;
 
-const COMMA_SPACE: u64 = 0x202c;
+pub const COMMA_SPACE: u64 = 0x202c;
 
 // A piece as the kernel prints it: `0x` and eight digits.
 fn printed(s: &[u8], t: &[u8; 256], at: usize) -> u64

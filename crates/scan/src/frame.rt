@@ -56,7 +56,7 @@ fn none_high(s: &[u8]) -> bool
     ensures { λ r. ⌜ r ≡ isNothing (firstHigh (now (s .entry))) ⌝ }
 {
     let n = s.len();
-    if n < 96 {
+    if n < 64 {
         return max_byte(s) < 128;
     }
     let whole = n - n % 32;

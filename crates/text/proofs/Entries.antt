@@ -5,7 +5,7 @@ use mathlib.Core.Bool.{Bool, true, false, not, cond, _&&_}
 use mathlib.Core.List.{List}
 use native.Mathlib.Omega.{arith}
 use lib.Dec.{ltb, leb, eqb}
-use lib.ListN.{length, getD}
+use lib.ListN.{length, getD, List·getD-eq-default}
 use borrow.Author.Tests.{lt-ltb, le-ltb, ltb-true, eqb-true}
 use Rattle.text.specs.Class.{between, isLetter, isDigit, isWord, isBlank}
 use Rattle.text.specs.Number.{digitOf}
@@ -97,3 +97,11 @@ module _ {t : List ℕ} (is : t ≡ table) {b : ℕ} (h : b < 256) where
   entry-over {base} u l =
       by-order (getD t b 0) 16 (λ x. omega (arith, entry-digit x)) (λ x. omega (arith, entry-none (omega arith)))
       (λ x. omega (arith, entry-none (omega arith)))
+
+-- no word byte stands behind a text
+no-word-zero : isWord 0 ≡ false
+unfolding isWord isLetter isDigit between
+no-word-zero = refl
+
+pub no-word-behind : (s : List ℕ) (j : ℕ) → length s ≤ j → isWord (getD s j 0) ≡ false
+no-word-behind s j h = rw (List·getD-eq-default s 0 {n = j} h) no-word-zero

@@ -1,6 +1,7 @@
 -- Few digits: k digits of a base up to 16 have a value below 16^k, so sixteen of them stay within 64 bits. Assumes nothing.
 use Prim.Native.Nat.{ℕ, suc, _+_, _-_, _*_, _^_, _≤_, _<_}
 use mathlib.Core.Path.{_≡_, refl, _∙_}
+use mathlib.Core.Bool.{Bool, true, false, cond}
 use mathlib.Core.List.{List}
 use native.Mathlib.Numerals.{add-one}
 use native.Mathlib.Omega.{arith}
@@ -9,9 +10,27 @@ use lib.ListN.{length, getD, drop, drop-of-length-le}
 use lib.Seq.{drop-cons}
 use borrow.Author.Tests.{lt-ltb, lt-leb}
 use Rattle.text.specs.declared.number.Number.the-variants as N
+use Rattle.text.specs.Class.{between, isDigit}
 use Rattle.text.specs.Number.{digitOf, value, badAt, badFirst, valueWithin, readingOf, readValue}
 use Rattle.text.proofs.Places.{place-hit, place-end}
-use Rattle.text.proofs.Numbers.{Clean, clean-starts, clean-steps, is-bad, SoFar, whole-value}
+use Rattle.text.proofs.Numbers.{at-least, Clean, clean-starts, clean-steps, is-bad, SoFar, whole-value}
+
+-- a decimal digit's value, and what any other byte is at least
+pub digit-is : (b : ℕ) → isDigit b ≡ true → digitOf b ≡ b - 48
+unfolding digitOf
+digit-is b e = rw e
+
+pub digit-none : (b : ℕ) → isDigit b ≡ false → 10 ≤ digitOf b
+unfolding digitOf
+digit-none b e = rw e (lower (between 97 102 b) refl)
+  where
+    upper : (x : Bool) → between 65 70 b ≡ x → 10 ≤ cond x (b - 55) 16
+    upper true t = let h : 65 ≤ b = at-least 65 70 t in omega arith
+    upper false t = omega arith
+
+    lower : (x : Bool) → between 97 102 b ≡ x → 10 ≤ cond x (b - 87) (cond (between 65 70 b) (b - 55) 16)
+    lower true t = let h : 97 ≤ b = at-least 97 102 t in omega arith
+    lower false t = upper (between 65 70 b) refl
 
 module _ (base from : ℕ) (s : List ℕ) where
   -- the number so far, whatever the limit: the bytes up to i are digits, of value v, with the rest to come

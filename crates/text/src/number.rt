@@ -99,7 +99,7 @@ fn read_short(s: &[u8], from: usize, base: u64, limit: u64) -> Number
     let mut v: u64 = 0;
     let mut i = from;
     while i < s.len() {
-        let d = digit(s[i]);
+        let d = digit_of(s[i], base);
         if base <= d {
             return Number::Unreadable;
         }
@@ -153,6 +153,19 @@ fn reason(s: &[u8], from: usize, base: u64) -> Reading
         i += 1;
     }
     Reading::TooWide
+}
+
+// The value of a digit of the base; some number that is not below the base for any other byte. No letter is looked for in a base up to 10.
+fn digit_of(b: u8, base: u64) -> u64
+    ensures { λ r. ⌜ (r < base → r ≡ digitOf b) × (base ≤ r → base ≤ digitOf b) ⌝ }
+{
+    if is_digit(b) {
+        return (b as u64) - 48;
+    }
+    if base <= 10 {
+        return 16;
+    }
+    digit(b)
 }
 
 // The value of a digit of either case, 16 for any other byte.

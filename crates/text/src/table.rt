@@ -2,6 +2,7 @@
 // Right because the entries are computed from the classes, byte by byte. Whoever needs the table writes it out once and lends it.
 ghost use mathlib.Core.Path.{_≡_};
 ghost use Prim.Native.Nat.{_<_};
+ghost use lib.ListN.{getD};
 ghost use Rattle.text.specs.Class.{isWord, noWord};
 ghost use Rattle.text.specs.Run.{EndsAt};
 ghost use Rattle.text.specs.Table.{table};
@@ -25,6 +26,18 @@ pub fn word_end(s: &[u8], t: &[u8; 256], from: usize) -> usize
     i
 }
 
+// Does a word byte stand at the place?
+pub fn is_word_at(s: &[u8], t: &[u8; 256], i: usize) -> bool
+    requires { ⌜ now t ≡ table ⌝ }
+    ensures { λ r. ⌜ r ≡ isWord (getD (now (s .entry)) i 0) ⌝ }
+{
+    if s.len() <= i {
+        return false;
+    }
+    let k = wide(s[i]);
+    t[k] <= WORD
+}
+
 // The first place of a word byte from a place on, else the text's end: where the longest run of other bytes ends.
 pub fn word_from(s: &[u8], t: &[u8; 256], from: usize) -> usize
     requires { ⌜ now t ≡ table ⌝ }
@@ -46,11 +59,4 @@ pub fn wide(b: u8) -> usize
     ensures { λ r. ⌜ (r ≡ b) × (r < 256) ⌝ }
 {
     b as usize
-}
-
-// An entry as a number.
-pub fn long(b: u8) -> u64
-    ensures { λ r. ⌜ r ≡ b ⌝ }
-{
-    b as u64
 }

@@ -34,14 +34,6 @@ use Rattle.walk.specs.declared.value.Kept.{Kept}
 use Rattle.walk.specs.declared.value.Value.{Value}
 use Rattle.walk.specs.Kept.{nothing, keptNumber, keptIn, valueOf, baseOf, limitOf, digitsStart, DigitsRead, Short}
 
--- no word byte stands behind a text
-no-word-zero : isWord 0 ≡ false
-unfolding isWord isLetter isDigit between
-no-word-zero = refl
-
-pub no-word-behind : (s : List ℕ) (j : ℕ) → length s ≤ j → isWord (getD s j 0) ≡ false
-no-word-behind s j h = rw (List·getD-eq-default s 0 {n = j} h) no-word-zero
-
 -- ---- where the digits start
 
 module _ (s : List ℕ) (v : ℕ) {base : ℕ} where

@@ -2,9 +2,10 @@
 use crate::start::NO_KEY;
 use crate::start::start_at;
 use crate::value::value_at;
+use pairs::dwords::COMMA_SPACE;
 use pairs::keys::ROWS;
 use text::run::behind_last;
-use text::table::wide;
+use text::table::is_word_at;
 use text::table::word_from;
 use text::word::two;
 ghost use mathlib.Core.Path.{_≡_};
@@ -16,11 +17,6 @@ ghost use Rattle.text.specs.Run.{EndsAt, runStart};
 ghost use Rattle.text.specs.Table.{table};
 ghost use Rattle.text.specs.declared.class.Class.the-variants.{NotClose};
 ghost use Rattle.walk.specs.Kept.{LastKept, Step};
-
-const WORD: u8 = 128;
-
-// `, ` as a number.
-const COMMA_SPACE: u64 = 0x202c;
 
 // Each pair takes the place of its key's row, so the last one stays; the row behind the table takes those of every other key. Of each row is kept
 // what its last value says and where it ends. Asked for: arrays of zeros.
@@ -76,8 +72,7 @@ fn next_word(s: &[u8], t: &[u8; 256], from: usize) -> usize
 {
     if from + 2 < s.len() {
         if two(s, from) == COMMA_SPACE {
-            let k = wide(s[from + 2]);
-            if t[k] <= WORD {
+            if is_word_at(s, t, from + 2) {
                 return from + 2;
             }
         }

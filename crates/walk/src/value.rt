@@ -8,6 +8,7 @@ use text::number::hex;
 use text::number::value_of;
 use text::place::Found;
 use text::place::byte_at;
+use text::table::is_word_at;
 use text::table::wide;
 use text::table::word_end;
 use text::word::one;
@@ -15,8 +16,8 @@ ghost use mathlib.Core.Path.{_≡_};
 ghost use Prim.Native.Nat.{_+_, _≤_, _<_};
 ghost use mathlib.Core.Bool.{cond};
 ghost use lib.Dec.{leb};
-ghost use lib.ListN.{length, getD};
-ghost use Rattle.text.specs.Class.{isWord, inClass};
+ghost use lib.ListN.{length};
+ghost use Rattle.text.specs.Class.{inClass};
 ghost use Rattle.text.specs.Run.{runStart};
 ghost use Rattle.text.specs.Table.{table};
 ghost use Rattle.text.specs.declared.class.Class.the-variants.{NotClose};
@@ -40,8 +41,6 @@ pub struct Digits {
     pub end: usize,
     pub value: u64,
 }
-
-const WORD: u8 = 128;
 
 // The value from v on, read as a form. Asked for: where no `]` stands any more.
 pub fn value_at(s: &[u8], t: &[u8; 256], v: usize, form: Form, tail: usize) -> Value
@@ -125,17 +124,6 @@ fn digits_at(s: &[u8], t: &[u8; 256], from: usize, base: u64) -> Digits
         end: j,
         value: value,
     }
-}
-
-fn is_word_at(s: &[u8], t: &[u8; 256], j: usize) -> bool
-    requires { ⌜ now t ≡ table ⌝ }
-    ensures { λ r. ⌜ r ≡ isWord (getD (now (s .entry)) j 0) ⌝ }
-{
-    if s.len() <= j {
-        return false;
-    }
-    let k = wide(s[j]);
-    t[k] <= WORD
 }
 
 fn keep_within(value: u64, limit: u64, e: usize) -> Kept

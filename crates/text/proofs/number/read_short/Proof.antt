@@ -1,5 +1,6 @@
 -- `number::read_short` meets its contract: what is read so far is a `Few`, and each way out is one of its laws. Assumes nothing.
 use Rattle.text.proofs.FewDigits.{Few, few-starts, few-steps, few-fit, few-bad, few-wide, few-whole}
+use mathlib.Core.Path.{refl}
 use lib.ListN.{length}
 use Prim.Native.Nat.{_-_}
 use borrow.Author.Needs.{needs}
@@ -16,14 +17,14 @@ abbrev μ-loop : tie.MeasureT-loop
 loop-holds : tie.Need-loop-holds Inv-loop μ-loop
 loop-holds c = few-starts _ _ _ (c .before .pre .2)
 
-shared-slice-read-digit : tie.Need-shared-slice-read-digit Inv-loop μ-loop
-shared-slice-read-digit c = search needs
+shared-slice-read-digit-of : tie.Need-shared-slice-read-digit-of Inv-loop μ-loop
+shared-slice-read-digit-of c = search needs
 
-digit-requires : tie.Need-digit-requires Inv-loop μ-loop
-digit-requires c κs = search needs
+digit-of-requires : tie.Need-digit-of-requires Inv-loop μ-loop
+digit-of-requires c κs = search needs
 
 returns : tie.Need-returns Inv-loop μ-loop
-returns c = few-bad _ _ _ _ (c .before .before .before .before .loop .inv) (c .before .before .before .loop-test .taken) (c .before .digit .ensures) (c .if1 .taken)
+returns c = few-bad _ _ _ _ (c .before .before .before .before .loop .inv) (c .before .before .before .loop-test .taken) refl (c .before .digit-of .ensures .1 (c .if1 .taken))
 
 mul-v : tie.Need-mul-v Inv-loop μ-loop
 mul-v c = record { fits = omega (arith, few-fit _ _ _ (c .before .before .before .before .loop .inv) (omega (arith, c .before .before .before .loop-test .taken, c .before .before .before .before .before .before .pre .3)) (c .before .before .before .before .before .before .pre .1) (c .if1 .left)) }
@@ -38,7 +39,7 @@ loop-less : tie.Need-loop-less Inv-loop μ-loop
 loop-less c = search needs
 
 loop-again : tie.Need-loop-again Inv-loop μ-loop
-loop-again c = few-steps _ _ _ (c .before .before .before .before .loop .inv) (c .before .before .before .loop-test .taken) (c .before .before .before .before .before .before .pre .1) (c .before .digit .ensures) (c .if1 .left)
+loop-again c = few-steps _ _ _ (c .before .before .before .before .loop .inv) (c .before .before .before .loop-test .taken) (c .before .before .before .before .before .before .pre .1) (c .before .digit-of .ensures .0 (c .if1 .left)) (c .if1 .left)
 
 returns-2 : tie.Need-returns-2 Inv-loop μ-loop
 returns-2 c = few-wide _ _ _ _ (c .before .before .loop .inv) (c .before .loop-test .left) (c .if2 .taken)
@@ -53,8 +54,8 @@ read-short-spec =
     Inv-loop
     μ-loop
     loop-holds
-    shared-slice-read-digit
-    digit-requires
+    shared-slice-read-digit-of
+    digit-of-requires
     returns
     mul-v
     add-v

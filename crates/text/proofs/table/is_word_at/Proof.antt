@@ -1,11 +1,10 @@
--- `value::is_word_at` meets its contract: an entry up to 128 is a word byte's, and none stands behind the text. Assumes nothing.
+-- `table::is_word_at` meets its contract: an entry up to 128 is a word byte's, and none stands behind the text. Assumes nothing.
 use mathlib.Core.Path.{sym, ap, _∙_}
 use Rattle.text.specs.Class.{isWord}
-use Rattle.text.proofs.Entries.{entry-word}
-use Rattle.walk.proofs.Values.{no-word-behind}
+use Rattle.text.proofs.Entries.{entry-word, no-word-behind}
 use borrow.Author.Needs.{needs}
-use Rattle.walk.proofs.value.is_word_at.Statement.{statement}
-use Rattle.walk.proofs.value.is_word_at.Tie as tie
+use Rattle.text.proofs.table.is_word_at.Statement.{statement}
+use Rattle.text.proofs.table.is_word_at.Tie as tie
 
 returns : tie.Need-returns
 returns c = sym (no-word-behind (c .before .before .args .s .now) _ (c .if1 .taken))

@@ -88,7 +88,7 @@ pub struct EventName {
 pub extern "C" fn ck_parse(line: &[u8], slots: &mut [u32]) -> EntryAnswer
     ensures { λ r. ⌜ LineRead P.Strict (now (line .entry)) (now (slots .entry)) (now (slots .exit)) r ⌝ }
 {
-    parse_by(line, Pieces::Strict, slots)
+    answer_of(parse(line, Pieces::Strict, slots))
 }
 
 // The same, but bad pieces are left out.
@@ -96,14 +96,7 @@ pub extern "C" fn ck_parse(line: &[u8], slots: &mut [u32]) -> EntryAnswer
 pub extern "C" fn ck_parse_lenient(line: &[u8], slots: &mut [u32]) -> EntryAnswer
     ensures { λ r. ⌜ LineRead P.Lenient (now (line .entry)) (now (slots .entry)) (now (slots .exit)) r ⌝ }
 {
-    parse_by(line, Pieces::Lenient, slots)
-}
-
-// A line by the choice.
-fn parse_by(line: &[u8], pieces: Pieces, slots: &mut [u32]) -> EntryAnswer
-    ensures { λ r. ⌜ LineRead pieces (now (line .entry)) (now (slots .entry)) (now (slots .exit)) r ⌝ }
-{
-    answer_of(parse(line, pieces, slots))
+    answer_of(parse(line, Pieces::Lenient, slots))
 }
 
 // The entry of a record, its dwords in the first slots.

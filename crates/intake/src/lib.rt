@@ -6,9 +6,9 @@
 mod room;
 
 use crate::room::at_most_256;
-use crate::room::copy;
 use scan::Answer;
 use scan::Pieces;
+use scan::dwords::copy;
 use scan::parse;
 use text::place::byte_at;
 ghost use mathlib.Core.Path.{_≡_};

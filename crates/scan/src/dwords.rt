@@ -56,14 +56,14 @@ pub fn read_data(
     DataAnswer::Got(n)
 }
 
-// Into the first slots. Asked for: a slot for each.
-fn copy(from: &[u32], to: &mut [u32])
-    requires { ⌜ length (now from) ≤ length (now to) ⌝ }
-    ensures { λ _. ⌜ now (to .exit) ≡ filled (now (from .entry)) (now (to .entry)) ⌝ }
+// Dwords into the first slots, the rest as found. Asked for: a slot for each.
+pub fn copy(dwords: &[u32], slots: &mut [u32])
+    requires { ⌜ length (now dwords) ≤ length (now slots) ⌝ }
+    ensures { λ _. ⌜ now (slots .exit) ≡ filled (now (dwords .entry)) (now (slots .entry)) ⌝ }
 {
     let mut i = 0;
-    while i < from.len() {
-        to[i] = from[i];
+    while i < dwords.len() {
+        slots[i] = dwords[i];
         i += 1;
     }
 }

@@ -11,25 +11,25 @@ use Rattle.scan.proofs.dwords.copy.Statement.{statement}
 use Rattle.scan.proofs.dwords.copy.Tie as tie
 
 abbrev Inv-loop : tie.InvT-loop
-Inv-loop from to₀ i₀ to i = (i ≤ length from) × (to ≡ filled (take i from) to₀)
+Inv-loop dwords slots₀ i₀ slots i = (i ≤ length dwords) × (slots ≡ filled (take i dwords) slots₀)
 
 abbrev μ-loop : tie.MeasureT-loop
-μ-loop from to₀ i₀ to i = length from - i
+μ-loop dwords slots₀ i₀ slots i = length dwords - i
 
 loop-holds : tie.Need-loop-holds Inv-loop μ-loop
 loop-holds c = (omega arith, refl)
 
-mul-to : tie.Need-mul-to Inv-loop μ-loop
-mul-to c = search needs
+mul-slots : tie.Need-mul-slots Inv-loop μ-loop
+mul-slots c = search needs
 
-shared-slice-read-to : tie.Need-shared-slice-read-to Inv-loop μ-loop
-shared-slice-read-to c = search needs
+shared-slice-read-slots : tie.Need-shared-slice-read-slots Inv-loop μ-loop
+shared-slice-read-slots c = search needs
 
-mul-to-2 : tie.Need-mul-to-2 Inv-loop μ-loop
-mul-to-2 c = search needs
+mul-slots-2 : tie.Need-mul-slots-2 Inv-loop μ-loop
+mul-slots-2 c = search needs
 
-slice-write-to : tie.Need-slice-write-to Inv-loop μ-loop
-slice-write-to c = omega (arith, c .before .loop-test .taken, c .before .before .before .pre, ap length (c .before .before .loop .inv .1), filled-length (c .before .before .before .args .from .now) (c .before .before .before .args .to .now) (c .before .before .loop .i) (c .before .before .loop .inv .0) (c .before .before .before .pre))
+slice-write-slots : tie.Need-slice-write-slots Inv-loop μ-loop
+slice-write-slots c = omega (arith, c .before .loop-test .taken, c .before .before .before .pre, ap length (c .before .before .loop .inv .1), filled-length (c .before .before .before .args .dwords .now) (c .before .before .before .args .slots .now) (c .before .before .loop .i) (c .before .before .loop .inv .0) (c .before .before .before .pre))
 
 add-i : tie.Need-add-i Inv-loop μ-loop
 add-i c = search needs
@@ -38,13 +38,13 @@ loop-less : tie.Need-loop-less Inv-loop μ-loop
 loop-less c = search needs
 
 loop-again : tie.Need-loop-again Inv-loop μ-loop
-loop-again c = (omega (arith, c .before .loop-test .taken), ap (λ (l : List ℕ). set l (c .before .before .loop .i) (getD (c .before .before .before .args .from .now) (c .before .before .loop .i) 0)) (c .before .before .loop .inv .1) ∙ filled-more (c .before .before .before .args .from .now) (c .before .before .before .args .to .now) (c .before .before .loop .i) _ (c .before .loop-test .taken) (c .before .before .before .pre) refl)
+loop-again c = (omega (arith, c .before .loop-test .taken), ap (λ (l : List ℕ). set l (c .before .before .loop .i) (getD (c .before .before .before .args .dwords .now) (c .before .before .loop .i) 0)) (c .before .before .loop .inv .1) ∙ filled-more (c .before .before .before .args .dwords .now) (c .before .before .before .args .slots .now) (c .before .before .loop .i) _ (c .before .loop-test .taken) (c .before .before .before .pre) refl)
 
 same-length : tie.Need-same-length Inv-loop μ-loop
-same-length c = ap length (c .before .loop .inv .1) ∙ filled-length (c .before .before .args .from .now) (c .before .before .args .to .now) (c .before .loop .i) (c .before .loop .inv .0) (c .before .before .pre)
+same-length c = ap length (c .before .loop .inv .1) ∙ filled-length (c .before .before .args .dwords .now) (c .before .before .args .slots .now) (c .before .loop .i) (c .before .loop .inv .0) (c .before .before .pre)
 
 returns : tie.Need-returns Inv-loop μ-loop
-returns c = c .before .loop .inv .1 ∙ filled-all (c .before .before .args .from .now) (c .before .before .args .to .now) (c .before .loop .i) (omega (arith, c .before .loop .inv .0, c .loop-test .left))
+returns c = c .before .loop .inv .1 ∙ filled-all (c .before .before .args .dwords .now) (c .before .before .args .slots .now) (c .before .loop .i) (omega (arith, c .before .loop .inv .0, c .loop-test .left))
 
 pub copy-spec : {M : Type 1} → statement M
 copy-spec =
@@ -53,10 +53,10 @@ copy-spec =
     Inv-loop
     μ-loop
     loop-holds
-    mul-to
-    shared-slice-read-to
-    mul-to-2
-    slice-write-to
+    mul-slots
+    shared-slice-read-slots
+    mul-slots-2
+    slice-write-slots
     add-i
     loop-less
     loop-again

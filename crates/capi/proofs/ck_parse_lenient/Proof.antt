@@ -1,8 +1,8 @@
--- `parse_by` meets its contract: the line reader's answer handed on. Assumes nothing.
+-- `ck_parse_lenient` meets its contract: the line reader's answer handed on. Assumes nothing.
 use Rattle.capi.proofs.Calling.{handed-on}
 use borrow.Author.Needs.{needs}
-use Rattle.capi.proofs.parse_by.Statement.{statement}
-use Rattle.capi.proofs.parse_by.Tie as tie
+use Rattle.capi.proofs.ck_parse_lenient.Statement.{statement}
+use Rattle.capi.proofs.ck_parse_lenient.Tie as tie
 
 parse-requires : tie.Need-parse-requires
 parse-requires c κs = search needs
@@ -16,5 +16,5 @@ same-length c = search needs
 returns : tie.Need-returns
 returns c = handed-on (c .answer-of .ensures) (c .before .before .before .parse .ensures .answer) (c .before .before .before .parse .ensures .slots)
 
-pub parse-by-spec : {M : Type 1} → statement M
-parse-by-spec = tie.close (tie.spec parse-requires answer-of-requires same-length returns)
+pub ck-parse-lenient-spec : {M : Type 1} → statement M
+ck-parse-lenient-spec = tie.close (tie.spec parse-requires answer-of-requires same-length returns)

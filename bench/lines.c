@@ -1,5 +1,6 @@
-/* The Rust, our two readings of lines, strict and lenient, and the one written by hand in one process: bench/lines KERNEL LONG REFUSED, each a file of
- * frames. Prints tables of nanoseconds a line and of how many times as fast as the Rust the others are. Ends with 1 where answers differ. */
+/* The Rust, our two readings of lines, strict and lenient, and the one written by hand in one process: bench/lines KERNEL LONG REFUSED HARD, each a file
+ * of frames; on the last the reader by hand is held to ours and nothing is timed. Prints tables of nanoseconds a line and of how many times as fast as the
+ * Rust the others are. Ends with 1 where answers differ. */
 #include "lines.h"
 
 #include <time.h>
@@ -244,7 +245,9 @@ static frames spoilt(frames f) {
 }
 
 int main(int argc, char **argv) {
-    if (argc != 4) return 2;
+    if (argc != 5) return 2;
+    /* The lines that are timed have no number near its width, and no key twice. */
+    compare("hard lines", frames_of(argv[4]));
     frames kernel = frames_of(argv[1]);
     course courses[] = {
         course_of("kernel-like", kernel),

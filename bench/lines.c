@@ -2,6 +2,7 @@
  * of frames; on the last the reader by hand is held to ours and nothing is timed. Prints tables of nanoseconds a line and of how many times as fast as the
  * Rust the others are. Ends with 1 where answers differ. */
 #include "lines.h"
+#include "table.h"
 
 #include <time.h>
 
@@ -103,21 +104,6 @@ static void judge(const char *name, const lines *l, size_t *strict, size_t *leni
     if (ours == theirs) return;
     printf("%s: our sum is %llu, the Rust's %llu\n", name, (unsigned long long)ours, (unsigned long long)theirs);
     exit(1);
-}
-
-/* A number as the tables have it, with commas. A text is good until eight more are made. */
-static const char *grouped(double number, int decimals) {
-    static char texts[8][32];
-    static unsigned made;
-    char digits[32], *text = texts[made++ % 8], *to = text;
-    snprintf(digits, sizeof digits, "%.*f", decimals, number);
-    int left = (int)strcspn(digits, ".");
-    for (const char *from = digits; *from; left--) {
-        if (left > 0 && left % 3 == 0 && from != digits) *to++ = ',';
-        *to++ = *from++;
-    }
-    *to = 0;
-    return text;
 }
 
 /* An entry, or the number that refuses. */

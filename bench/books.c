@@ -1,10 +1,11 @@
-/* How long the check of each book takes. books FILE.. */
+/* How long the check of each book takes. books NAME FILE NAME FILE..; prints a table. */
 #include <stdint.h>
 #include <stdio.h>
 #include <stdlib.h>
 #include <time.h>
 
 #include "chomkadieu.h"
+#include "table.h"
 
 static double now(void) {
     struct timespec t;
@@ -14,9 +15,10 @@ static double now(void) {
 
 int main(int argc, char **argv) {
     static uint8_t book[65536];
-    for (int i = 1; i < argc; i++) {
-        FILE *file = fopen(argv[i], "rb");
-        if (!file) return 2;
+    printf("| book | bytes | time |\n|---|---|---|\n");
+    for (int i = 1; i + 1 < argc; i += 2) {
+        FILE *file = fopen(argv[i + 1], "rb");
+        if (!file) return perror(argv[i + 1]), 2;
         size_t length = fread(book, 1, sizeof book, file);
         fclose(file);
         double best = 1e30, spent = 0;
@@ -28,7 +30,10 @@ int main(int argc, char **argv) {
             spent += t;
             best = t < best ? t : best;
         }
-        printf("%-40s %6zu bytes  %s  %12.3f us\n", argv[i], length, number ? "refused" : "accepted", best / 1e3);
+        if (number) return printf("%s: refused\n", argv[i]), 1;
+        printf("| %s | %s | ", argv[i], grouped((double)length, 0));
+        if (best < 1e6) printf("%.1f µs |\n", best / 1e3);
+        else printf("%.0f ms |\n", best / 1e6);
     }
     return 0;
 }

@@ -5,7 +5,9 @@ import re
 import sys
 from pathlib import Path
 
-READERS = 3
+# The readers behind the Rust, in their order, and the names of their columns.
+OTHERS = {"strict": "`ck_parse`", "lenient": "`ck_parse_lenient`", "by hand": "by hand"}
+READERS = 1 + len(OTHERS)
 
 
 def total(path):
@@ -13,7 +15,7 @@ def total(path):
 
 
 def rows(printed, counts):
-    """Name, bytes, lines and instructions a line of the Rust, strict and lenient."""
+    """Name, bytes, lines and instructions a line of the Rust, strict, lenient and the reader by hand."""
     for at, text in enumerate(Path(printed).read_text().splitlines()):
         name, size, lines = text.split("\t")
         numbers = (1 + READERS * at + reader for reader in range(READERS))
@@ -21,24 +23,29 @@ def rows(printed, counts):
 
 
 def times(found):
-    """The Rust's count, and each of ours with the Rust's over it."""
-    rust, *ours = found
-    return " | ".join([f"{rust:,.0f}", *(f"{mine:,.0f} | {rust / mine:.2f}" for mine in ours)])
+    """The Rust's count, and each of the others with the Rust's over it."""
+    rust, *others = found
+    return " | ".join([f"{rust:,.0f}", *(f"{other:,.0f} | {rust / other:.2f}" for other in others)])
 
 
-HEADS = "`Entry::parse` | `ck_parse` | the Rust's over ours | `ck_parse_lenient` | the Rust's over ours"
+def head(first, *last):
+    """The names of a table's columns, and the line below them."""
+    over = [f"{name} | the Rust's over it" for name in OTHERS.values()]
+    names = " | ".join([first, "`Entry::parse`", *over, *last])
+    return f"| {names} |\n|{'---|' * (1 + names.count('|'))}"
 
 
 def main(printed, counts):
     found = list(rows(printed, counts))
-    print(f"| instructions a line | how many | {HEADS} |\n|---|---|---|---|---|---|---|")
+    print(head("instructions a line | how many"))
     for name, size, lines, each in found:
         if not size:
             print(f"| {name} | {lines:,} | {times(each)} |")
     hostile = [row for row in found if row[1]]
-    print(f"\n| instructions of a line of 4,096 bytes | {HEADS} | strict to 2,048 bytes | lenient to 2,048 bytes |\n|---|---|---|---|---|---|---|---|")
+    print("\n" + head("instructions of a line of 4,096 bytes", *(f"{reader} to 2,048 bytes" for reader in OTHERS)))
     for (name, _, _, whole), (_, _, _, half) in zip(hostile[::2], hostile[1::2]):
-        print(f"| {name} | {times(whole)} | {whole[1] / half[1]:.2f} | {whole[2] / half[2]:.2f} |")
+        grown = " | ".join(f"{one / other:.2f}" for one, other in zip(whole[1:], half[1:]))
+        print(f"| {name} | {times(whole)} | {grown} |")
 
 
 main(*sys.argv[1:])

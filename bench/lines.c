@@ -1,6 +1,8 @@
-/* The Rust and our two readings of lines, strict and lenient, in one process: bench/lines KERNEL LONG REFUSED, each a file of frames. Prints tables of
- * nanoseconds a line and of how many times as fast as the Rust ours are. */
+/* The Rust, our two readings of lines, strict and lenient, and the one written by hand in one process: bench/lines KERNEL LONG REFUSED HARD, each a file
+ * of frames; on the last the reader by hand is held to ours and nothing is timed. Prints tables of nanoseconds a line and of how many times as fast as the
+ * Rust the others are. Ends with 1 where answers differ. */
 #include "lines.h"
+#include "table.h"
 
 #include <time.h>
 
@@ -21,7 +23,8 @@ typedef struct part {
 } part;
 
 static part part_of(lines l) {
-    part p = {l, {1e30, 1e30, 1e30}};
+    part p = {l, {0}};
+    for (int reader = 0; reader < READERS; reader++) p.best[reader] = 1e30;
     return p;
 }
 
@@ -52,8 +55,50 @@ static uint64_t answers(call *one, frames f, size_t *often) {
     return sum;
 }
 
-/* Nothing is timed unless lenient, which is to read as the Rust does, gives the Rust's sum. */
+/* An answer and all slots, of which so many were lent. */
+typedef struct outcome {
+    ck_entry_answer answer;
+    uint32_t slots[CK_MOST_DWORDS];
+} outcome;
+
+/* The slots hold a pattern beforehand, so that one that is written is told from one that is not. */
+static outcome outcome_of(call *one, const uint8_t *line, size_t length, size_t lent) {
+    outcome o;
+    for (uint32_t i = 0; i < CK_MOST_DWORDS; i++) o.slots[i] = UINT32_C(0xa5000000) + i;
+    o.answer = one(line, length, o.slots, lent);
+    return o;
+}
+
+/* Field by field, since what lies between the fields is anything. */
+static int same(const outcome *x, const outcome *y) {
+    const ck_entry *a = &x->answer.entry, *b = &y->answer.entry;
+    return x->answer.number == y->answer.number && a->task_at == b->task_at && a->task_len == b->task_len && a->pid == b->pid && a->cpu == b->cpu &&
+           a->seconds == b->seconds && a->microseconds == b->microseconds && a->function_at == b->function_at && a->function_len == b->function_len &&
+           a->kind == b->kind && a->size == b->size && a->dropped == b->dropped && a->domain == b->domain && a->route == b->route &&
+           a->offset == b->offset && a->code == b->code && a->len == b->len && a->port == b->port && a->config == b->config && a->seq == b->seq &&
+           a->unplug == b->unplug && a->dwords == b->dwords && !memcmp(x->slots, y->slots, sizeof x->slots);
+}
+
+/* The reader by hand is to answer each line as lenient does, with all slots lent and with so few that many lines are refused for it. */
+static void compare(const char *name, frames f) {
+    static const size_t lent[] = {CK_MOST_DWORDS, 5};
+    for (size_t at = 0; at < f.length; at += 4 + frame_length(f.bytes + at))
+        for (size_t i = 0; i < sizeof lent / sizeof *lent; i++) {
+            const uint8_t *line = f.bytes + at + 4;
+            size_t n = frame_length(f.bytes + at);
+            outcome ours = outcome_of(ck_parse_lenient, line, n, lent[i]), plain = outcome_of(plain_parse, line, n, lent[i]);
+            if (same(&ours, &plain)) continue;
+            printf("%s: with %zu slots ck_parse_lenient and plain_parse (numbers %u, %u) differ on the line\n", name, lent[i], ours.answer.number,
+                   plain.answer.number);
+            fwrite(line, 1, n, stdout);
+            printf("\n");
+            exit(1);
+        }
+}
+
+/* Nothing is timed unless lenient, which is to read as the Rust does, gives the Rust's sum, and the reader by hand its answers. */
 static void judge(const char *name, const lines *l, size_t *strict, size_t *lenient) {
+    compare(name, l->in);
     answers(ck_parse, l->in, strict);
     uint64_t ours = answers(ck_parse_lenient, l->in, lenient), theirs = oracle_run_lines(l->rust);
     if (ours == theirs) return;
@@ -61,29 +106,14 @@ static void judge(const char *name, const lines *l, size_t *strict, size_t *leni
     exit(1);
 }
 
-/* A number as the tables have it, with commas. A text is good until eight more are made. */
-static const char *grouped(double number, int decimals) {
-    static char texts[8][32];
-    static unsigned made;
-    char digits[32], *text = texts[made++ % 8], *to = text;
-    snprintf(digits, sizeof digits, "%.*f", decimals, number);
-    int left = (int)strcspn(digits, ".");
-    for (const char *from = digits; *from; left--) {
-        if (left > 0 && left % 3 == 0 && from != digits) *to++ = ',';
-        *to++ = *from++;
-    }
-    *to = 0;
-    return text;
-}
-
 /* An entry, or the number that refuses. */
 static const char *called(size_t number) {
     return number == CK_OK ? "entry" : grouped((double)number, 0);
 }
 
-/* Best nanoseconds of a line, and how many times as fast as the Rust's. */
-static void print_ours(double rust, double ours) {
-    printf(" %s | %.2f |", grouped(ours, 0), rust / ours);
+/* Best nanoseconds of a line, and how many times as fast as the Rust that is. */
+static void print_times(double rust, double other) {
+    printf(" %s | %.2f |", grouped(other, 0), rust / other);
 }
 
 /* A set of many lines, cut into parts. */
@@ -131,15 +161,14 @@ static double each_line(const course *c, int reader) {
 static void print_course(const course *c) {
     double rust = each_line(c, RUST);
     printf("| %s | %s | %s | %s |", c->name, grouped((double)c->lines, 0), grouped((double)c->bytes / (double)c->lines, 1), grouped(rust, 0));
-    print_ours(rust, each_line(c, STRICT));
-    print_ours(rust, each_line(c, LENIENT));
+    for (int reader = RUST + 1; reader < READERS; reader++) print_times(rust, each_line(c, reader));
     printf("\n");
 }
 
 static void many(course *courses, size_t count) {
     for (size_t i = 0; i < count; i++) judge_course(&courses[i]);
-    printf("\n| lines | how many | bytes a line | `Entry::parse`, ns | `ck_parse`, ns | times as fast | `ck_parse_lenient`, ns | times as fast |\n"
-           "|---|---|---|---|---|---|---|---|\n");
+    printf("\n| lines | how many | bytes a line | `Entry::parse`, ns | `ck_parse`, ns | times as fast | `ck_parse_lenient`, ns | times as fast | "
+           "by hand, ns | times as fast |\n|---|---|---|---|---|---|---|---|---|---|\n");
     for (size_t i = 0; i < count; i++) {
         race(courses[i].parts, courses[i].count, ROUNDS, 1);
         print_course(&courses[i]);
@@ -154,26 +183,29 @@ static size_t only(const size_t *often) {
 }
 
 /* A hostile line at its full length and at half of it, for which a time that grows as the line does is half. */
-static void one_hostile(size_t i, double *plain) {
+static void one_hostile(size_t i, double *ordinary) {
     part both[] = {part_of(hostile_line(i, LONGEST)), part_of(hostile_line(i, HALF))};
     size_t strict[NUMBERS] = {0}, lenient[NUMBERS] = {0}, half[NUMBERS] = {0};
     judge(hostile[i].name, &both[0].of, strict, lenient);
     judge(hostile[i].name, &both[1].of, half, half);
     race(both, 2, HOSTILE_ROUNDS, REPEATS);
     const double *best = both[0].best, *halved = both[1].best;
-    if (i == 0) *plain = best[STRICT];
+    if (i == 0) *ordinary = best[STRICT];
     printf("| %s | %s, %s | %s |", hostile[i].name, called(only(strict)), called(only(lenient)), grouped(best[RUST], 0));
-    print_ours(best[RUST], best[STRICT]);
-    printf(" %.2f | %.2f |", best[STRICT] / *plain, best[STRICT] / halved[STRICT]);
-    print_ours(best[RUST], best[LENIENT]);
-    printf(" %.2f |\n", best[LENIENT] / halved[LENIENT]);
+    print_times(best[RUST], best[STRICT]);
+    printf(" %.2f | %.2f |", best[STRICT] / *ordinary, best[STRICT] / halved[STRICT]);
+    print_times(best[RUST], best[LENIENT]);
+    printf(" %.2f |", best[LENIENT] / halved[LENIENT]);
+    print_times(best[RUST], best[PLAIN]);
+    printf(" %.2f |\n", best[PLAIN] / halved[PLAIN]);
 }
 
 static void all_hostile(void) {
-    double plain = 0;
+    double ordinary = 0;
     printf("\n| line of 4,096 bytes | strict, lenient | `Entry::parse`, ns | `ck_parse`, ns | times as fast | to the first | to 2,048 bytes | "
-           "`ck_parse_lenient`, ns | times as fast | to 2,048 bytes |\n|---|---|---|---|---|---|---|---|---|---|\n");
-    for (size_t i = 0; i < HOSTILE; i++) one_hostile(i, &plain);
+           "`ck_parse_lenient`, ns | times as fast | to 2,048 bytes | by hand, ns | times as fast | to 2,048 bytes |\n"
+           "|---|---|---|---|---|---|---|---|---|---|---|---|---|\n");
+    for (size_t i = 0; i < HOSTILE; i++) one_hostile(i, &ordinary);
 }
 
 /* The same lines with a bad piece behind the last of each one's data. */
@@ -199,7 +231,9 @@ static frames spoilt(frames f) {
 }
 
 int main(int argc, char **argv) {
-    if (argc != 4) return 2;
+    if (argc != 5) return 2;
+    /* The lines that are timed have no number near its width, and no key twice. */
+    compare("hard lines", frames_of(argv[4]));
     frames kernel = frames_of(argv[1]);
     course courses[] = {
         course_of("kernel-like", kernel),

@@ -66,14 +66,20 @@ static inline lines first_of(frames f, size_t most) {
     return l;
 }
 
-enum { RUST, STRICT, LENIENT, READERS };
+enum { RUST, STRICT, LENIENT, PLAIN, READERS };
 
 typedef ck_entry_answer call(const uint8_t *line, size_t length, uint32_t *slots, size_t count);
+
+/* What a programmer writes in Rust by hand (bench/plain), called as ours are and with the answers of ck_parse_lenient. */
+call plain_parse;
+
+/* Those that are called a line at a time. */
+static call *const calls[READERS] = {[STRICT] = ck_parse, [LENIENT] = ck_parse_lenient, [PLAIN] = plain_parse};
 
 static uint32_t slots[CK_MOST_DWORDS];
 
 /* The entries are counted so that nothing can be left out. */
-static inline uint64_t read_ours(call *one, frames f) {
+static inline uint64_t read_by(call *one, frames f) {
     uint64_t entries = 0;
     for (size_t at = 0; at < f.length;) {
         uint32_t n = frame_length(f.bytes + at);
@@ -85,7 +91,7 @@ static inline uint64_t read_ours(call *one, frames f) {
 
 /* Every line once. */
 static inline uint64_t read_all(int reader, const lines *l) {
-    return reader == RUST ? oracle_run_lines(l->rust) : read_ours(reader == STRICT ? ck_parse : ck_parse_lenient, l->in);
+    return reader == RUST ? oracle_run_lines(l->rust) : read_by(calls[reader], l->in);
 }
 
 #define HEAD "fwd-7 [002] d..1. 12.000345: tb_tx: "

@@ -1,6 +1,7 @@
 /* How much stack a call takes: each runs on a stack of its own that is painted beforehand, and the deepest byte that changed tells. A first row
- * of a call that does nothing is what the thread itself takes; the others are told without it. */
+ * of a call that does nothing is what the thread itself takes; the others are told without it. memory BOOK; prints a table. */
 #include "chomkadieu.h"
+#include "table.h"
 
 #include <pthread.h>
 #include <stdio.h>
@@ -96,6 +97,7 @@ int main(int count, char **words) {
     make_text();
     if (!all_answered()) return puts("a call is refused"), 1;
     size_t bare = deepest(nothing);
-    for (size_t i = 1; i < sizeof rows / sizeof *rows; i++) printf("%-28s %6zu bytes of stack\n", rows[i].name, deepest(rows[i].call) - bare);
+    printf("| call | bytes of stack |\n|---|---|\n");
+    for (size_t i = 1; i < sizeof rows / sizeof *rows; i++) printf("| `%s` | %s |\n", rows[i].name, grouped((double)(deepest(rows[i].call) - bare), 0));
     return 0;
 }

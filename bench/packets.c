@@ -1,5 +1,6 @@
 /* The Rust's and our reader of packets on the same packets over one book, in one process.
- * packets BOOK FRAMES: of the packets in FRAMES those that are answered count. Both give the same sum of what they answered. */
+ * packets NAME BOOK FRAMES: of the packets in FRAMES those that are answered count. Prints a row of bench/run's table under that name; ends with 1 if the
+ * two do not give the same sum of what they answered. */
 #include <stdint.h>
 #include <stdio.h>
 #include <stdlib.h>
@@ -7,6 +8,7 @@
 #include <time.h>
 
 #include "chomkadieu.h"
+#include "table.h"
 
 enum { ROUNDS = 7 };
 
@@ -89,9 +91,9 @@ static size_t keep(const uint8_t *book, size_t length, uint8_t *frames, size_t s
 }
 
 int main(int argc, char **argv) {
-    if (argc != 3) return 2;
+    if (argc != 4) return 2;
     size_t length, size;
-    uint8_t *book = read_all(argv[1], &length), *frames = read_all(argv[2], &size);
+    uint8_t *book = read_all(argv[2], &length), *frames = read_all(argv[3], &size);
     kinds = malloc(size);
     counts = malloc(4 * size);
     codes = malloc(4 * size);
@@ -101,9 +103,10 @@ int main(int argc, char **argv) {
     oracle_put_book(book, length);
     const void *made = oracle_make_packets(frames, kept);
     uint64_t theirs = oracle_run_packets(made), ours = sum_of(book, length);
-    printf("book %zu bytes, %zu packets, %.1f dwords on average, sums %s\n", length, packets, (double)total / (double)packets,
-           theirs == ours ? "equal" : "DIFFER");
-    if (theirs != ours) return 1;
+    if (theirs != ours) {
+        printf("%s: our sum is %llu, the Rust's %llu\n", argv[1], (unsigned long long)ours, (unsigned long long)theirs);
+        return 1;
+    }
     double rust = 1e30, one = 1e30, checked = 1e30, all = 1e30;
     for (int round = 0; round < ROUNDS; round++) {
         double t = now();
@@ -120,9 +123,7 @@ int main(int argc, char **argv) {
         all = t < all ? t : all;
     }
     double n = (double)packets;
-    printf("ControlPacket::parse   %8.1f ns a packet, %.2f million a second\n", rust / n, 1e3 * n / rust);
-    printf("ck_packet_all          %8.1f ns a packet, %.2f million a second, ratio %.3f\n", all / n, 1e3 * n / all, all / rust);
-    printf("ck_checked_packet      %8.1f ns a packet, %.2f million a second, ratio %.3f\n", checked / n, 1e3 * n / checked, checked / rust);
-    printf("ck_packet, check each  %8.1f ns a packet, ratio %.3f\n", one / n, one / rust);
+    printf("| %s | %s | %s, %.1f | %s ns | %s ns | %.2f | %s ns | %.2f | %s ns |\n", argv[1], grouped((double)length, 0), grouped(n, 0),
+           (double)total / n, grouped(rust / n, 0), grouped(all / n, 0), all / rust, grouped(checked / n, 0), checked / rust, grouped(one / n, 0));
     return theirs == 1 || ours == 1;
 }

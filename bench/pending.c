@@ -1,5 +1,6 @@
-/* A step over a table of requests beside the reading of its line, in one process. Ends with 1 if a step costs more than its line. */
+/* A step over a table of requests beside the reading of its line, in one process. Prints a table; ends with 1 if a step costs more than its line. */
 #include "chomkadieu.h"
+#include "table.h"
 
 #include <stdio.h>
 #include <string.h>
@@ -72,18 +73,20 @@ static const struct {
 } cases[] = {
     {"a request is turned away, 64 wait", 64, 64, 0, {1, 1}, {CK_PENDING_TURNED_AWAY, CK_PENDING_TURNED_AWAY}},
     {"a response is stray, 64 wait", 64, 64, 0, {2, 2}, {CK_PENDING_STRAY, CK_PENDING_STRAY}},
-    {"the oldest of 64 like it is answered, a request taken", 64, 64, 64, {2, 1}, {CK_PENDING_ANSWERED, CK_PENDING_TAKEN}},
-    {"the youngest of 64 is answered, a request taken", 64, 64, 1, {2, 1}, {CK_PENDING_ANSWERED, CK_PENDING_TAKEN}},
+    {"the oldest of 64 with the same four is answered, then a request taken; each", 64, 64, 64, {2, 1}, {CK_PENDING_ANSWERED, CK_PENDING_TAKEN}},
+    {"the youngest of 64 is answered, then a request taken; each", 64, 64, 1, {2, 1}, {CK_PENDING_ANSWERED, CK_PENDING_TAKEN}},
     {"another kind, 64 wait", 64, 64, 0, {7, 7}, {CK_PENDING_OTHER, CK_PENDING_OTHER}},
     {"a response is stray, 64 slots and none waits", 64, 0, 0, {2, 2}, {CK_PENDING_STRAY, CK_PENDING_STRAY}},
-    {"one of 64 slots waits and is answered, a request taken", 64, 1, 1, {2, 1}, {CK_PENDING_ANSWERED, CK_PENDING_TAKEN}},
-    {"one of 8 slots waits and is answered, a request taken", 8, 1, 1, {2, 1}, {CK_PENDING_ANSWERED, CK_PENDING_TAKEN}},
+    {"one of 64 slots waits and is answered, then a request taken; each", 64, 1, 1, {2, 1}, {CK_PENDING_ANSWERED, CK_PENDING_TAKEN}},
+    {"the same with 8 slots", 8, 1, 1, {2, 1}, {CK_PENDING_ANSWERED, CK_PENDING_TAKEN}},
 };
 
 int main(void) {
     double line = reading(REQUEST), answer = reading(RESPONSE), least = reading(SHORT), worst = 0;
-    printf("ck_parse of a request's line of %zu bytes: %.0f ns, of its response's: %.0f ns, of a short request's, %zu bytes: %.0f ns\n",
-           sizeof REQUEST - 1, line, answer, sizeof SHORT - 1, least);
+    printf("| what | ns | of its line | of the short line |\n|---|---|---|---|\n");
+    printf("| `ck_parse`, a read request of %zu bytes | %s | 1 | |\n", sizeof REQUEST - 1, grouped(line, 0));
+    printf("| `ck_parse`, its response | %s | | |\n", grouped(answer, 0));
+    printf("| `ck_parse`, a request of %zu bytes with the needed keys alone | %s | | 1 |\n", sizeof SHORT - 1, grouped(least, 0));
     ck_entry request = entry_of(REQUEST);
     for (size_t i = 0; i < sizeof cases / sizeof *cases; i++) {
         ck_entry entries[2] = {request, request};
@@ -92,8 +95,7 @@ int main(void) {
         double taken = stepping(entries, cases[i].reports, cases[i].slots);
         if (taken == 0) return printf("%s: another report\n", cases[i].name), 2;
         if (taken > worst) worst = taken;
-        printf("%-56s %6.1f ns a step, %.3f of its line, %.3f of the short one\n", cases[i].name, taken, taken / line, taken / least);
+        printf("| %s | %s | %.3f | %.3f |\n", cases[i].name, grouped(taken, 0), taken / line, taken / least);
     }
-    printf("the dearest step takes %.3f of the short line\n", worst / least);
     return line == 0 || answer == 0 || least == 0 || worst > least;
 }

@@ -1,4 +1,5 @@
-// The dwords of a bracketed value.
+// The dwords of a bracketed value. A piece as the kernel prints it, `0x` and eight digits, is read by its places. Right because no byte of it is a comma,
+// so that it ends where the next comma-space stands or the text; and a sum of entries is below 128 only where each is a digit's.
 use crate::pair::Span;
 use text::number::MAX_32;
 use text::number::Number;
@@ -23,7 +24,7 @@ pub enum Piece {
     Bad,
 }
 
-// A piece by its end and its dword, which is `OTHER` for a bad one.
+// A piece by its end and its dword; any number past 32 bits stands for a bad one.
 pub struct NextPiece {
     pub end: usize,
     pub dword: u64,
@@ -103,6 +104,7 @@ fn piece_at(inner: &[u8], t: &[u8; 256], at: usize) -> NextPiece
     }
 }
 
+// A piece as a number.
 fn dword_of(piece: Piece) -> u64
     ensures { λ r. ⌜ piece ≡ pieceFor r ⌝ }
 {
@@ -120,7 +122,7 @@ const PREFIX: u64 = 0x7830;
 
 pub const COMMA_SPACE: u64 = 0x202c;
 
-// A piece as the kernel prints it: `0x` and eight digits.
+// The dword of a piece as the kernel prints it, `0x` and eight digits, with `, ` or the end of the text behind them; `OTHER` for any other.
 fn printed(s: &[u8], t: &[u8; 256], at: usize) -> u64
     requires { ⌜ (now t ≡ table) × (at ≤ length (now s)) ⌝ }
     ensures { λ r. ⌜ (r < 4294967296 → PieceHere (now (s .entry)) at (record { end = at + 10; dword = r })) ⌝ }
@@ -142,7 +144,7 @@ fn printed(s: &[u8], t: &[u8; 256], at: usize) -> u64
     eight_digits(s, t, at + 2)
 }
 
-// The number of eight hex digits: an entry that is no digit's is 128 or more, and so is the sum then.
+// The number of eight hex digits, `OTHER` where one is none: its entry is 128 or more, and so is the sum then.
 fn eight_digits(s: &[u8], t: &[u8; 256], at: usize) -> u64
     requires { ⌜ (now t ≡ table) × (at + 8 ≤ length (now s)) ⌝ }
     ensures { λ r. ⌜ (r < 4294967296 → numberOf 16 4294967295 (take 8 (drop at (now (s .entry)))) ≡ N.Value r) ⌝ }
@@ -180,6 +182,7 @@ pub fn nth_piece(inner: &[u8], i: usize) -> Span
     }
 }
 
+// A piece is a dword where it is hex of 32 bits.
 fn read_piece(piece: &[u8]) -> Piece
     ensures { λ r. ⌜ r ≡ pieceOf (now (piece .entry)) ⌝ }
 {

@@ -20,7 +20,8 @@ pub enum DataAnswer {
     Refused(u8),
 }
 
-// All is judged before the first slot is written. Asked for: the places of the last pair of `data`, with an end of 0 where there is none.
+// The dwords wait in an array of its own, and all is judged before the first slot is written. Asked for: the places of the last pair of `data`, with an
+// end of 0 where there is none.
 pub fn read_data(
     p: &[u8],
     t: &[u8; 256],

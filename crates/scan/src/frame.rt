@@ -51,7 +51,8 @@ fn is_idle(line: &[u8]) -> bool
     false
 }
 
-// Is every byte below 128? Whole blocks of 32, and the last 32 bytes once more, so that the compiler has no odd bytes to walk behind a block.
+// Is every byte below 128? Whole blocks of 32, and the last 32 bytes once more, so that the compiler has no odd bytes to walk behind a block. Right
+// because fewer than 32 bytes lie behind the whole blocks, and the last 32 have them all. A line of fewer than two blocks is not worth the cut.
 fn none_high(s: &[u8]) -> bool
     ensures { λ r. ⌜ r ≡ isNothing (firstHigh (now (s .entry))) ⌝ }
 {
@@ -66,7 +67,8 @@ fn none_high(s: &[u8]) -> bool
     max_byte(&s[n - 32..]) < 128
 }
 
-// The largest byte: a running maximum, which the compiler makes one for sixteen bytes at a time, as it does no comparison with 128.
+// The largest byte; asked for is whether it is below 128, which is so exactly where every byte is. A running maximum is made one for sixteen bytes at
+// a time by the compiler; a comparison of each byte with 128 is not.
 fn max_byte(s: &[u8]) -> u8
     ensures { λ r. ⌜ Level (now (s .entry)) (length (now (s .entry))) r ⌝ }
 {

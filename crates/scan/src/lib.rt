@@ -67,7 +67,8 @@ fn parse_parted(line: &[u8], colon: usize, pieces: Pieces, slots: &mut [u32]) ->
     }
 }
 
-// Then the payload. The table of byte classes is made here, once a line, and lent to all that read the payload.
+// Then the payload. The table of byte classes is written out here, once a line, and lent to all that read the payload. That it is `table`, entry by
+// entry, is computed.
 fn parse_payload(
     header: &[u8],
     start: usize,

@@ -181,11 +181,6 @@ module _ (base limit from : ℕ) (s : List ℕ) where
           let here : digitOf (getD s (from + (k - from)) 0) < base = rw (← getD-drop from s (k - from) 0) d in
           lt-leb base (digitOf (getD s k 0)) (rw e at here)
 
--- no decimal number is empty
-pub none-empty : (base limit : ℕ) (s : List ℕ) → length s ≡ 0 → numberOf base limit s ≡ N.Unreadable
-unfolding numberOf
-none-empty base limit s h = rw (le-ltb 0 (length s) (omega arith))
-
 -- the answer is the relation's: sound, complete, one value
 module _ (base limit : ℕ) (s : List ℕ) where
   all-digits : (l : List ℕ) → allDigits base l ≡ true → (k : ℕ) → k < length l → digitOf (getD l k 0) < base

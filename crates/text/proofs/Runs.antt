@@ -9,8 +9,7 @@ use lib.ListN.{length, getD}
 use borrow.Author.Tests.{not-true, not-false}
 use Rattle.text.specs.declared.place.Found.{Found}
 use Rattle.text.specs.declared.place.Found.the-variants.{At, Nothing}
-use Rattle.text.specs.declared.class.Class.the-variants.{NotSpace, NotClose}
-use Rattle.text.specs.Class.{isWord, noWord, inClass, otherThan}
+use Rattle.text.specs.Class.{isWord, noWord, otherThan}
 use Rattle.text.specs.Place.{Free, isAt, lastPlace, firstByte, lastByte}
 use Rattle.text.specs.Run.{Run, RunBack, EndsAt, StartsAt, failsAt, runEnd, behind, runStart}
 use Rattle.text.proofs.Places.{by-order, Stops, first-stops, first-end, first-hit, first-miss, one-stop, last-hit-below, last-miss-below, last-zero, last-all, last-none, last-is, last-free, first-is, first-free}
@@ -194,12 +193,3 @@ module _ (s : List ℕ) {i e : ℕ} (r : EndsAt noWord s i e) where
       let z : i ≤ length s = omega (arith, r .up) in
       let q : runEnd noWord s i ≡ e = sym (r .is) in
       not-false _ (rw q at (run-is noWord s z .stops (rw q h)))
-
--- two classes are the bytes other than one
-pub not-space : inClass NotSpace ≡ otherThan 32
-unfolding inClass
-not-space = refl
-
-pub not-close : inClass NotClose ≡ otherThan 93
-unfolding inClass
-not-close = refl

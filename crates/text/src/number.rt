@@ -1,4 +1,4 @@
-// Decimal and hex numbers within a width: one reader over base and limit.
+// Decimal and hex numbers within a width: one reader over base and limit, with a loop for up to sixteen digits and one for more.
 use crate::class::is_digit;
 use crate::class::lies_between;
 use crate::place::byte_at;

@@ -65,7 +65,7 @@ fn take_pair(
     value.end
 }
 
-// The next word byte, tried first behind a comma and a space, which part the pairs that the kernel prints.
+// The next word byte, tried first behind a comma and a space, which part the pairs that the kernel prints. Right because neither is of a word.
 fn next_word(s: &[u8], t: &[u8; 256], from: usize) -> usize
     requires { ⌜ (now t ≡ table) × (from ≤ suc (length (now s))) ⌝ }
     ensures { λ r. ⌜ EndsAt noWord (now (s .entry)) from r ⌝ }

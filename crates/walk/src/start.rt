@@ -75,7 +75,7 @@ const SEVEN: u64 = 0xff_ffff_ffff_ffff;
 
 const EIGHT: u64 = 0xffff_ffff_ffff_ffff;
 
-// A word run by its end; and its key's row and form, if it is a key.
+// A word run by its end, where its `=` stands if it is a key; and the key's row and form. A key that is none of ours has the row `OTHER`.
 pub struct Start {
     pub row: usize,
     pub form: Form,
@@ -111,7 +111,8 @@ pub fn start_at(s: &[u8], t: &[u8; 256], i: usize) -> Start
     other_start(s, word_end(s, t, i))
 }
 
-// The row that a number of a name's first two bytes chooses; the first row where it chooses none, which is then compared in vain.
+// The row that a number of a name's first two bytes chooses. The last arm is `type`'s, whose own number is 13, and stands for every number that chooses
+// none, where it is compared in vain.
 fn choose(chosen: u64) -> Candidate
     ensures { λ r. ⌜ r ≡ candidateOf chosen ⌝ }
 {
@@ -132,6 +133,7 @@ fn choose(chosen: u64) -> Candidate
     }
 }
 
+// A row as it stands in a text, field by field.
 fn row_text(want: u64, mask: u64, size: usize, row: usize, form: Form) -> Candidate
     ensures { λ r. ⌜ r ≡ record { want = want; mask = mask; size = size; row = row; form = form } ⌝ }
 {
@@ -171,6 +173,7 @@ fn other_start(s: &[u8], m: usize) -> Start
     bare_start(OTHER, m)
 }
 
+// A word run of a row that reads no number.
 fn bare_start(row: usize, m: usize) -> Start
     ensures { λ r. ⌜ r ≡ record { row = row; form = Text; equals = m } ⌝ }
 {

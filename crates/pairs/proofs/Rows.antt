@@ -12,8 +12,7 @@ use Rattle.text.specs.Same.{sameText}
 use Rattle.text.proofs.Places.{clash}
 use Rattle.text.proofs.Texts.{both-left, both-right, same-refl, same-true}
 use Rattle.pairs.specs.declared.keys.Form.{Form}
-use Rattle.pairs.specs.declared.keys.Key.{Key}
-use Rattle.pairs.specs.Table.{Row, keys, rowIn, rowAt, rowTakes, keyAfter, unknown, keyNamed}
+use Rattle.pairs.specs.Table.{Key, Row, keys, rowIn, rowAt, rowTakes, keyAfter, unknown, keyNamed}
 
 -- a name stands in some row
 has : List ℕ → List Row → Bool
@@ -62,18 +61,6 @@ one-row name (q ∷ qs) o j k h l s t = go j k h l s t (λ a b x y u v. one-row 
     go zero (suc k) h l s t rest = absurd (first-alone k (omega arith) s t)
     go (suc j) zero h l s t rest = absurd (first-alone j (omega arith) t s)
     go (suc j) (suc k) h l s t rest = ap suc (rest j k (omega arith) (omega arith) s t)
-
--- the rows one by one, as code takes them
-pub data Steps (name : List ℕ) : ℕ → List Row → Key → Key → Type 0 where
-  end : {k : ℕ} {key : Key} → Steps name k [] key key
-  row : {k : ℕ} {q : Row} {qs : List Row} {key next last : Key} →
-      next ≡ rowTakes name (q .name) (record { row = k; form = q .form }) key → Steps name (suc k) qs next last →
-      Steps name k (q ∷ qs) key last
-
-pub steps-all : {name : List ℕ} {k : ℕ} {qs : List Row} {key last : Key} → Steps name k qs key last → last ≡ keyAfter name k qs key
-unfolding keyAfter
-steps-all end = refl
-steps-all {name} {k} (row {qs = qs} e rest) = steps-all rest ∙ ap (keyAfter name (suc k) qs) e
 
 -- what a name is behind rows: what it was, and no row has it; or a row that has it, by its place and form
 pub data Taken (name : List ℕ) (n : ℕ) (qs : List Row) (before after : Key) : Type 0 where

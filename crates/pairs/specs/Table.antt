@@ -7,7 +7,6 @@ use Rattle.text.specs.Quote.{bytes}
 use Rattle.text.specs.Same.{sameText}
 use Rattle.pairs.specs.declared.keys.Form.{Form}
 use Rattle.pairs.specs.declared.keys.Form.the-variants.{Text, Decimal, Hex, Dwords}
-use Rattle.pairs.specs.declared.keys.Key.{Key}
 
 -- a row: the key's name, what its value is read as, and whether a line must have it
 pub record Row : Type 0 where
@@ -47,6 +46,11 @@ rowIn qs k = getD qs k (may [] Text)
 -- a row of the table
 unfoldable pub rowAt : ℕ → Row
 rowAt k = rowIn keys k
+
+-- what a name is: its key's row, and what the key's value is read as
+pub record Key : Type 0 where
+  pub row : ℕ
+  pub form : Form
 
 -- a row takes the name that is its own; any other stays what it is
 abbrev pub rowTakes : List ℕ → List ℕ → Key → Key → Key

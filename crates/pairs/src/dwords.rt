@@ -67,7 +67,7 @@ pub fn take_dwords(inner: &[u8], t: &[u8; 256], own: &mut [u32; 256]) -> Tally
     let mut at = 0;
     loop {
         let piece = piece_at(inner, t, at);
-        if piece.dword < OTHER {
+        if piece.dword < NO_DWORD {
             if n < 256 {
                 own[n] = piece.dword as u32;
             }
@@ -91,7 +91,7 @@ fn piece_at(inner: &[u8], t: &[u8; 256], at: usize) -> NextPiece
     ensures { λ r. ⌜ PieceHere (now (inner .entry)) at r ⌝ }
 {
     let v = printed(inner, t, at);
-    if v < OTHER {
+    if v < NO_DWORD {
         return NextPiece {
             end: at + 10,
             dword: v,
@@ -110,41 +110,41 @@ fn dword_of(piece: Piece) -> u64
 {
     match piece {
         Piece::Dword(v) => v as u64,
-        Piece::Bad => OTHER,
+        Piece::Bad => NO_DWORD,
     }
 }
 
 // Stands where there is no dword.
-pub const OTHER: u64 = 0x1_0000_0000;
+const NO_DWORD: u64 = 0x1_0000_0000;
 
 // `0x` and `, ` as numbers.
 const PREFIX: u64 = 0x7830;
 
 pub const COMMA_SPACE: u64 = 0x202c;
 
-// The dword of a piece as the kernel prints it, `0x` and eight digits, with `, ` or the end of the text behind them; `OTHER` for any other.
+// The dword of a piece as the kernel prints it, `0x` and eight digits, with `, ` or the end of the text behind them; `NO_DWORD` for any other.
 fn printed(s: &[u8], t: &[u8; 256], at: usize) -> u64
     requires { ⌜ (now t ≡ table) × (at ≤ length (now s)) ⌝ }
     ensures { λ r. ⌜ (r < 4294967296 → PieceHere (now (s .entry)) at (record { end = at + 10; dword = r })) ⌝ }
 {
     if s.len() < at + 10 {
-        return OTHER;
+        return NO_DWORD;
     }
     if two(s, at) != PREFIX {
-        return OTHER;
+        return NO_DWORD;
     }
     if s.len() != at + 10 {
         if s.len() < at + 12 {
-            return OTHER;
+            return NO_DWORD;
         }
         if two(s, at + 10) != COMMA_SPACE {
-            return OTHER;
+            return NO_DWORD;
         }
     }
     eight_digits(s, t, at + 2)
 }
 
-// The number of eight hex digits, `OTHER` where one is none: its entry is 128 or more, and so is the sum then.
+// The number of eight hex digits, `NO_DWORD` where one is none: its entry is 128 or more, and so is the sum then.
 fn eight_digits(s: &[u8], t: &[u8; 256], at: usize) -> u64
     requires { ⌜ (now t ≡ table) × (at + 8 ≤ length (now s)) ⌝ }
     ensures { λ r. ⌜ (r < 4294967296 → numberOf 16 4294967295 (take 8 (drop at (now (s .entry)))) ≡ N.Value r) ⌝ }
@@ -158,7 +158,7 @@ fn eight_digits(s: &[u8], t: &[u8; 256], at: usize) -> u64
         sum += d;
     }
     if 128 <= sum {
-        return OTHER;
+        return NO_DWORD;
     }
     v
 }

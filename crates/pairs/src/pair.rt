@@ -9,8 +9,8 @@ use text::same::same;
 ghost use mathlib.Core.Path.{_≡_};
 ghost use Prim.Native.Nat.{_+_, _≤_};
 ghost use lib.ListN.{length};
-ghost use Rattle.text.specs.Class.{inClass};
-ghost use Rattle.text.specs.Run.{runStart};
+ghost use Rattle.text.specs.Class.{inClass, isWord};
+ghost use Rattle.text.specs.Run.{runEnd, runStart};
 ghost use Rattle.text.specs.declared.class.Class.the-variants.{NotClose};
 ghost use Rattle.pairs.specs.Pair.{bracketEnd, valueEnd, pairWith, NextPair, ValueAt};
 
@@ -58,7 +58,7 @@ pub fn last_pair(s: &[u8], key: &[u8]) -> Span
 
 // The first pair from a place on. A try that fails fails from every byte of its word run, and none starts at the byte behind it, so the
 // search goes on behind that: a word run costs no more than its length. Asked for: where no `]` stands any more, found once a walk.
-pub fn next_before(s: &[u8], from: usize, tail: usize) -> Pair
+fn next_before(s: &[u8], from: usize, tail: usize) -> Pair
     requires { ⌜ tail ≡ runStart (inClass NotClose) (now s) ⌝ }
     ensures { λ r. ⌜ NextPair (now (s .entry)) from r ⌝ }
 {
@@ -87,7 +87,8 @@ fn try_at(s: &[u8], i: usize, m: usize, tail: usize) -> Pair
     if byte_at(s, m) != b'=' {
         return Pair::Miss;
     }
-    match value_end(s, m + 1, tail) {
+    let v = m + 1;
+    match value_end(s, v, run_end(s, Class::Word, v), tail) {
         Found::At(e) => Pair::Hit {
             key: i,
             equals: m,
@@ -97,13 +98,12 @@ fn try_at(s: &[u8], i: usize, m: usize, tail: usize) -> Pair
     }
 }
 
-// Where the value from v on ends: a word run, or brackets. No `]` stands from `tail` on, so a `[` there is given up at once, and many
-// of them cost no more than one.
-fn value_end(s: &[u8], v: usize, tail: usize) -> Found
-    requires { ⌜ (v ≤ length (now s) + 1) × (tail ≡ runStart (inClass NotClose) (now s)) ⌝ }
+// Where the value from v on ends, whose word run ends at e: there if the run has a byte, else with its brackets. No `]` stands from `tail` on, so a `[`
+// there is given up at once, and many of them cost no more than one.
+pub fn value_end(s: &[u8], v: usize, e: usize, tail: usize) -> Found
+    requires { ⌜ (e ≡ runEnd isWord (now s) v) × (tail ≡ runStart (inClass NotClose) (now s)) ⌝ }
     ensures { λ r. ⌜ r ≡ valueEnd (now (s .entry)) v ⌝ }
 {
-    let e = run_end(s, Class::Word, v);
     if v < e {
         return Found::At(e);
     }
@@ -114,7 +114,7 @@ fn value_end(s: &[u8], v: usize, tail: usize) -> Found
 }
 
 // `[`, one or more bytes other than `]`, `]`.
-pub fn bracket_end(s: &[u8], v: usize) -> Found
+fn bracket_end(s: &[u8], v: usize) -> Found
     ensures { λ r. ⌜ r ≡ bracketEnd (now (s .entry)) v ⌝ }
 {
     if byte_at(s, v) != b'[' {

@@ -9,6 +9,7 @@ pub mod Words
 pub mod Numbers
 pub mod Entries
 pub mod FewDigits
+pub mod DigitRuns
 pub mod Hexes
 pub mod Decimals
 pub mod Told

@@ -5,12 +5,12 @@ use mathlib.Core.Bool.{Bool, true, false, _&&_}
 use mathlib.Core.List.{List, [], _∷_}
 use native.Mathlib.Omega.{arith}
 use native.Mathlib.Numerals.{add-one}
-use native.Mathlib.Nat.{pow-suc, mul-assoc, mul-comm, mul-le-mul-left}
+use native.Mathlib.Nat.{pow-suc, pow-le-pow-right, mul-assoc, mul-comm, mul-le-mul-left}
 use lib.Dec.{eqb, ltb}
 use lib.Arith.{digits-mod}
 use lib.Pow.{pow-add}
 use lib.Bits.{bitAnd, and-mask}
-use lib.ListN.{length, getD, take, drop}
+use lib.ListN.{length, getD, take, drop, drop-of-length-le, List·getD-eq-default}
 use lib.Seq.{drop-cons}
 use borrow.Author.Tests.{eq-eqb, ne-eqb, eqb-true, ltb-true}
 use Rattle.text.specs.Same.{sameText}
@@ -68,6 +68,49 @@ module _ (s : List ℕ) where
       turned : wordAt m s i + 256 ^ m * wordAt n s (i + m) ≡ wordAt n s (i + m) * 256 ^ m + wordAt m s i
       turned = let e = mul-comm (256 ^ m) (wordAt n s (i + m)) in omega (arith, e)
 
+  -- the bytes from j on make w, with those that are missing from the eight of i as 0
+  pub record FewTo (i w j : ℕ) : Type 0 where
+    pub from : i ≤ j
+    pub within : j ≤ length s
+    pub near : length s < i + 8
+    pub word : Word (i + 8 - j) s j w
+
+  past-end : (n j : ℕ) → length s ≤ j → wordAt n s j ≡ 0
+  unfolding wordAt
+  past-end zero j h = refl
+  past-end (suc n) j h = omega (arith, List·getD-eq-default s 0 {n = j} h, past-end n (suc j) (omega arith))
+
+  pub few-starts : {i : ℕ} → i ≤ length s → length s < i + 8 → FewTo i 0 (length s)
+  few-starts {i} a b =
+      record {
+        from = a;
+        within = omega arith;
+        near = b;
+        word = record { is = sym (past-end (i + 8 - length s) (length s) (omega arith)); bytes = λ k h. omega (arith, List·getD-eq-default s 0 {n = length s + k} (omega arith)) };
+      }
+
+  -- one byte more stays within 64 bits
+  pub few-fits : {i w j : ℕ} (b : ℕ) → FewTo i w j → i < j → b < 256 → 256 * w + b < 18446744073709551616
+  few-fits {i} {w} {j} b r h l =
+      let small : w < 256 ^ (i + 8 - j) = rw (r .word .is) (word-below (i + 8 - j) j (r .word .bytes)) in
+      let p : 256 ^ (i + 8 - j) ≤ 256 ^ 7 = pow-le-pow-right {n = 256} (omega arith) {i = i + 8 - j} {j = 7} (omega arith) in
+      omega (arith, small, p)
+
+  pub few-steps : {i w j b : ℕ} → FewTo i w j → i < j → b ≡ getD s (j - 1) 0 → b < 256 → FewTo i (256 * w + b) (j - 1)
+  few-steps {i} {w} {j} {b} r h e l =
+      let z : j - 1 + 1 ≡ j = omega arith in
+      let q : i + 8 - j + 1 ≡ i + 8 - (j - 1) = omega (arith, r .within, r .near) in
+      let x : Word (i + 8 - j + 1) s (j - 1) (b + 256 ^ 1 * w) = word-join (i + 8 - j) 1 (word-one e l) (rw z (r .word)) in
+      let y : b + 256 ^ 1 * w ≡ 256 * w + b = omega arith in
+      record { from = omega arith; within = omega (arith, r .within); near = r .near; word = rw (q, y) at x }
+
+  pub few-all : {i w j : ℕ} → FewTo i w j → j ≤ i → Word 8 s i w
+  few-all {i} {w} {j} r h =
+      let e : j ≡ i = omega (arith, r .from) in
+      let q : i + 8 - j ≡ 8 = omega arith in
+      let z : i + 8 - i ≡ 8 = omega arith in
+      rw z at (rw e at (r .word))
+
 -- 256^m is a power of two
 power-two : (m : ℕ) → 256 ^ m ≡ 2 ^ (8 * m)
 power-two zero = refl
@@ -79,6 +122,26 @@ pub mask-tells : (s : List ℕ) (m : ℕ) {i w mask : ℕ} → m ≤ 8 → Word 
 mask-tells s m {i} {w} {mask} h x e =
     let q : 8 ≡ 8 - m + m = omega arith in
     rw e (masked s (8 - m) m (8 * m) (rw q at x) (power-two m))
+
+-- the first two bytes of a word
+pub first-two : (s : List ℕ) (n : ℕ) {i w : ℕ} → Word (suc (suc n)) s i w → w % 256 + w / 256 % 256 ≡ getD s i 0 + getD s (i + 1) 0
+unfolding wordAt
+first-two s n {i} {w} x =
+    let z : i + 0 ≡ i = omega arith in
+    let y : i + 1 ≡ suc i = omega arith in
+    let a : getD s i 0 < 256 = rw z at (x .bytes 0 (omega arith)) in
+    let b : getD s (suc i) 0 < 256 = rw y at (x .bytes 1 (omega arith)) in
+    let e : w ≡ getD s i 0 + 256 * (getD s (suc i) 0 + 256 * wordAt n s (suc (suc i))) = x .is in
+    rw y (omega (arith, a, b, e))
+
+-- a word of two bytes that is a text's number is the text's bytes
+pub two-are : (s : List ℕ) (i : ℕ) {w a b : ℕ} → Word 2 s i w → a < 256 → w ≡ wordOf (a ∷ b ∷ []) → (getD s i 0 ≡ a) × (getD s (i + 1) 0 ≡ b)
+unfolding wordAt wordOf
+two-are s i {w} r h e =
+    let z : i + 0 ≡ i = omega arith in
+    let x : getD s i 0 < 256 = rw z at (r .bytes 0 (omega arith)) in
+    let q : w ≡ getD s i 0 + 256 * (getD s (suc i) 0 + 256 * 0) = r .is in
+    (omega (arith, x, q), rw add-one (omega (arith, x, q)))
 
 -- one digit of two numbers
 split : (a x u v : ℕ) → a < 256 → x < 256 → eqb (a + 256 * u) (x + 256 * v) ≡ (eqb a x && eqb u v)
@@ -93,20 +156,40 @@ split a x u v h l =
         (λ y. eq-eqb (a + 256 * u) (x + 256 * v) (omega arith) ∙ sym (eq-eqb u v y))
         (λ y. ne-eqb (a + 256 * u) (x + 256 * v) (λ e. absurd (omega arith)) ∙ sym (ne-eqb u v (λ e. absurd (omega arith))))
 
--- every byte is below 256
-abbrev pub allBytes : List ℕ → Bool
-allBytes [] = true
-allBytes (b ∷ s) = ltb b 256 && allBytes s
+-- every byte is one of 1 to 255
+abbrev pub fullBytes : List ℕ → Bool
+fullBytes [] = true
+fullBytes (b ∷ s) = ltb 0 b && ltb b 256 && fullBytes s
 
--- equal numbers are equal texts
-pub same-word : (key s : List ℕ) (i : ℕ) → allBytes key ≡ true → i + length key ≤ length s → ((k : ℕ) → k < length key → getD s (i + k) 0 < 256) → eqb (wordAt (length key) s i) (wordOf key) ≡ sameText (take (length key) (drop i s)) key
+-- equal numbers are equal texts: past the end of s all bytes are 0, and none of the key's is
+pub same-word : (key s : List ℕ) (i : ℕ) → fullBytes key ≡ true → ((k : ℕ) → k < length key → getD s (i + k) 0 < 256) → eqb (wordAt (length key) s i) (wordOf key) ≡ sameText (take (length key) (drop i s)) key
 unfolding wordAt wordOf sameText
-same-word [] s i a h f = eq-eqb 0 0 refl
-same-word (x ∷ key) s i a h f =
-    let z : i + 0 ≡ i = omega arith in
-    let b : getD s i 0 < 256 = rw z at (f 0 (omega arith)) in
-    let l : x < 256 = ltb-true x 256 (both-left _ _ a) in
-    rw (drop-cons s i 0 (omega arith))
-    (split (getD s i 0) x (wordAt (length key) s (suc i)) (wordOf key) b l
-    ∙ ap (λ (y : Bool). eqb (getD s i 0) x && y)
-    (same-word key s (suc i) (both-right (ltb x 256) _ a) (omega arith) (λ k g. let e : suc i + k ≡ i + suc k = omega arith in rw e (f (suc k) (omega arith)))))
+same-word [] s i a f = eq-eqb 0 0 refl
+same-word (x ∷ key) s i a f =
+    by-order i (length s)
+    (within (same-word key s (suc i) (both-right (ltb 0 x && ltb x 256) _ a) (λ k g. let e : suc i + k ≡ i + suc k = omega arith in rw e (f (suc k) (omega arith)))))
+    (λ e. past (omega arith))
+    (λ l. past (omega arith))
+  where
+    front : (ltb 0 x && ltb x 256) ≡ true
+    front = both-left _ _ a
+
+    above : 0 < x
+    above = ltb-true 0 x (both-left _ _ front)
+
+    below : x < 256
+    below = ltb-true x 256 (both-right (ltb 0 x) _ front)
+
+    here : getD s i 0 < 256
+    here = let z : i + 0 ≡ i = omega arith in rw z at (f 0 (omega arith))
+
+    apart : eqb (wordAt (suc (length key)) s i) (wordOf (x ∷ key)) ≡ (eqb (getD s i 0) x && eqb (wordAt (length key) s (suc i)) (wordOf key))
+    apart = split (getD s i 0) x (wordAt (length key) s (suc i)) (wordOf key) here below
+
+    within : eqb (wordAt (length key) s (suc i)) (wordOf key) ≡ sameText (take (length key) (drop (suc i) s)) key → i < length s → eqb (wordAt (suc (length key)) s i) (wordOf (x ∷ key)) ≡ sameText (take (suc (length key)) (drop i s)) (x ∷ key)
+    within rest h = rw (drop-cons s i 0 h) (apart ∙ ap (λ (y : Bool). eqb (getD s i 0) x && y) rest)
+
+    past : length s ≤ i → eqb (wordAt (suc (length key)) s i) (wordOf (x ∷ key)) ≡ sameText (take (suc (length key)) (drop i s)) (x ∷ key)
+    past h =
+        let none : eqb (getD s i 0) x ≡ false = ne-eqb (getD s i 0) x (λ e. absurd (omega (arith, above, List·getD-eq-default s 0 {n = i} h))) in
+        rw (drop-of-length-le s h) (apart ∙ rw none)

@@ -1,10 +1,14 @@
 // Decimal and hex numbers within a width: one reader over base and limit, with a loop for up to sixteen digits and one for more.
+use crate::class::Class;
 use crate::class::is_digit;
 use crate::class::lies_between;
 use crate::place::byte_at;
+use crate::run::run_end;
 ghost use mathlib.Core.Path.{_≡_};
-ghost use Prim.Native.Nat.{_≤_, _<_, _+_};
-ghost use lib.ListN.{length};
+ghost use Prim.Native.Nat.{_≤_, _<_, _+_, _-_};
+ghost use lib.ListN.{length, take, drop};
+ghost use Rattle.text.specs.Class.{isDigit};
+ghost use Rattle.text.specs.Run.{runEnd};
 ghost use Rattle.text.specs.Number.{digitOf, numberOf, readingOf, reasonOf, digitsFrom, hexOf, readValue};
 
 // The largest value of each width.
@@ -41,6 +45,34 @@ pub fn decimal(s: &[u8], limit: u64) -> Number
     read(s, 0, 10, limit)
 }
 
+// The whole digit run from a place on, read as decimal: digit by digit while its end is sought; past so many digits the run is read again.
+pub fn leading(s: &[u8], from: usize, limit: u64) -> Number
+    requires { ⌜ from ≤ length (now s) ⌝ }
+    ensures { λ r. ⌜ r ≡ numberOf 10 limit (take (runEnd isDigit (now (s .entry)) from - from) (drop from (now (s .entry)))) ⌝ }
+{
+    let mut v: u64 = 0;
+    let mut i = from;
+    while i < s.len() {
+        let d = digit_in(s[i], 10);
+        if 10 <= d {
+            break;
+        }
+        if SHORT <= i - from {
+            let end = run_end(s, Class::Digit, from);
+            return decimal(&s[from..end], limit);
+        }
+        v = v * 10 + d;
+        i += 1;
+    }
+    if i == from {
+        return Number::Unreadable;
+    }
+    if limit < v {
+        return Number::Unreadable;
+    }
+    Number::Value(v)
+}
+
 // `0x` at most once, then one or more digits of either case, of value at most the limit. A bad digit's place counts the `0x`.
 pub fn hex(s: &[u8], limit: u64) -> Reading
     ensures { λ r. ⌜ r ≡ hexOf limit (now (s .entry)) ⌝ }
@@ -65,7 +97,7 @@ pub fn value_of(reading: Reading) -> Number
 }
 
 // Behind a leading `0x`, else the start.
-fn digits_from(s: &[u8]) -> usize
+pub fn digits_from(s: &[u8]) -> usize
     ensures { λ r. ⌜ r ≡ digitsFrom (now (s .entry)) ⌝ }
 {
     if byte_at(s, 0) != b'0' {
@@ -99,7 +131,7 @@ fn read_short(s: &[u8], from: usize, base: u64, limit: u64) -> Number
     let mut v: u64 = 0;
     let mut i = from;
     while i < s.len() {
-        let d = digit_of(s[i], base);
+        let d = digit_in(s[i], base);
         if base <= d {
             return Number::Unreadable;
         }
@@ -156,7 +188,7 @@ fn reason(s: &[u8], from: usize, base: u64) -> Reading
 }
 
 // The value of a digit of the base; some number that is not below the base for any other byte. No letter is looked for in a base up to 10.
-fn digit_of(b: u8, base: u64) -> u64
+fn digit_in(b: u8, base: u64) -> u64
     ensures { λ r. ⌜ (r < base → r ≡ digitOf b) × (base ≤ r → base ≤ digitOf b) ⌝ }
 {
     if is_digit(b) {

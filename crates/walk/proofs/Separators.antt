@@ -7,9 +7,11 @@ use native.Mathlib.Omega.{arith}
 use lib.ListN.{length, getD}
 use Rattle.text.specs.Class.{between, isLetter, isDigit, isWord, noWord}
 use Rattle.text.specs.Run.{Run, runEnd, EndsAt}
-use Rattle.text.specs.Word.{wordAt, Word}
+use Rattle.text.specs.Word.{Word}
 use Rattle.text.proofs.Places.{by-order}
 use Rattle.text.proofs.Runs.{run-all}
+use Rattle.text.proofs.Words.{two-are}
+use Rattle.pairs.proofs.Printed.{comma-space-number}
 
 comma-is-no-word : noWord 44 ≡ true
 unfolding isWord isLetter isDigit between
@@ -20,15 +22,8 @@ unfolding isWord isLetter isDigit between
 space-is-no-word = refl
 
 module _ (s : List ℕ) (from : ℕ) (w : Word 2 s from 0x202c) where
-  first-byte : (getD s from 0 ≡ 44) × (getD s (from + 1) 0 ≡ 32)
-  unfolding wordAt
-  first-byte =
-      let a : from + 0 ≡ from = omega arith in
-      let c : from + 1 ≡ suc from = omega arith in
-      let x : getD s from 0 < 256 = rw a at (w .bytes 0 (omega arith)) in
-      let y : getD s (suc from) 0 < 256 = rw c at (w .bytes 1 (omega arith)) in
-      let i : 0x202c ≡ getD s from 0 + 256 * (getD s (suc from) 0 + 256 * 0) = w .is in
-      (omega arith, rw c (omega arith))
+  two-bytes : (getD s from 0 ≡ 44) × (getD s (from + 1) 0 ≡ 32)
+  two-bytes = two-are s from w (omega arith) comma-space-number
 
   pub behind-comma-space : from + 2 < length s → isWord (getD s (from + 2) 0) ≡ true → EndsAt noWord s from (from + 2)
   behind-comma-space h t =
@@ -40,6 +35,6 @@ module _ (s : List ℕ) (from : ℕ) (w : Word 2 s from 0x202c) where
     where
       no-word : (k : ℕ) → from ≤ k → k < from + 2 → noWord (getD s k 0) ≡ true
       no-word k a b =
-          by-order k (from + 1) (λ l. let e : k ≡ from = omega arith in rw (e, first-byte .0) comma-is-no-word)
-          (λ e. rw (e, first-byte .1) space-is-no-word)
+          by-order k (from + 1) (λ l. let e : k ≡ from = omega arith in rw (e, two-bytes .0) comma-is-no-word)
+          (λ e. rw (e, two-bytes .1) space-is-no-word)
           (λ l. absurd (omega arith))

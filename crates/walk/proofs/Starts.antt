@@ -6,22 +6,21 @@ use mathlib.Core.Bool.{Bool, true, false, cond, _&&_}
 use mathlib.Core.List.{List, [], _∷_, _++_}
 use native.Mathlib.Omega.{arith}
 use lib.Dec.{eqb, ltb}
-use lib.ListN.{length, getD, take, drop, length-append, length-drop}
+use lib.ListN.{length, getD, take, drop, length-append, length-take, length-drop}
 use lib.Seq.{getD-take, getD-drop, getD-append-seam, take-take, take-append-seam, take-suc, length-take-le}
 use borrow.Author.Tests.{ne-eqb, eq-eqb, eqb-true, eqb-false, ltb-true}
 use Rattle.text.specs.Class.{isWord, isLetter, isDigit, between}
 use Rattle.text.specs.Quote.{bytes}
 use Rattle.text.specs.Run.{Run, EndsAt}
 use Rattle.text.specs.Same.{sameText}
-use Rattle.text.specs.Word.{wordAt, wordOf}
-use Rattle.text.proofs.Places.{by-order, clash}
+use Rattle.text.specs.Word.{Word, wordAt, wordOf}
+use Rattle.text.proofs.Places.{by-order, clash, stands-within}
 use Rattle.text.proofs.Runs.{run-all, ends-at}
 use Rattle.text.proofs.Texts.{both-left, both-right, same-refl, same-true}
-use Rattle.text.proofs.Words.{allBytes, same-word}
+use Rattle.text.proofs.Words.{fullBytes, same-word}
 use Rattle.pairs.specs.declared.keys.Form.the-variants.{Text}
-use Rattle.pairs.specs.declared.keys.Key.{Key}
 use Rattle.pairs.specs.Pair.{part}
-use Rattle.pairs.specs.Table.{Row, keys, rowIn, rowAt, keyNamed, unknown}
+use Rattle.pairs.specs.Table.{Key, Row, keys, rowIn, rowAt, keyNamed, unknown}
 use Rattle.pairs.proofs.Rows.{key-same, key-within, key-none, key-parts, key-own}
 use Rattle.walk.specs.declared.start.Candidate.{Candidate}
 use Rattle.walk.specs.Start.{chosenAt, withEquals, candidateFor, candidateAfter, candidateOf, otherStart, Started}
@@ -71,7 +70,7 @@ all-word (b ∷ s) e (suc k) h = all-word s (both-right (isWord b) _ e) k (omega
 fitting : ℕ → Row → Bool
 fitting k q =
     eqb (candidateOf (chosenAt (q .name) 0) .row) k
-    && (ltb 1 (length (q .name)) && (ltb (length (q .name)) 8 && (allWord (q .name) && allBytes (withEquals (q .name)))))
+    && (ltb 1 (length (q .name)) && (ltb (length (q .name)) 8 && (allWord (q .name) && fullBytes (withEquals (q .name)))))
 
 -- the one test that the table must pass
 keys-fit : each fitting 0 keys ≡ true
@@ -88,7 +87,7 @@ record Fits (k : ℕ) : Type 0 where
   two : 1 < length (rowAt k .name)
   seven : length (rowAt k .name) < 8
   words : allWord (rowAt k .name) ≡ true
-  bytes : allBytes (withEquals (rowAt k .name)) ≡ true
+  bytes : fullBytes (withEquals (rowAt k .name)) ≡ true
 
 row-fits : (k : ℕ) → k < length keys → Fits k
 unfolding fitting rowAt
@@ -173,11 +172,11 @@ byte-of name s i k e h =
 
 -- a word run that is no key of ours, by the byte behind it
 module _ (s : List ℕ) (m : ℕ) where
-  pub other-bare : (getD s m 0 ≡ 61 → ⊥) → otherStart s m ≡ record { row = suc (length keys); form = Text; equals = m }
+  pub other-bare : (getD s m 0 ≡ 61 → ⊥) → otherStart s m ≡ record { row = suc (length keys); form = Text; end = m }
   unfolding otherStart
   other-bare n = rw (ne-eqb (getD s m 0) 61 n)
 
-  pub other-key : getD s m 0 ≡ 61 → otherStart s m ≡ record { row = length keys; form = Text; equals = m }
+  pub other-key : getD s m 0 ≡ 61 → otherStart s m ≡ record { row = length keys; form = Text; end = m }
   unfolding otherStart
   other-key e = rw (eq-eqb (getD s m 0) 61 e)
 
@@ -197,7 +196,7 @@ mask-is o = ap (λ (x : Candidate). x .mask) (o .is) ∙ sym (ap (λ (x : Candid
 -- a word run that ends at m
 module _ (s : List ℕ) (i m : ℕ) (ends : EndsAt isWord s i m) where
   -- no key, where no `=` follows
-  pub bare-word : (getD s m 0 ≡ 61 → ⊥) → Started s i (record { row = suc (length keys); form = Text; equals = m })
+  pub bare-word : (getD s m 0 ≡ 61 → ⊥) → Started s i (record { row = suc (length keys); form = Text; end = m })
   bare-word n =
       record {
         ends = ends;
@@ -209,7 +208,7 @@ module _ (s : List ℕ) (i m : ℕ) (ends : EndsAt isWord s i m) where
 
   -- what its text is in the table, where one does
   pub key-word : {key : Key} → key ≡ keyNamed (part s i m) → getD s m 0 ≡ 61 →
-      Started s i (record { row = key .row; form = key .form; equals = m })
+      Started s i (record { row = key .row; form = key .form; end = m })
   key-word {key} e sign =
       let within : key .row ≤ length keys = rw e (key-within (part s i m)) in
       record {
@@ -220,23 +219,24 @@ module _ (s : List ℕ) (i m : ℕ) (ends : EndsAt isWord s i m) where
         named = λ h. sym e ∙ key-parts key refl refl;
       }
 
-module _ (s : List ℕ) (i : ℕ) (room : i + 8 ≤ length s) (small : (k : ℕ) → getD s k 0 < 256) where
+module _ (s : List ℕ) (i : ℕ) (here : i < length s) {w : ℕ} (eight : Word 8 s i w) where
   -- the number of a row's text tells whether that text stands at i
   told : (j : ℕ) → j < length keys → eqb (wordAt (suc (length (rowAt j .name))) s i) (wordOf (withEquals (rowAt j .name)))
       ≡ sameText (take (suc (length (rowAt j .name))) (drop i s)) (withEquals (rowAt j .name))
   told j inside =
       let q : length (withEquals (rowAt j .name)) ≡ suc (length (rowAt j .name)) = length-append (rowAt j .name) (61 ∷ []) ∙ omega arith in
       rw q at
-      (same-word (withEquals (rowAt j .name)) s i (row-fits j inside .bytes) (omega (arith, q, row-fits j inside .seven))
-      (λ k h. small (i + k)))
+      (same-word (withEquals (rowAt j .name)) s i (row-fits j inside .bytes) (λ k h. eight .bytes k (omega (arith, h, q, row-fits j inside .seven))))
 
   -- where it stands, the word run is the row's name
   hit : (j : ℕ) → j < length keys → eqb (wordAt (suc (length (rowAt j .name))) s i) (wordOf (withEquals (rowAt j .name))) ≡ true →
-      Started s i (record { row = j; form = rowAt j .form; equals = i + length (rowAt j .name) })
+      Started s i (record { row = j; form = rowAt j .form; end = i + length (rowAt j .name) })
   hit j inside t =
       let fit = row-fits j inside in
-      let within : i + length (rowAt j .name) < length s = omega (arith, fit .seven) in
       let text = same-true _ _ (sym (told j inside) ∙ t) in
+      let size : length (withEquals (rowAt j .name)) ≡ suc (length (rowAt j .name)) = length-append (rowAt j .name) (61 ∷ []) ∙ omega arith in
+      let long = sym (length-take (suc (length (rowAt j .name))) (drop i s)) ∙ ap length text ∙ size in
+      let within : i + length (rowAt j .name) < length s = omega (arith, long, length-drop i s) in
       let there = without-byte (rowAt j .name) 61 s i within text in
       let sign = byte-behind (rowAt j .name) 61 s i within text in
       let run : Run isWord s i (i + length (rowAt j .name)) =
@@ -259,12 +259,12 @@ module _ (s : List ℕ) (i : ℕ) (room : i + 8 ≤ length s) (small : (k : ℕ)
           rw e (all-word (rowAt j .name) all (k - i) (omega arith))
 
   pub hit-is : {c : Candidate} → OfRow c → eqb (wordAt (c .size) s i) (c .want) ≡ true →
-      Started s i (record { row = c .row; form = c .form; equals = i + c .size - 1 })
+      Started s i (record { row = c .row; form = c .form; end = i + c .size - 1 })
   unfolding candidateFor
   hit-is {c} o t = go (c .row) (o .within) (o .is)
     where
       go : (j : ℕ) → j < length keys → c ≡ candidateFor j (rowAt j) →
-          Started s i (record { row = c .row; form = c .form; equals = i + c .size - 1 })
+          Started s i (record { row = c .row; form = c .form; end = i + c .size - 1 })
       go j inside e =
           let z : i + suc (length (rowAt j .name)) - 1 ≡ i + length (rowAt j .name) = omega arith in
           rw (e, z) (hit j inside (rw e at t))
@@ -285,7 +285,7 @@ module _ (s : List ℕ) (i : ℕ) (room : i + 8 ≤ length s) (small : (k : ℕ)
       let row : candidateOf (chosenAt s i) .row ≡ k = ap (λ (n : ℕ). candidateOf n .row) chosen ∙ fit .own in
       let is : candidateOf (chosenAt s i) ≡ candidateFor k (rowAt k) =
       chosen-is (chosenAt s i) .is ∙ ap (λ (x : ℕ). candidateFor x (rowAt x)) row in
-      let text = with-byte (rowAt k .name) 61 s i (omega (arith, fit .seven)) there (rw place sign) in
+      let text = with-byte (rowAt k .name) 61 s i (omega (arith, place, stands-within s m (λ z. absurd (omega (arith, sign, z))))) there (rw place sign) in
       rw is (told k inside ∙ rw text (same-refl (withEquals (rowAt k .name))))
 
   -- where the chosen row's text does not stand, the word run is no row's name
@@ -310,6 +310,6 @@ module _ (s : List ℕ) (i : ℕ) (room : i + 8 ≤ length s) (small : (k : ℕ)
           (λ h. omega arith))
 
       go : (b : Bool) → eqb (getD s m 0) 61 ≡ b →
-          Started s i (record { row = cond b (length keys) (suc (length keys)); form = Text; equals = m })
+          Started s i (record { row = cond b (length keys) (suc (length keys)); form = Text; end = m })
       go true t = key-word s i m ends (sym (named (eqb-true _ _ t))) (eqb-true _ _ t)
       go false t = bare-word s i m ends (eqb-false _ _ t)

@@ -43,37 +43,37 @@ module _ (s : List ℕ) (form : Form) (v : ℕ) {r : Value} (is : r ≡ valueOf 
 
 module _ (s : List ℕ) (i : ℕ) {start : Start} (b : Started s i start) (in-text : i < length s) (word : isWord (getD s i 0) ≡ true) where
   -- the word run is not empty and ends within the text
-  run-in : start .equals ≤ length s
+  run-in : start .end ≤ length s
   run-in = omega (arith, b .ends .within)
 
-  run-some : i < start .equals
+  run-some : i < start .end
   run-some =
-      by-order i (start .equals) (λ h. h) (λ e. absurd (clash word (stops e))) (λ h. absurd (omega (arith, b .ends .up)))
+      by-order i (start .end) (λ h. h) (λ e. absurd (clash word (stops e))) (λ h. absurd (omega (arith, b .ends .up)))
     where
-      stops : i ≡ start .equals → isWord (getD s i 0) ≡ false
+      stops : i ≡ start .end → isWord (getD s i 0) ≡ false
       stops e =
           let r = run-is isWord s {i = i} (omega arith) in
           let q : runEnd isWord s i ≡ i = sym (b .ends .is) ∙ sym e in
           rw q at (r .stops (rw q in-text))
 
   -- behind the word run a step passes over it
-  pub step-on : i < start .equals + 1
+  pub step-on : i < start .end + 1
   step-on = omega (arith, run-some)
 
-  pub step-in : start .equals + 1 ≤ suc (length s)
+  pub step-in : start .end + 1 ≤ suc (length s)
   step-in = omega (arith, run-in)
 
-  passes : {values ends : List ℕ} → pairWith s i (start .equals) ≡ Miss → Step s i values ends values ends (start .equals + 1)
+  passes : {values ends : List ℕ} → pairWith s i (start .end) ≡ Miss → Step s i values ends values ends (start .end + 1)
   passes q =
       record {
         on = step-on;
         within = step-in;
         stepped =
-            Stepped.passed (λ k l h. miss-within s i (start .equals) (omega arith) (b .ends .is) q k l (omega arith)) refl refl;
+            Stepped.passed (λ k l h. miss-within s i (start .end) (omega arith) (b .ends .is) q k l (omega arith)) refl refl;
       }
 
-  pub step-keyless : {values ends : List ℕ} → start .row ≡ suc (length keys) → Step s i values ends values ends (start .equals + 1)
-  step-keyless e = passes (try-unequal s i (start .equals) run-some (b .no-key e))
+  pub step-keyless : {values ends : List ℕ} → start .row ≡ suc (length keys) → Step s i values ends values ends (start .end + 1)
+  step-keyless e = passes (try-unequal s i (start .end) run-some (b .no-key e))
 
   module _ (keyed : start .row ≡ suc (length keys) → ⊥) where
     row-in : start .row < suc (length keys)
@@ -83,26 +83,26 @@ module _ (s : List ℕ) (i : ℕ) {start : Start} (b : Started s i start) (in-te
     pub step-fits : start .row < suc (length keys)
     step-fits = row-in
 
-    pub value-from : start .equals + 1 ≤ length s
-    value-from = by-order (start .equals) (length s) (λ h. omega arith) (λ h. absurd (past (omega arith))) (λ h. absurd (past (omega arith)))
+    pub value-from : start .end + 1 ≤ length s
+    value-from = by-order (start .end) (length s) (λ h. omega arith) (λ h. absurd (past (omega arith))) (λ h. absurd (past (omega arith)))
       where
-        past : length s ≤ start .equals → ⊥
-        past h = omega (arith, b .sign row-in, lib.ListN.List·getD-eq-default s 0 {n = start .equals} h)
+        past : length s ≤ start .end → ⊥
+        past h = omega (arith, b .sign row-in, lib.ListN.List·getD-eq-default s 0 {n = start .end} h)
 
-    pub step-empty : {values ends : List ℕ} → valueEnd s (start .equals + 1) ≡ F.Nothing → Step s i values ends values ends (start .equals + 1)
-    step-empty e = passes (try-misses s i (start .equals) run-some (b .sign row-in) e)
+    pub step-empty : {values ends : List ℕ} → valueEnd s (start .end + 1) ≡ F.Nothing → Step s i values ends values ends (start .end + 1)
+    step-empty e = passes (try-misses s i (start .end) run-some (b .sign row-in) e)
 
-    pub step-takes : {values ends : List ℕ} {e : ℕ} → valueEnd s (start .equals + 1) ≡ F.At e →
-        Step s i values ends (set values (start .row) (keptIn (start .form) s (start .equals + 1) e .value))
-        (set ends (start .row) (keptIn (start .form) s (start .equals + 1) e .end)) e
+    pub step-takes : {values ends : List ℕ} {e : ℕ} → valueEnd s (start .end + 1) ≡ F.At e →
+        Step s i values ends (set values (start .row) (keptIn (start .form) s (start .end + 1) e .value))
+        (set ends (start .row) (keptIn (start .form) s (start .end + 1) e .end)) e
     unfolding pairAt
     step-takes {values} {ends} {e} q =
-        let value = value-is s (start .equals + 1) q in
-        let m-is : runEnd isWord s i ≡ start .equals = sym (b .ends .is) in
+        let value = value-is s (start .end + 1) q in
+        let m-is : runEnd isWord s i ≡ start .end = sym (b .ends .is) in
         record {
-          on = omega (arith, run-some, value-up s (start .equals + 1) value);
-          within = omega (arith, value-within s (start .equals + 1) value);
+          on = omega (arith, run-some, value-up s (start .end + 1) value);
+          within = omega (arith, value-within s (start .end + 1) value);
           stepped =
-              Stepped.took (start .equals) (rw m-is (try-hits s i (start .equals) run-some (b .sign row-in) q))
+              Stepped.took (start .end) (rw m-is (try-hits s i (start .end) run-some (b .sign row-in) q))
               {key = record { row = start .row; form = start .form }} (sym (b .named row-in)) refl refl;
         }

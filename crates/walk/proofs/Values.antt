@@ -5,7 +5,6 @@ use mathlib.Core.Path.{_≡_, refl, sym, ap, _∙_}
 use mathlib.Core.Bool.{Bool, true, false, cond, _&&_, _||_}
 use mathlib.Core.List.{List, [], _∷_}
 use native.Mathlib.Omega.{arith}
-use native.Mathlib.Nat.{pow-suc, pow-le-pow-right, mul-le-mul}
 use lib.Dec.{leb, eqb}
 use lib.ListN.{length, getD, take, drop, length-drop, List·getD-eq-default}
 use lib.Seq.{take-nil, getD-take, getD-drop, drop-drop, length-take-le}
@@ -19,11 +18,13 @@ use Rattle.text.specs.Number.{digitOf, value, numberOf, badAt, readingOf, digit
 use Rattle.text.specs.Place.{Free, isAt}
 use Rattle.text.specs.Run.{Inside}
 use Rattle.text.specs.Table.{table}
+use Rattle.text.proofs.DigitRuns.{ReadTo}
 use Rattle.text.proofs.Entries.{entry-digit}
 use Rattle.text.proofs.Hexes.{from-second, from-both}
 use Rattle.text.proofs.Numbers.{Judged, judged-all, number-read}
 use Rattle.text.proofs.Places.{by-order, stands-within}
 use Rattle.text.proofs.Runs.{run-all}
+use Rattle.text.proofs.Stripping.{rest-is}
 use Rattle.text.proofs.Texts.{both-left, both-right}
 use Rattle.pairs.specs.declared.keys.Form.{Form}
 use Rattle.pairs.specs.declared.keys.Form.the-variants.{Text, Decimal, Hex, Dwords}
@@ -41,22 +42,18 @@ module _ (s : List ℕ) (v : ℕ) {base : ℕ} where
   unfolding digitsStart
   start-plain n = rw (ne-eqb _ _ n)
 
-  module _ (is : base ≡ 16) where
-    pub start-first : (getD s v 0 ≡ 48 → ⊥) → v ≡ digitsStart s v base
-    unfolding digitsStart
-    start-first n = rw (eq-eqb _ _ is, ne-eqb _ _ n)
+  pub start-hex : {d : ℕ} → base ≡ 16 → d ≡ digitsFrom (take (length s - v) (drop v s)) → v + d ≡ digitsStart s v base
+  unfolding digitsStart
+  start-hex is e = rw (eq-eqb _ _ is, e, rest-is v s)
 
-    pub start-second : (getD s (v + 1) 0 ≡ 120 → ⊥) → v ≡ digitsStart s v base
-    unfolding digitsStart
-    start-second n = rw (eq-eqb _ _ is, ne-eqb _ _ n) (go (isAt 48 s v))
-      where
-        go : (x : Bool) → v ≡ cond (x && false) (v + 2) v
-        go true = refl
-        go false = refl
-
-    pub start-both : getD s v 0 ≡ 48 → getD s (v + 1) 0 ≡ 120 → v + 2 ≡ digitsStart s v base
-    unfolding digitsStart
-    start-both a b = rw (eq-eqb _ _ is, eq-eqb _ _ a, eq-eqb _ _ b)
+-- at most two bytes stand before the digits
+pub start-most : (s : List ℕ) {d : ℕ} → d ≡ digitsFrom s → d ≤ 2
+unfolding digitsFrom
+start-most s {d} e = go (isAt 48 s 0 && isAt 120 s 1) e
+  where
+    go : (b : Bool) → d ≡ cond b 2 0 → d ≤ 2
+    go true e = omega arith
+    go false e = omega arith
 
 -- ---- what is kept, form by form
 
@@ -81,56 +78,8 @@ module _ {form : Form} (s : List ℕ) (a b : ℕ) where
 
 -- ---- digits, one by one
 
--- one more digit behind those that were read
-value-more : (base v n : ℕ) (l : List ℕ) → n < length l → value base v (take (suc n) l) ≡ value base v (take n l) * base + digitOf (getD l n 0)
-unfolding value
-value-more base v n [] h = absurd (omega arith)
-value-more base v zero (b ∷ l) h = refl
-value-more base v (suc n) (b ∷ l) h = value-more base (v * base + digitOf b) n l (omega arith)
-
-module _ (s : List ℕ) (base from : ℕ) where
-  -- the digits up to j, of value v: as each is below 16, so many of them stay below a power of it
-  pub record ReadTo (v j : ℕ) : Type 0 where
-    pub up : from ≤ j
-    pub within : j ≤ length s
-    pub narrow : v < 16 ^ (j - from)
-    pub digits : (k : ℕ) → from ≤ k → k < j → digitOf (getD s k 0) < base
-    pub is : v ≡ value base 0 (part s from j)
-
-  pub read-starts : from ≤ length s → ReadTo 0 from
-  unfolding value
-  read-starts h =
-      let e : from - from ≡ 0 = omega arith in
-      record { up = omega arith; within = h; narrow = rw e (omega arith); digits = λ k a b. absurd (omega arith); is = rw e }
-
-  pub read-all : {v j : ℕ} → ReadTo v j → DigitsRead s base from (record { end = j; value = v })
-  read-all r = record { up = r .up; within = r .within; digits = r .digits; is = r .is }
-
-  wider : {v j d : ℕ} → ReadTo v j → base ≤ 16 → d < base → v * base + d < 16 ^ (j - from) * 16
-  wider {v} {j} {d} r b l =
-      let p : suc v * base ≤ 16 ^ (j - from) * 16 = mul-le-mul (r .narrow) b in
-      omega (arith, p)
-
-  -- one of sixteen stays within 64 bits
-  pub read-fits : {v j d : ℕ} → ReadTo v j → j - from < 16 → base ≤ 16 → d < base → v * base + d < 18446744073709551616
-  read-fits {v} {j} {d} r h b l =
-      let p : 16 ^ (j - from) ≤ 16 ^ 15 = pow-le-pow-right {n = 16} (omega arith) {i = j - from} {j = 15} (omega arith) in
-      omega (arith, p, wider r b l)
-
-  pub read-steps : {v j d : ℕ} → ReadTo v j → j < length s → base ≤ 16 → d ≡ digitOf (getD s j 0) → d < base → ReadTo (v * base + d) (j + 1)
-  read-steps {v} {j} {d} r h b e l =
-      let z : j + 1 - from ≡ suc (j - from) = omega (arith, r .up) in
-      let back : from + (j - from) ≡ j = omega (arith, r .up) in
-      let there : getD (drop from s) (j - from) 0 ≡ getD s j 0 = getD-drop from s (j - from) 0 ∙ ap (λ (k : ℕ). getD s k 0) back in
-      let more = value-more base 0 (j - from) (drop from s) (omega (arith, length-drop from s, r .up)) in
-      record {
-        up = omega (arith, r .up);
-        within = omega arith;
-        narrow = rw (z, pow-suc 16 (j - from)) (wider r b l);
-        digits =
-            λ k a c. by-order k j (λ x. r .digits k a x) (λ x. rw (x, ← e) l) (λ x. absurd (omega arith));
-        is = rw z (rw (r .is, e, ← there) (sym more));
-      }
+pub read-all : {s : List ℕ} {base from v j : ℕ} → ReadTo s base from v j → DigitsRead s base from (record { end = j; value = v })
+read-all r = record { up = r .up; within = r .within; digits = r .digits; is = r .is }
 
 -- what the table says of a byte, where it says a digit of the base
 pub entry-reads : {t : List ℕ} {b k d base : ℕ} → t ≡ table → k ≡ b → k < 256 → d ≡ getD t k 0 → base ≤ 16 → d < base → d ≡ digitOf b
@@ -182,15 +131,19 @@ data Started (s : List ℕ) (v base from : ℕ) : Type 0 where
   prefixed : base ≡ 16 → getD s v 0 ≡ 48 → getD s (v + 1) 0 ≡ 120 → from ≡ v + 2 → Started s v base from
 
 started : (s : List ℕ) (v base : ℕ) → Started s v base (digitsStart s v base)
-unfolding digitsStart
-started s v base = go (eqb base 16 && isAt 48 s v && isAt 120 s (v + 1)) refl
+unfolding digitsStart digitsFrom
+started s v base = go (eqb base 16) refl
   where
-    go : (b : Bool) → (eqb base 16 && isAt 48 s v && isAt 120 s (v + 1)) ≡ b → Started s v base (cond b (v + 2) v)
-    go true t =
-        let front : (eqb base 16 && isAt 48 s v) ≡ true = both-left _ _ t in
-        Started.prefixed (eqb-true _ _ (both-left _ _ front)) (eqb-true _ _ (both-right (eqb base 16) _ front))
-        (eqb-true _ _ (both-right (eqb base 16 && isAt 48 s v) _ t))
-        refl
+    by-prefix : base ≡ 16 → (b : Bool) → (isAt 48 (drop v s) 0 && isAt 120 (drop v s) 1) ≡ b → Started s v base (v + cond b 2 0)
+    by-prefix six true t =
+        let z : v + 0 ≡ v = omega arith in
+        let first : getD s v 0 ≡ 48 = rw z at (sym (getD-drop v s 0 0) ∙ eqb-true _ _ (both-left _ _ t)) in
+        let second : getD s (v + 1) 0 ≡ 120 = sym (getD-drop v s 1 0) ∙ eqb-true _ _ (both-right (isAt 48 (drop v s) 0) _ t) in
+        Started.prefixed six first second refl
+    by-prefix six false t = Started.plain (omega arith)
+
+    go : (b : Bool) → eqb base 16 ≡ b → Started s v base (cond b (v + cond (isAt 48 (drop v s) 0 && isAt 120 (drop v s) 1) 2 0) v)
+    go true t = by-prefix (eqb-true _ _ t) (isAt 48 (drop v s) 0 && isAt 120 (drop v s) 1) refl
     go false t = Started.plain refl
 
 -- they start within the text

@@ -15,12 +15,11 @@ use Rattle.text.specs.Run.{runEnd}
 use Rattle.text.proofs.Places.{by-order}
 use Rattle.text.proofs.Runs.{run-over, run-stop}
 use Rattle.pairs.specs.declared.keys.Form.{Form}
-use Rattle.pairs.specs.declared.keys.Key.{Key}
 use Rattle.pairs.specs.declared.pair.Pair.the-variants.{Hit, Miss}
 use Rattle.pairs.specs.declared.pair.Span.{Span}
 use Rattle.pairs.specs.declared.pair.Span.the-variants as S
 use Rattle.pairs.specs.Pair.{part, pairWith, pairAt, nextPair, pairsFrom, lastIn, lastPair}
-use Rattle.pairs.specs.Table.{Row, keys, rowAt, keyNamed}
+use Rattle.pairs.specs.Table.{Key, Row, keys, rowAt, keyNamed}
 use Rattle.pairs.proofs.Tries.{try-empty}
 use Rattle.pairs.proofs.Matches.{next-ends, next-hits, next-skips, next-rise}
 use Rattle.pairs.proofs.PairLists.{pairs-same}

@@ -1,19 +1,17 @@
 -- What is kept of a value, and of the last pair of each key: the number that it says or where its text starts, and where it ends.
 use Prim.Native.Nat.{ℕ, suc, _+_, _≤_, _<_}
 use mathlib.Core.Path.{_≡_}
-use mathlib.Core.Bool.{cond, _&&_}
+use mathlib.Core.Bool.{cond}
 use mathlib.Core.List.{List}
 use lib.Dec.{eqb}
-use lib.ListN.{length, getD, set}
+use lib.ListN.{length, getD, set, drop}
 use Rattle.text.specs.declared.number.Number.{Number}
 use Rattle.text.specs.declared.number.Number.the-variants as N
 use Rattle.text.specs.declared.place.Found.{Found}
 use Rattle.text.specs.declared.place.Found.the-variants as F
-use Rattle.text.specs.Number.{digitOf, value, numberOf, hexNumberOf}
-use Rattle.text.specs.Place.{isAt}
+use Rattle.text.specs.Number.{digitOf, value, numberOf, hexNumberOf, digitsFrom}
 use Rattle.pairs.specs.declared.keys.Form.{Form}
 use Rattle.pairs.specs.declared.keys.Form.the-variants.{Text, Decimal, Hex, Dwords}
-use Rattle.pairs.specs.declared.keys.Key.{Key}
 use Rattle.pairs.specs.declared.pair.Pair.the-variants.{Hit, Miss}
 use Rattle.pairs.specs.declared.pair.Span.{Span}
 use Rattle.pairs.specs.declared.pair.Span.the-variants as S
@@ -21,7 +19,7 @@ use Rattle.walk.specs.declared.value.Digits.{Digits}
 use Rattle.walk.specs.declared.value.Kept.{Kept}
 use Rattle.walk.specs.declared.value.Value.{Value}
 use Rattle.pairs.specs.Pair.{part, valueEnd, pairAt, lastPair}
-use Rattle.pairs.specs.Table.{Row, keys, rowAt, keyNamed}
+use Rattle.pairs.specs.Table.{Key, Row, keys, rowAt, keyNamed}
 
 -- nothing is kept
 unfoldable pub nothing : Kept
@@ -102,7 +100,7 @@ limitOf Dwords = 0
 
 -- where the digits of a value from v on start: behind a `0x` of a hex number
 unfoldable pub digitsStart : List ℕ → ℕ → ℕ → ℕ
-digitsStart s v base = cond (eqb base 16 && isAt 48 s v && isAt 120 s (v + 1)) (v + 2) v
+digitsStart s v base = cond (eqb base 16) (v + digitsFrom (drop v s)) v
 
 -- digits of the base stand from a place up to the answer's end, and this is their value
 pub record DigitsRead (s : List ℕ) (base from : ℕ) (r : Digits) : Type 0 where

@@ -46,12 +46,12 @@ candidateOf chosen = candidateAfter chosen 0 keys (candidateFor 0 (rowAt 0))
 
 -- a word run that ends at m and is no key of ours: of the row behind the table if an `=` follows, else of none
 unfoldable pub otherStart : List ℕ → ℕ → Start
-otherStart s m = record { row = cond (isAt 61 s m) (length keys) (suc (length keys)); form = Text; equals = m }
+otherStart s m = record { row = cond (isAt 61 s m) (length keys) (suc (length keys)); form = Text; end = m }
 
 -- an answer is the end of the word run from i; an `=` follows exactly where the answer has a row, and then it is the row and form of the run's text
 pub record Started (s : List ℕ) (i : ℕ) (r : Start) : Type 0 where
-  pub ends : EndsAt isWord s i (r .equals)
+  pub ends : EndsAt isWord s i (r .end)
   pub fits : r .row ≤ suc (length keys)
-  pub no-key : r .row ≡ suc (length keys) → getD s (r .equals) 0 ≡ 61 → ⊥
-  pub sign : r .row < suc (length keys) → getD s (r .equals) 0 ≡ 61
-  pub named : r .row < suc (length keys) → keyNamed (part s i (r .equals)) ≡ record { row = r .row; form = r .form }
+  pub no-key : r .row ≡ suc (length keys) → getD s (r .end) 0 ≡ 61 → ⊥
+  pub sign : r .row < suc (length keys) → getD s (r .end) 0 ≡ 61
+  pub named : r .row < suc (length keys) → keyNamed (part s i (r .end)) ≡ record { row = r .row; form = r .form }

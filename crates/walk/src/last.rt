@@ -49,7 +49,7 @@ fn take_pair(
     ensures { λ r. ⌜ Step (now (s .entry)) i (now (values .entry)) (now (ends .entry)) (now (values .exit)) (now (ends .exit)) r ⌝ }
 {
     let start = start_at(s, t, i);
-    let v = start.equals + 1;
+    let v = start.end + 1;
     if start.row == NO_KEY {
         return v;
     }

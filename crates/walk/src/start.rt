@@ -16,21 +16,19 @@ use pairs::keys::SEQ;
 use pairs::keys::SIZE;
 use pairs::keys::TYPE;
 use pairs::keys::UNPLUG;
-use pairs::keys::key_of;
 use text::number::MAX_8;
 use text::number::MAX_16;
 use text::number::MAX_32;
 use text::number::MAX_64;
 use text::place::byte_at;
 use text::table::word_end;
-use text::word::one;
-use text::word::stands;
+use text::word::eight;
+use text::word::few;
 ghost use mathlib.Core.Path.{_≡_};
-ghost use Prim.Native.Nat.{_+_, _≤_, _<_};
+ghost use Prim.Native.Nat.{_<_};
 ghost use lib.ListN.{length};
-ghost use Rattle.text.specs.Run.{runEnd};
-ghost use Rattle.text.specs.Class.{isWord};
 ghost use Rattle.text.specs.Table.{table};
+ghost use Rattle.text.specs.Word.{Word};
 ghost use Rattle.pairs.specs.declared.keys.Form.the-variants.{Text};
 ghost use Rattle.walk.specs.Start.{candidateOf, otherStart, Started};
 
@@ -79,7 +77,7 @@ const EIGHT: u64 = 0xffff_ffff_ffff_ffff;
 pub struct Start {
     pub row: usize,
     pub form: Form,
-    pub equals: usize,
+    pub end: usize,
 }
 
 // A row as it stands in a text: the number that its name and `=` make, their mask, and how many bytes they are.
@@ -97,15 +95,23 @@ pub fn start_at(s: &[u8], t: &[u8; 256], i: usize) -> Start
     ensures { λ r. ⌜ Started (now (s .entry)) i r ⌝ }
 {
     if s.len() < i + 8 {
-        return plain_start(s, i, word_end(s, t, i));
+        return start_of(few(s, i), s, t, i);
     }
-    let c = choose((one(s[i]) + one(s[i + 1])) % 32);
-    if stands(s, i, c.size, c.mask, c.want) {
+    start_of(eight(s, i), s, t, i)
+}
+
+// The same by the number that the eight bytes from the place on make, of which those behind the text's end are 0. No key has such a byte.
+fn start_of(w: u64, s: &[u8], t: &[u8; 256], i: usize) -> Start
+    requires { ⌜ (now t ≡ table) × (i < length (now s)) × Word 8 (now s) i w ⌝ }
+    ensures { λ r. ⌜ Started (now (s .entry)) i r ⌝ }
+{
+    let c = choose((w % 0x100 + w / 0x100 % 0x100) % 32);
+    if w & c.mask == c.want {
         let form = c.form;
         return Start {
             row: c.row,
             form: form,
-            equals: i + c.size - 1,
+            end: i + c.size - 1,
         };
     }
     other_start(s, word_end(s, t, i))
@@ -146,23 +152,6 @@ fn row_text(want: u64, mask: u64, size: usize, row: usize, form: Form) -> Candid
     }
 }
 
-// A word run from i to m near the end of the text, where there are no eight bytes to compare.
-fn plain_start(s: &[u8], i: usize, m: usize) -> Start
-    requires { ⌜ (i < length (now s)) × (m ≡ runEnd isWord (now s) i) ⌝ }
-    ensures { λ r. ⌜ Started (now (s .entry)) i r ⌝ }
-{
-    if byte_at(s, m) != b'=' {
-        return bare_start(NO_KEY, m);
-    }
-    let key = key_of(&s[i..m]);
-    let form = key.form;
-    Start {
-        row: key.row,
-        form: form,
-        equals: m,
-    }
-}
-
 // A word run that ends at m and is no key of ours.
 fn other_start(s: &[u8], m: usize) -> Start
     ensures { λ r. ⌜ r ≡ otherStart (now (s .entry)) m ⌝ }
@@ -175,11 +164,11 @@ fn other_start(s: &[u8], m: usize) -> Start
 
 // A word run of a row that reads no number.
 fn bare_start(row: usize, m: usize) -> Start
-    ensures { λ r. ⌜ r ≡ record { row = row; form = Text; equals = m } ⌝ }
+    ensures { λ r. ⌜ r ≡ record { row = row; form = Text; end = m } ⌝ }
 {
     Start {
         row: row,
         form: Form::Text,
-        equals: m,
+        end: m,
     }
 }

@@ -1,13 +1,13 @@
 // The value behind a key's `=`, and what is kept of it. A number's digits are read while its end is sought. Right because a digit run that no word
 // byte follows is the whole word run; any other value is looked at again from its start.
 use pairs::keys::Form;
-use pairs::pair::bracket_end;
+use pairs::pair::value_end;
 use text::number::Number;
 use text::number::decimal;
+use text::number::digits_from;
 use text::number::hex;
 use text::number::value_of;
 use text::place::Found;
-use text::place::byte_at;
 use text::table::is_word_at;
 use text::table::wide;
 use text::table::word_end;
@@ -51,7 +51,7 @@ pub fn value_at(s: &[u8], t: &[u8; 256], v: usize, form: Form, tail: usize) -> V
     if short.end != 0 {
         return short;
     }
-    match value_end(s, t, v, tail) {
+    match value_end(s, v, word_end(s, t, v), tail) {
         Found::At(e) => Value {
             end: e,
             kept: keep(s, v, e, form),
@@ -69,7 +69,7 @@ fn short_number(s: &[u8], t: &[u8; 256], v: usize, form: Form) -> Value
     if base == 0 {
         return none();
     }
-    let from = digits_from(s, v, base);
+    let from = digits_start(s, v, base);
     let digits = digits_at(s, t, from, base);
     let e = digits.end;
     if e == from {
@@ -84,21 +84,15 @@ fn short_number(s: &[u8], t: &[u8; 256], v: usize, form: Form) -> Value
     }
 }
 
-// Behind a `0x` of a hex number.
-fn digits_from(s: &[u8], v: usize, base: u64) -> usize
+// Where the digits of a value from v on start: behind a `0x` of a hex number.
+fn digits_start(s: &[u8], v: usize, base: u64) -> usize
     requires { ⌜ v ≤ length (now s) ⌝ }
     ensures { λ r. ⌜ r ≡ digitsStart (now (s .entry)) v base ⌝ }
 {
     if base != 16 {
         return v;
     }
-    if byte_at(s, v) != b'0' {
-        return v;
-    }
-    if byte_at(s, v + 1) != b'x' {
-        return v;
-    }
-    v + 2
+    v + digits_from(&s[v..])
 }
 
 // Digits from a place on, sixteen at most: so many have a value below 2^64 in a base up to 16.
@@ -137,22 +131,6 @@ fn keep_within(value: u64, limit: u64, e: usize) -> Kept
         value: value,
         end: e,
     }
-}
-
-// Where the value from v on ends: a word run, or brackets. No `]` stands from `tail` on, so a `[` there is given up at once, and many of them cost
-// no more than one.
-fn value_end(s: &[u8], t: &[u8; 256], v: usize, tail: usize) -> Found
-    requires { ⌜ (now t ≡ table) × (v ≤ length (now s)) × (tail ≡ runStart (inClass NotClose) (now s)) ⌝ }
-    ensures { λ r. ⌜ r ≡ valueEnd (now (s .entry)) v ⌝ }
-{
-    let e = word_end(s, t, v);
-    if v < e {
-        return Found::At(e);
-    }
-    if tail <= v {
-        return Found::Nothing;
-    }
-    bracket_end(s, v)
 }
 
 // What is kept of the value from v to e.

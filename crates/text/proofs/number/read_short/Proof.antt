@@ -17,14 +17,14 @@ abbrev μ-loop : tie.MeasureT-loop
 loop-holds : tie.Need-loop-holds Inv-loop μ-loop
 loop-holds c = few-starts _ _ _ (c .before .pre .2)
 
-shared-slice-read-digit-of : tie.Need-shared-slice-read-digit-of Inv-loop μ-loop
-shared-slice-read-digit-of c = search needs
+shared-slice-read-digit-in : tie.Need-shared-slice-read-digit-in Inv-loop μ-loop
+shared-slice-read-digit-in c = search needs
 
-digit-of-requires : tie.Need-digit-of-requires Inv-loop μ-loop
-digit-of-requires c κs = search needs
+digit-in-requires : tie.Need-digit-in-requires Inv-loop μ-loop
+digit-in-requires c κs = search needs
 
 returns : tie.Need-returns Inv-loop μ-loop
-returns c = few-bad _ _ _ _ (c .before .before .before .before .loop .inv) (c .before .before .before .loop-test .taken) refl (c .before .digit-of .ensures .1 (c .if1 .taken))
+returns c = few-bad _ _ _ _ (c .before .before .before .before .loop .inv) (c .before .before .before .loop-test .taken) refl (c .before .digit-in .ensures .1 (c .if1 .taken))
 
 mul-v : tie.Need-mul-v Inv-loop μ-loop
 mul-v c = record { fits = omega (arith, few-fit _ _ _ (c .before .before .before .before .loop .inv) (omega (arith, c .before .before .before .loop-test .taken, c .before .before .before .before .before .before .pre .3)) (c .before .before .before .before .before .before .pre .1) (c .if1 .left)) }
@@ -39,7 +39,7 @@ loop-less : tie.Need-loop-less Inv-loop μ-loop
 loop-less c = search needs
 
 loop-again : tie.Need-loop-again Inv-loop μ-loop
-loop-again c = few-steps _ _ _ (c .before .before .before .before .loop .inv) (c .before .before .before .loop-test .taken) (c .before .before .before .before .before .before .pre .1) (c .before .digit-of .ensures .0 (c .if1 .left)) (c .if1 .left)
+loop-again c = few-steps _ _ _ (c .before .before .before .before .loop .inv) (c .before .before .before .loop-test .taken) (c .before .before .before .before .before .before .pre .1) (c .before .digit-in .ensures .0 (c .if1 .left)) (c .if1 .left)
 
 returns-2 : tie.Need-returns-2 Inv-loop μ-loop
 returns-2 c = few-wide _ _ _ _ (c .before .before .loop .inv) (c .before .loop-test .left) (c .if2 .taken)
@@ -54,8 +54,8 @@ read-short-spec =
     Inv-loop
     μ-loop
     loop-holds
-    shared-slice-read-digit-of
-    digit-of-requires
+    shared-slice-read-digit-in
+    digit-in-requires
     returns
     mul-v
     add-v

@@ -1,5 +1,6 @@
 -- `value::digits_at` meets its contract: what is read so far is a `ReadTo`, which is all that each way out says. Assumes nothing.
-use Rattle.walk.proofs.Values.{ReadTo, read-starts, read-fits, read-steps, read-all, entry-reads}
+use Rattle.text.proofs.DigitRuns.{ReadTo, read-starts, read-fits, read-steps}
+use Rattle.walk.proofs.Values.{read-all, entry-reads}
 use lib.ListN.{length}
 use Prim.Native.Nat.{_-_}
 use native.Mathlib.Omega.{arith}
@@ -50,13 +51,13 @@ loop-again c =
     (c .before .if1 .left)
 
 returns : tie.Need-returns Inv-loop μ-loop
-returns c = read-all _ _ _ (c .before .loop .inv)
+returns c = read-all (c .before .loop .inv)
 
 returns-2 : tie.Need-returns-2 Inv-loop μ-loop
-returns-2 c = read-all _ _ _ (c .before .before .before .before .before .before .loop .inv)
+returns-2 c = read-all (c .before .before .before .before .before .before .loop .inv)
 
 returns-3 : tie.Need-returns-3 Inv-loop μ-loop
-returns-3 c = read-all _ _ _ (c .before .before .before .before .before .before .before .loop .inv)
+returns-3 c = read-all (c .before .before .before .before .before .before .before .loop .inv)
 
 pub digits-at-spec : {M : Type 1} → statement M
 digits-at-spec =

@@ -14,11 +14,11 @@ none-requires c κs = search needs
 returns : tie.Need-returns
 returns c = short-none _ _ _ (c .none .ensures)
 
-digits-from-requires : tie.Need-digits-from-requires
-digits-from-requires c κs = search needs
+digits-start-requires : tie.Need-digits-start-requires
+digits-start-requires c κs = search needs
 
 digits-at-requires : tie.Need-digits-at-requires
-digits-at-requires c κs = (c .before .before .before .before .pre .0, start-within _ _ _ (c .before .before .before .before .pre .1) (c .digits-from .ensures), base-below _ (c .before .before .base-of .ensures))
+digits-at-requires c κs = (c .before .before .before .before .pre .0, start-within _ _ _ (c .before .before .before .before .pre .1) (c .digits-start .ensures), base-below _ (c .before .before .base-of .ensures))
 
 none-requires-2 : tie.Need-none-requires-2
 none-requires-2 c κs = search needs
@@ -43,7 +43,7 @@ keep-within-requires c κs = search needs
 
 returns-4 : tie.Need-returns-4
 returns-4 c =
-    λ h. short-is _ _ _ (c .before .before .before .before .before .before .before .before .base-of .ensures) (c .before .before .before .before .before .before .before .if1 .left) (c .before .before .before .before .before .before .digits-from .ensures) (c .before .before .before .before .before .digits-at .ensures) (c .before .before .before .before .if2 .left)
+    λ h. short-is _ _ _ (c .before .before .before .before .before .before .before .before .base-of .ensures) (c .before .before .before .before .before .before .before .if1 .left) (c .before .before .before .before .before .before .digits-start .ensures) (c .before .before .before .before .before .digits-at .ensures) (c .before .before .before .before .if2 .left)
     (sym (c .before .before .if3 .left) ∙ c .before .before .before .is-word-at .ensures)
     (c .before .limit-of .ensures)
     (c .keep-within .ensures)
@@ -55,7 +55,7 @@ short-number-spec =
     base-of-requires
     none-requires
     returns
-    digits-from-requires
+    digits-start-requires
     digits-at-requires
     none-requires-2
     returns-2

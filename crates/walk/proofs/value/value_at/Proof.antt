@@ -1,8 +1,8 @@
 -- `value::value_at` meets its contract: a short number where one is told, else what stands from the start to the value's end. Assumes nothing.
+use native.Mathlib.Omega.{arith}
 use mathlib.Core.Path.{sym, _∙_}
 use Rattle.pairs.proofs.Tries.{value-is, value-up, value-within}
 use Rattle.walk.proofs.Values.{value-found, value-none}
-use native.Mathlib.Omega.{arith}
 use borrow.Author.Needs.{needs}
 use Rattle.walk.proofs.value.value_at.Statement.{statement}
 use Rattle.walk.proofs.value.value_at.Tie as tie
@@ -13,17 +13,17 @@ short-number-requires c κs = search needs
 returns : tie.Need-returns
 returns c = c .before .before .short-number .ensures (omega (arith, c .if1 .taken))
 
+word-end-requires : tie.Need-word-end-requires
+word-end-requires c κs = search needs
+
 value-end-requires : tie.Need-value-end-requires
-value-end-requires c κs = search needs
+value-end-requires c κs = (c .word-end .ensures .is, c .before .before .before .before .before .pre .2)
 
 enum-known-e : tie.Need-enum-known-e
 enum-known-e c = search needs
 
 keep-requires : tie.Need-keep-requires
-keep-requires c κs = (
-  omega (arith, value-up _ _ (value-is _ _ (sym (c .before .before .before .value-end .ensures) ∙ c .before .e .given .1))),
-  value-within _ _ (value-is _ _ (sym (c .before .before .before .value-end .ensures) ∙ c .before .e .given .1)),
-)
+keep-requires c κs = (omega (arith, value-up _ _ (value-is _ _ (sym (c .before .before .before .value-end .ensures) ∙ c .before .e .given .1))), value-within _ _ (value-is _ _ (sym (c .before .before .before .value-end .ensures) ∙ c .before .e .given .1)))
 
 enum-told : tie.Need-enum-told
 enum-told c = search needs
@@ -43,6 +43,7 @@ value-at-spec =
     (tie.spec
     short-number-requires
     returns
+    word-end-requires
     value-end-requires
     enum-known-e
     keep-requires

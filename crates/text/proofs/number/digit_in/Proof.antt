@@ -1,4 +1,4 @@
--- `number::digit_of` meets its contract: a byte that is no decimal digit is of value 10 or more, if of any. Assumes nothing.
+-- `number::digit_in` meets its contract: a byte that is no decimal digit is of value 10 or more, if of any. Assumes nothing.
 use Prim.Native.Nat.{ℕ, _≤_}
 use mathlib.Core.Path.{_≡_, sym, _∙_}
 use Rattle.text.specs.Class.{isDigit}
@@ -7,8 +7,8 @@ use Rattle.text.proofs.Numbers.{at-least}
 use Rattle.text.proofs.FewDigits.{digit-is, digit-none}
 use native.Mathlib.Omega.{arith}
 use borrow.Author.Needs.{needs}
-use Rattle.text.proofs.number.digit_of.Statement.{statement}
-use Rattle.text.proofs.number.digit_of.Tie as tie
+use Rattle.text.proofs.number.digit_in.Statement.{statement}
+use Rattle.text.proofs.number.digit_in.Tie as tie
 
 is-digit-requires : tie.Need-is-digit-requires
 is-digit-requires c κs = search needs
@@ -32,6 +32,6 @@ digit-requires c κs = search needs
 returns-3 : tie.Need-returns-3
 returns-3 c = (λ l. c .digit .ensures, λ l. omega (arith, c .digit .ensures))
 
-pub digit-of-spec : {M : Type 1} → statement M
-digit-of-spec =
+pub digit-in-spec : {M : Type 1} → statement M
+digit-in-spec =
     tie.close (tie.spec is-digit-requires sub-result returns returns-2 digit-requires returns-3)

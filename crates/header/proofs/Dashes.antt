@@ -1,8 +1,9 @@
 -- Task and pid: both are last dashes of the first run, so their laws are those of last places. Assumes nothing.
-use Prim.Native.Nat.{ℕ, suc, _+_, _-_, _^_, _≤_, _<_}
+use Prim.Native.Nat.{ℕ, zero, suc, _+_, _-_, _^_, _≤_, _<_}
 use mathlib.Core.Path.{_≡_, refl, sym, ap, _∙_}
 use mathlib.Core.Bool.{Bool, true, false, _&&_}
 use mathlib.Core.List.{List}
+use native.Mathlib.Numerals.{add-one}
 use native.Mathlib.Omega.{arith}
 use lib.Dec.{ltb}
 use lib.ListN.{length, getD, take, drop}
@@ -16,8 +17,8 @@ use Rattle.text.specs.Number.{numberOf}
 use Rattle.text.specs.Place.{lastPlace, isAt}
 use Rattle.text.specs.Run.{Run, runEnd}
 use Rattle.text.proofs.Blocks.{last-skip}
-use Rattle.text.proofs.Places.{clash, last-is, last-all}
-use Rattle.text.proofs.Runs.{run-is, run-all, run-within}
+use Rattle.text.proofs.Places.{clash, last-zero, last-hit, last-miss, last-is, last-all}
+use Rattle.text.proofs.Runs.{run-over, run-stop, run-step, run-is, run-all, run-within}
 use Rattle.text.proofs.Numbers.{number-is, number-all}
 use Rattle.header.specs.Dash.{dashAt, Task, Pid, firstRun, taskOf, digitsBehind, pidOf}
 
@@ -26,17 +27,22 @@ module _ (numbered : Bool) (h : List ℕ) (k : ℕ) where
   unfolding dashAt
   dash-first e = rw e
 
-  pub dash-other : 0 < k → (getD h k 0 ≡ 45 → ⊥) → dashAt numbered h k ≡ false
+  pub dash-other : (getD h k 0 ≡ 45 → ⊥) → dashAt numbered h k ≡ false
   unfolding dashAt
-  dash-other p n = rw (lt-ltb 0 k p, ne-eqb _ _ n)
+  dash-other n = go (ltb 0 k) refl
+    where
+      go : (b : Bool) → ltb 0 k ≡ b → dashAt numbered h k ≡ false
+      go true t = rw (t, ne-eqb _ _ n)
+      go false t = rw t
 
-  pub dash-numbered : 0 < k → getD h k 0 ≡ 45 → numbered ≡ true → dashAt numbered h k ≡ isDigit (getD h (k + 1) 0)
+module _ (h : List ℕ) (k : ℕ) where
+  pub dash-numbered : 0 < k → getD h k 0 ≡ 45 → dashAt true h k ≡ isDigit (getD h (k + 1) 0)
   unfolding dashAt
-  dash-numbered p e t = rw (lt-ltb 0 k p, eq-eqb _ _ e, t)
+  dash-numbered p e = rw (lt-ltb 0 k p, eq-eqb _ _ e)
 
-  pub dash-plain : 0 < k → getD h k 0 ≡ 45 → numbered ≡ false → dashAt numbered h k ≡ true
+  pub dash-plain : 0 < k → getD h k 0 ≡ 45 → dashAt false h k ≡ true
   unfolding dashAt
-  dash-plain p e t = rw (lt-ltb 0 k p, eq-eqb _ _ e, t)
+  dash-plain p e = rw (lt-ltb 0 k p, eq-eqb _ _ e)
 
 -- the first run ends within the header
 pub first-run-within : (h : List ℕ) → firstRun h ≤ length h
@@ -50,6 +56,64 @@ first-run-is h = run-is (inClass NotSpace) h (omega arith)
 first-run-all : (h : List ℕ) {run : ℕ} → Run (inClass NotSpace) h 0 run → firstRun h ≡ run
 unfolding firstRun
 first-run-all h r = run-all (inClass NotSpace) h r
+
+-- the place of a dash that has a byte before it, as a number: 0 stands for none
+unfoldable pub dashNamed : ℕ → Found
+dashNamed zero = Nothing
+dashNamed (suc k) = At (suc k)
+
+-- what a walk along the first run holds at place i: the run goes on from there, and `dash` names the last dash before it
+pub record Walked (h : List ℕ) (dash i : ℕ) : Type 0 where
+  pub within : i ≤ length h
+  pub goes-on : firstRun h ≡ runEnd (inClass NotSpace) h i
+  pub last : lastPlace (dashAt false h) i ≡ dashNamed dash
+
+module _ (h : List ℕ) where
+  pub walked-none : Walked h 0 0
+  unfolding firstRun dashNamed
+  walked-none = record { within = omega arith; goes-on = refl; last = last-zero (dashAt false h) }
+
+  module _ {dash i : ℕ} (r : Walked h dash i) where
+    -- the walk's step past a byte of the run
+    module _ (inside : i < length h) (no-space : getD h i 0 ≡ 32 → ⊥) where
+      step : {d : ℕ} → lastPlace (dashAt false h) (suc i) ≡ dashNamed d → Walked h d (i + 1)
+      unfolding inClass
+      step e =
+          record {
+            within = omega arith;
+            goes-on = r .goes-on ∙ run-step (inClass NotSpace) h inside (rw (ne-eqb _ _ no-space));
+            last = rw add-one e;
+          }
+
+      pub walked-dash : getD h i 0 ≡ 45 → Walked h i (i + 1)
+      unfolding dashNamed
+      walked-dash e = step (go i refl)
+        where
+          go : (k : ℕ) → i ≡ k → lastPlace (dashAt false h) (suc k) ≡ dashNamed k
+          go zero q = last-miss (dashAt false h) 0 (dash-first false h 0 refl) ∙ last-zero (dashAt false h)
+          go (suc k) q = last-hit (dashAt false h) (suc k) (dash-plain h (suc k) (omega arith) (rw q at e))
+
+      pub walked-other : (getD h i 0 ≡ 45 → ⊥) → Walked h dash (i + 1)
+      walked-other n = step (last-miss (dashAt false h) i (dash-other false h i n) ∙ r .last)
+
+    -- the walk's two ends: at a byte 32, and at the header's end
+    pub walked-space : i < length h → getD h i 0 ≡ 32 → taskOf h ≡ dashNamed dash
+    unfolding taskOf inClass
+    walked-space l e = ap (lastPlace (dashAt false h)) (r .goes-on ∙ run-stop (inClass NotSpace) h l (rw e)) ∙ r .last
+
+    pub walked-whole : length h ≤ i → taskOf h ≡ dashNamed dash
+    unfolding taskOf
+    walked-whole l = ap (lastPlace (dashAt false h)) (r .goes-on ∙ run-over (inClass NotSpace) h l) ∙ r .last
+
+  -- what the walk names is the task's dash
+  pub task-none : {dash : ℕ} → taskOf h ≡ dashNamed dash → dash ≡ 0 → Nothing ≡ taskOf h
+  unfolding dashNamed
+  task-none e z = sym (e ∙ ap dashNamed z)
+
+  pub task-some : (dash : ℕ) → taskOf h ≡ dashNamed dash → (dash ≡ 0 → ⊥) → At dash ≡ taskOf h
+  unfolding dashNamed
+  task-some zero e n = absurd (n refl)
+  task-some (suc k) e n = sym e
 
 -- the task is what the sentence says, and nothing else is
 pub task-is : (h : List ℕ) {m : ℕ} → taskOf h ≡ At m → Task h (take m h)

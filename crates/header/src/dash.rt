@@ -8,18 +8,32 @@ use text::place::Found;
 use text::place::byte_at;
 use text::run::run_end;
 ghost use mathlib.Core.Path.{_≡_};
+ghost use mathlib.Core.Bool.{true};
 ghost use Prim.Native.Nat.{_≤_, _<_};
 ghost use lib.ListN.{length};
 ghost use Rattle.text.specs.declared.place.Found.the-variants.{At};
 ghost use Rattle.text.specs.Place.{lastPlace};
 ghost use Rattle.header.specs.Dash.{dashAt, taskOf, pidOf};
 
-// The task's length: it is all before the last dash that has a byte before it.
+// The task's length: it is all before the last dash of the first run that has a byte before it. A dash at place 0 has none, so 0 stands for no dash.
 pub fn parse_task(h: &[u8]) -> Found
     ensures { λ r. ⌜ r ≡ taskOf (now (h .entry)) ⌝ }
 {
-    let to = run_end(h, Class::NotSpace, 0);
-    last_dash(h, to, false)
+    let mut dash = 0;
+    let mut i = 0;
+    while i < h.len() {
+        if h[i] == b' ' {
+            break;
+        }
+        if h[i] == b'-' {
+            dash = i;
+        }
+        i += 1;
+    }
+    if dash == 0 {
+        return Found::Nothing;
+    }
+    Found::At(dash)
 }
 
 // The whole digit run behind the last dash that has a byte before it and a digit behind it. The task's dash is the last of all in the run,
@@ -28,7 +42,7 @@ pub fn parse_pid(h: &[u8], task: usize) -> Number
     requires { ⌜ taskOf (now h) ≡ At task ⌝ }
     ensures { λ r. ⌜ r ≡ pidOf (now (h .entry)) ⌝ }
 {
-    match last_dash(h, task + 1, true) {
+    match last_dash(h, task + 1) {
         Found::At(k) => {
             let from = k + 1;
             let end = run_end(h, Class::Digit, from);
@@ -38,14 +52,14 @@ pub fn parse_pid(h: &[u8], task: usize) -> Number
     }
 }
 
-// The last dash below a place that has a byte before it and, where asked, a digit behind it.
-fn last_dash(h: &[u8], to: usize, numbered: bool) -> Found
+// The last dash below a place that has a byte before it and a digit behind it.
+fn last_dash(h: &[u8], to: usize) -> Found
     requires { ⌜ to ≤ length (now h) ⌝ }
-    ensures { λ r. ⌜ r ≡ lastPlace (dashAt numbered (now (h .entry))) to ⌝ }
+    ensures { λ r. ⌜ r ≡ lastPlace (dashAt true (now (h .entry))) to ⌝ }
 {
     let mut i = to;
     while 0 < i {
-        if is_dash(h, i - 1, numbered) {
+        if is_dash(h, i - 1) {
             return Found::At(i - 1);
         }
         i -= 1;
@@ -53,9 +67,9 @@ fn last_dash(h: &[u8], to: usize, numbered: bool) -> Found
     Found::Nothing
 }
 
-fn is_dash(h: &[u8], k: usize, numbered: bool) -> bool
+fn is_dash(h: &[u8], k: usize) -> bool
     requires { ⌜ k < length (now h) ⌝ }
-    ensures { λ r. ⌜ r ≡ dashAt numbered (now (h .entry)) k ⌝ }
+    ensures { λ r. ⌜ r ≡ dashAt true (now (h .entry)) k ⌝ }
 {
     if k == 0 {
         return false;
@@ -63,8 +77,5 @@ fn is_dash(h: &[u8], k: usize, numbered: bool) -> bool
     if byte_at(h, k) != b'-' {
         return false;
     }
-    if numbered {
-        return is_digit(byte_at(h, k + 1));
-    }
-    true
+    is_digit(byte_at(h, k + 1))
 }

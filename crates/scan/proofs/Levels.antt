@@ -70,8 +70,8 @@ module _ (s : List ℕ) where
       let b : x .0 < w = omega (arith, x .1) in
       some-is (x .0) (omega arith) (rw (getD-take w s (x .0) 0 b) at (x .2))
 
-  pub both-parts : (a : ℕ) {w m j : ℕ} → a ≤ w → w ≤ length s → Level (take w s) (length (take w s)) m → m < 128 → Level (take (length s - a) (drop a s)) (length (take (length s - a) (drop a s))) j → ltb j 128 ≡ isNothing (firstHigh s)
-  both-parts a {w} {m} {j} u h r l q = go (rw (rest-is a s) at q)
+  pub both-parts : {a w m j : ℕ} → Level (take w s) (length (take w s)) m → m < 128 → Level (take (length s - a) (drop a s)) (length (take (length s - a) (drop a s))) j → a ≤ w → w ≤ length s → ltb j 128 ≡ isNothing (firstHigh s)
+  both-parts {a} {w} {m} {j} r l q u h = go (rw (rest-is a s) at q)
     where
       go : Level (drop a s) (length (drop a s)) j → ltb j 128 ≡ isNothing (firstHigh s)
       go p =

@@ -50,7 +50,8 @@ pub enum BodyAnswer {
     Refused(u8),
 }
 
-// The kind goes by the type and the header's function. Asked for: what the walk keeps of each key.
+// The kind goes by the type and the header's function, and is sought behind the four keys because it is never refused. Asked for: what the walk keeps of
+// each key.
 pub fn read_body(
     p: &[u8],
     function: &[u8],
@@ -63,9 +64,6 @@ pub fn read_body(
     if ends[TYPE] == 0 {
         return BodyAnswer::Refused(NO_TYPE);
     }
-    let from = values[TYPE] as usize;
-    let to = ends[TYPE];
-    let kind = kind_of(&p[from..to], function);
     if ends[SIZE] == 0 {
         return BodyAnswer::Refused(NO_SIZE);
     }
@@ -78,6 +76,9 @@ pub fn read_body(
         return BodyAnswer::Refused(NO_ROUTE);
     }
     let route = values[ROUTE];
+    let from = values[TYPE] as usize;
+    let to = ends[TYPE];
+    let kind = kind_of(&p[from..to], function);
     let dropped = is_one(values[DROPPED], ends[DROPPED]);
     let optionals = read_optionals(values, ends);
     BodyAnswer::Got(Body {

@@ -11,25 +11,35 @@ ghost use lib.ListN.{length};
 ghost use Rattle.scan.specs.High.{isNothing, Level};
 ghost use Rattle.scan.specs.Frame.{idle, firstHigh, frameTold, frameOf};
 
+// So many bytes a line may have.
+const LONGEST: usize = 4096;
+
+// The first byte that is none of ASCII.
+const HIGH: u8 = 128;
+
+// The stride of `none_high`.
+const BLOCK: usize = 32;
+
 pub enum FrameAnswer {
     Colon(usize),
     Refused(u8),
 }
 
-// The last colon, which parts header from payload.
+// The last colon, which parts header from payload. It is sought in `&line[..]`: handed on as it came, the slice's two words are copied as one, which
+// waits for the two stores before it.
 pub fn read_frame(line: &[u8]) -> FrameAnswer
     ensures { λ r. ⌜ frameTold r ≡ frameOf (now (line .entry)) ⌝ }
 {
     if is_idle(line) {
         return FrameAnswer::Refused(IDLE);
     }
-    if 4096 < line.len() {
+    if LONGEST < line.len() {
         return FrameAnswer::Refused(LONG_LINE);
     }
     if !none_high(line) {
         return FrameAnswer::Refused(NOT_ASCII);
     }
-    match last(line, b':') {
+    match last(&line[..], b':') {
         Found::At(k) => FrameAnswer::Colon(k),
         Found::Nothing => FrameAnswer::Refused(NO_COLON),
     }
@@ -57,14 +67,14 @@ fn none_high(s: &[u8]) -> bool
     ensures { λ r. ⌜ r ≡ isNothing (firstHigh (now (s .entry))) ⌝ }
 {
     let n = s.len();
-    if n < 64 {
-        return max_byte(s) < 128;
+    if n < 2 * BLOCK {
+        return max_byte(s) < HIGH;
     }
-    let whole = n - n % 32;
-    if 128 <= max_byte(&s[..whole]) {
+    let whole = n - n % BLOCK;
+    if HIGH <= max_byte(&s[..whole]) {
         return false;
     }
-    max_byte(&s[n - 32..]) < 128
+    max_byte(&s[n - BLOCK..]) < HIGH
 }
 
 // The largest byte; asked for is whether it is below 128, which is so exactly where every byte is. A running maximum is made one for sixteen bytes at

@@ -19,6 +19,7 @@ use pairs::keys::DATA;
 use pairs::keys::ROWS;
 use text::class::Class;
 use text::run::run_end;
+use text::run::run_start;
 use text::run::strip;
 use walk::last::last_pairs;
 ghost use mathlib.Core.Path.{_≡_};
@@ -39,26 +40,29 @@ pub enum Pieces {
 }
 
 // The entry of a line, its dwords in the first slots; or the first number that applies, with no slot touched. The entry's task and
-// function are places in this line.
+// function are places in this line. The frame is read from `&line[..]`: handed on as it came, the slice's two words are copied as one, which waits for
+// the two stores before it.
 pub fn parse(line: &[u8], pieces: Pieces, slots: &mut [u32]) -> Answer
     ensures { λ r. ⌜ Parsed pieces (now (line .entry)) (now (slots .entry)) (now (slots .exit)) r ⌝ }
 {
-    match read_frame(line) {
+    match read_frame(&line[..]) {
         FrameAnswer::Colon(colon) => parse_parted(line, colon, pieces, slots),
         FrameAnswer::Refused(number) => Answer::Refused(number),
     }
 }
 
-// The line parted at its last colon: the header first.
+// The line parted at its last colon: the header first, stripped here because the place where it starts is asked for too.
 fn parse_parted(line: &[u8], colon: usize, pieces: Pieces, slots: &mut [u32]) -> Answer
     requires { ⌜ colon < length (now line) ⌝ }
     ensures { λ r. ⌜ PartedRead pieces (now (line .entry)) colon (now (slots .entry)) (now (slots .exit)) r ⌝ }
 {
     let front = &line[..colon];
-    let header = strip(front);
+    let start = run_end(front, Class::Blank, 0);
+    let rest = &front[start..];
+    let size = run_start(rest, Class::Blank);
+    let header = &rest[..size];
     match read_head(header) {
         HeadAnswer::Got(head) => {
-            let start = run_end(front, Class::Blank, 0);
             let behind = colon + 1;
             let payload = strip(&line[behind..]);
             parse_payload(header, start, head, payload, pieces, slots)

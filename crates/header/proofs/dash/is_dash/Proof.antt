@@ -1,5 +1,5 @@
 -- `dash::is_dash` meets its contract, one law a way out. Assumes nothing.
-use Rattle.header.proofs.Dashes.{dash-first, dash-other, dash-numbered, dash-plain}
+use Rattle.header.proofs.Dashes.{dash-first, dash-other, dash-numbered}
 use mathlib.Core.Path.{sym, _∙_}
 use native.Mathlib.Omega.{arith}
 use borrow.Author.Needs.{needs}
@@ -13,7 +13,7 @@ byte-at-requires : tie.Need-byte-at-requires
 byte-at-requires c κs = search needs
 
 returns-2 : tie.Need-returns-2
-returns-2 c = sym (dash-other _ _ (c .before .before .before .before .args .k) (omega (arith, c .before .before .if1 .left)) (λ e. c .if2 .taken (c .before .byte-at .ensures ∙ e)))
+returns-2 c = sym (dash-other _ _ (c .before .before .before .before .args .k) (λ e. c .if2 .taken (c .before .byte-at .ensures ∙ e)))
 
 add-byte-at : tie.Need-add-byte-at
 add-byte-at c = search needs
@@ -26,10 +26,8 @@ is-digit-requires c κs = search needs
 
 returns-3 : tie.Need-returns-3
 returns-3 c =
-    rw (← c .before .byte-at2 .ensures) (c .is-digit .ensures) ∙ sym (dash-numbered _ _ (c .before .before .before .before .before .before .before .args .k) (omega (arith, c .before .before .before .before .before .if1 .left)) (sym (c .before .before .before .before .byte-at .ensures) ∙ c .before .before .before .if2 .left) (c .before .before .if3 .taken))
-
-returns-4 : tie.Need-returns-4
-returns-4 c = sym (dash-plain _ _ (c .before .before .before .before .before .args .k) (omega (arith, c .before .before .before .if1 .left)) (sym (c .before .before .byte-at .ensures) ∙ c .before .if2 .left) (c .if3 .left))
+    rw (← c .before .byte-at2 .ensures) (c .is-digit .ensures)
+    ∙ sym (dash-numbered _ (c .before .before .before .before .before .before .args .k) (omega (arith, c .before .before .before .before .if1 .left)) (sym (c .before .before .before .byte-at .ensures) ∙ c .before .before .if2 .left))
 
 pub is-dash-spec : {M : Type 1} → statement M
 is-dash-spec =
@@ -41,5 +39,4 @@ is-dash-spec =
     add-byte-at
     byte-at-requires-2
     is-digit-requires
-    returns-3
-    returns-4)
+    returns-3)

@@ -4,6 +4,7 @@ use Rattle.text.proofs.Places.{last-hit-below, last-miss-below, last-zero}
 use Rattle.text.specs.Place.{lastPlace}
 use lib.ListN.{length}
 use Prim.Native.Nat.{_≤_}
+use mathlib.Core.Bool.{true}
 use mathlib.Core.Path.{_≡_, sym, ap, _∙_}
 use borrow.Author.Needs.{needs}
 use native.Mathlib.Omega.{arith}
@@ -11,10 +12,10 @@ use Rattle.header.proofs.dash.last_dash.Statement.{statement}
 use Rattle.header.proofs.dash.last_dash.Tie as tie
 
 abbrev Inv-loop : tie.InvT-loop
-Inv-loop h to numbered i₀ i = (i ≤ length h) × (lastPlace (dashAt numbered h) to ≡ lastPlace (dashAt numbered h) i)
+Inv-loop h to i₀ i = (i ≤ length h) × (lastPlace (dashAt true h) to ≡ lastPlace (dashAt true h) i)
 
 abbrev μ-loop : tie.MeasureT-loop
-μ-loop h to numbered i₀ i = i
+μ-loop h to i₀ i = i
 
 loop-holds : tie.Need-loop-holds Inv-loop μ-loop
 loop-holds c = search needs
@@ -25,8 +26,8 @@ sub-is-dash c = search needs
 is-dash-requires : tie.Need-is-dash-requires Inv-loop μ-loop
 is-dash-requires c κs = omega (arith, c .before .loop .inv .0)
 
-sub-t8 : tie.Need-sub-t8 Inv-loop μ-loop
-sub-t8 c = search needs
+sub-t7 : tie.Need-sub-t7 Inv-loop μ-loop
+sub-t7 c = search needs
 
 returns : tie.Need-returns Inv-loop μ-loop
 returns c = sym (c .before .before .before .loop .inv .1 ∙ last-hit-below _ _ (c .before .before .loop-test .taken) (sym (c .before .is-dash .ensures) ∙ c .if1 .taken))
@@ -53,7 +54,7 @@ last-dash-spec =
     loop-holds
     sub-is-dash
     is-dash-requires
-    sub-t8
+    sub-t7
     returns
     sub-i
     loop-less

@@ -1,3 +1,4 @@
+-- `frame::none_high` meets its contract: what the whole blocks leave out lies in the last one. Assumes nothing.
 use Prim.Native.Nat.{ℕ, _-_, _%_}
 use mathlib.Core.List.{List}
 use lib.ListN.{length}
@@ -7,9 +8,9 @@ use native.Mathlib.Omega.{arith}
 use borrow.Author.Needs.{needs}
 use Rattle.scan.proofs.frame.none_high.Statement.{statement}
 use Rattle.scan.proofs.frame.none_high.Tie as tie
-use Rattle.scan.proofs.frame.none_high.Reads as reads
-use Rattle.scan.proofs.frame.none_high.Lts as lts
-use Rattle.scan.proofs.frame.max_byte.Reads as max-byte-reads
+
+mul-if1 : tie.Need-mul-if1
+mul-if1 c = search needs
 
 max-byte-requires : tie.Need-max-byte-requires
 max-byte-requires c κs = search needs
@@ -27,7 +28,9 @@ max-byte-requires-2 : tie.Need-max-byte-requires-2
 max-byte-requires-2 c κs = search needs
 
 returns-2 : tie.Need-returns-2
-returns-2 c = let s : List ℕ = c .before .before .before .before .before .args .s .now in left-high s {w = length s - length s % 32} (c .before .max-byte2 .ensures) (omega arith) (c .if2 .taken)
+returns-2 c =
+    let s : List ℕ = c .before .before .before .before .before .args .s .now in
+    left-high s {w = length s - length s % 32} (c .before .max-byte2 .ensures) (omega arith) (c .if2 .taken)
 
 sub-max-byte : tie.Need-sub-max-byte
 sub-max-byte c = search needs
@@ -45,12 +48,15 @@ max-byte-requires-3 : tie.Need-max-byte-requires-3
 max-byte-requires-3 c κs = search needs
 
 returns-3 : tie.Need-returns-3
-returns-3 c = let s : List ℕ = c .before .before .before .before .before .before .before .args .s .now in both-parts s (length s - 32) {w = length s - length s % 32} (omega arith) (omega arith) (c .before .before .before .max-byte2 .ensures) (c .before .before .if2 .left) (c .max-byte3 .ensures)
+returns-3 c =
+    let s : List ℕ = c .before .before .before .before .before .before .before .args .s .now in
+    both-parts s {w = length s - length s % 32} (c .before .before .before .max-byte2 .ensures) (c .before .before .if2 .left) (c .max-byte3 .ensures) (omega arith) (omega arith)
 
 pub none-high-spec : {M : Type 1} → statement M
 none-high-spec =
     tie.close
     (tie.spec
+    mul-if1
     max-byte-requires
     returns
     sub-whole

@@ -1,12 +1,10 @@
 // Task and pid: both go by a dash in the header's first run without byte 32.
-use text::class::Class;
 use text::class::is_digit;
 use text::number::MAX_32;
 use text::number::Number;
-use text::number::decimal;
+use text::number::leading;
 use text::place::Found;
 use text::place::byte_at;
-use text::run::run_end;
 ghost use mathlib.Core.Path.{_≡_};
 ghost use mathlib.Core.Bool.{true};
 ghost use Prim.Native.Nat.{_≤_, _<_};
@@ -43,11 +41,7 @@ pub fn parse_pid(h: &[u8], task: usize) -> Number
     ensures { λ r. ⌜ r ≡ pidOf (now (h .entry)) ⌝ }
 {
     match last_dash(h, task + 1) {
-        Found::At(k) => {
-            let from = k + 1;
-            let end = run_end(h, Class::Digit, from);
-            decimal(&h[from..end], MAX_32)
-        }
+        Found::At(k) => leading(h, k + 1, MAX_32),
         Found::Nothing => Number::Unreadable,
     }
 }

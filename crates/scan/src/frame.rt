@@ -17,8 +17,8 @@ const LONGEST: usize = 4096;
 // The first byte that is none of ASCII.
 const HIGH: u8 = 128;
 
-// The stride of `none_high`.
-const BLOCK: usize = 32;
+// So many bytes at a time are looked at for a high one.
+const STRIDE: usize = 32;
 
 pub enum FrameAnswer {
     Colon(usize),
@@ -67,14 +67,14 @@ fn none_high(s: &[u8]) -> bool
     ensures { λ r. ⌜ r ≡ isNothing (firstHigh (now (s .entry))) ⌝ }
 {
     let n = s.len();
-    if n < 2 * BLOCK {
+    if n < 2 * STRIDE {
         return max_byte(s) < HIGH;
     }
-    let whole = n - n % BLOCK;
+    let whole = n - n % STRIDE;
     if HIGH <= max_byte(&s[..whole]) {
         return false;
     }
-    max_byte(&s[n - BLOCK..]) < HIGH
+    max_byte(&s[n - STRIDE..]) < HIGH
 }
 
 // The largest byte; asked for is whether it is below 128, which is so exactly where every byte is. A running maximum is made one for sixteen bytes at

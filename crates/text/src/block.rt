@@ -11,7 +11,7 @@ ghost use Rattle.text.specs.Run.{behind};
 pub const BLOCK: usize = 16;
 
 // Is one of the sixteen bytes from a place on b?
-pub fn may_have(s: &[u8], at: usize, b: u8) -> bool
+pub fn holds(s: &[u8], at: usize, b: u8) -> bool
     requires { ⌜ at + 16 ≤ length (now s) ⌝ }
     ensures { λ r. ⌜ r ≡ ltb (firstOf (isAt b (now (s .entry))) 16 at) (at + 16) ⌝ }
 {

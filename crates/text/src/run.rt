@@ -2,8 +2,8 @@
 // the last block looked at may lie over bytes that were passed: right because none of these is the byte sought, so what it finds stands where it looks anew.
 use crate::block::BLOCK;
 use crate::block::first_of;
+use crate::block::holds;
 use crate::block::last_of;
-use crate::block::may_have;
 use crate::class::Class;
 use crate::class::has;
 ghost use mathlib.Core.Path.{_≡_};
@@ -53,7 +53,7 @@ pub fn until(s: &[u8], b: u8, from: usize) -> usize
     }
     let mut i = from;
     while i < last {
-        if may_have(s, i, b) {
+        if holds(s, i, b) {
             return i + first_of(s, i, b);
         }
         i += BLOCK;
@@ -84,7 +84,7 @@ pub fn behind_last(s: &[u8], b: u8) -> usize
         return behind_plain(s, b);
     }
     while BLOCK < i {
-        if may_have(s, i - BLOCK, b) {
+        if holds(s, i - BLOCK, b) {
             return i - BLOCK + last_of(s, i - BLOCK, b);
         }
         if i < 2 * BLOCK {

@@ -1,15 +1,13 @@
 -- `dash::parse_pid` meets its contract: behind the task's dash no dash stands, so the last numbered one is below. Assumes nothing.
+use native.Mathlib.Omega.{arith}
 use Rattle.text.proofs.Places.{last-is}
 use Rattle.header.proofs.Dashes.{task-within, pid-before-task, pid-some, pid-none}
 use Rattle.header.specs.Dash.{dashAt, firstRun}
 use Rattle.text.specs.Place.{lastPlace}
-use Rattle.text.specs.Class.{inClass}
-use lib.ListN.{length, take, drop}
-use Prim.Native.Nat.{ℕ, _<_, _+_, _-_, _^_}
-use Rattle.text.specs.Number.{numberOf}
+use lib.ListN.{length}
+use Prim.Native.Nat.{_<_}
 use mathlib.Core.Bool.{true}
-use mathlib.Core.Path.{_≡_, sym, ap, _∙_}
-use native.Mathlib.Omega.{arith}
+use mathlib.Core.Path.{_≡_, sym, _∙_}
 use borrow.Author.Needs.{needs}
 use Rattle.header.proofs.dash.parse_pid.Statement.{statement}
 use Rattle.header.proofs.dash.parse_pid.Tie as tie
@@ -22,10 +20,10 @@ same-dash : (c : tie.After-last-dash) → lastPlace (dashAt true (c .before .bef
 same-dash c = pid-before-task (c .before .before .args .h .now) (c .before .before .pre) ∙ sym (c .last-dash .ensures)
 
 -- the dash lies within the header
-near : (c : tie.After-known-told) → c .before .k .given .0 .0 < length (c .before .before .before .before .before .args .h .now)
+near : (c : tie.After-k) → c .k .given .0 .0 < length (c .before .before .before .before .args .h .now)
 near c =
-    let r = last-is (dashAt true (c .before .before .before .before .before .args .h .now)) (sym (c .before .before .before .last-dash .ensures) ∙ c .before .k .given .1) in
-    omega (arith, r .within, inside (c .before .before .before .before))
+    let r = last-is (dashAt true (c .before .before .before .before .args .h .now)) (sym (c .before .before .last-dash .ensures) ∙ c .k .given .1) in
+    omega (arith, r .within, inside (c .before .before .before))
 
 add-last-dash : tie.Need-add-last-dash
 add-last-dash c = omega (arith, inside c)
@@ -36,33 +34,17 @@ last-dash-requires c κs = omega (arith, inside c)
 enum-known-k : tie.Need-enum-known-k
 enum-known-k c = search needs
 
-add-from : tie.Need-add-from
-add-from c = omega (arith, near c)
+add-leading : tie.Need-add-leading
+add-leading c = omega (arith, near (c .before))
 
-run-end-requires : tie.Need-run-end-requires
-run-end-requires c κs = search needs
-
-sub-decimal : tie.Need-sub-decimal
-sub-decimal c = search needs
-
-part-decimal-start : tie.Need-part-decimal-start
-part-decimal-start c = search needs
-
-part-decimal-end : tie.Need-part-decimal-end
-part-decimal-end c = omega (arith, near (c .before), c .run-end .ensures .within)
-
-decimal-requires : tie.Need-decimal-requires
-decimal-requires c κs = search needs
+leading-requires : tie.Need-leading-requires
+leading-requires c κs = omega (arith, near (c .before))
 
 enum-told : tie.Need-enum-told
 enum-told c = search needs
 
 returns : tie.Need-returns
-unfolding inClass
-returns c =
-    c .decimal .ensures
-    ∙ ap (λ (e : ℕ). numberOf 10 (2 ^ 32 - 1) (take (e - (c .before .before .before .before .k .given .0 .0 + 1)) (drop (c .before .before .before .before .k .given .0 .0 + 1) (c .before .before .before .before .before .before .before .before .args .h .now)))) (c .before .before .run-end .ensures .is)
-    ∙ pid-some _ (same-dash (c .before .before .before .before .before .before) ∙ c .before .before .before .before .k .given .1)
+returns c = c .leading .ensures ∙ pid-some _ (same-dash (c .before .before .before .before) ∙ c .before .before .k .given .1)
 
 returns-2 : tie.Need-returns-2
 returns-2 c = pid-none _ (same-dash (c .before .before) ∙ c .enum-told .given .1)
@@ -74,12 +56,8 @@ parse-pid-spec =
     add-last-dash
     last-dash-requires
     enum-known-k
-    add-from
-    run-end-requires
-    sub-decimal
-    part-decimal-start
-    part-decimal-end
-    decimal-requires
+    add-leading
+    leading-requires
     enum-told
     returns
     returns-2)

@@ -28,11 +28,11 @@ returns c = c .behind-plain .ensures
 loop-holds : tie.Need-loop-holds Inv-loop μ-loop
 loop-holds c = (omega arith, omega arith, behind-byte _ _)
 
-sub-may-have : tie.Need-sub-may-have Inv-loop μ-loop
-sub-may-have c = search needs
+sub-holds : tie.Need-sub-holds Inv-loop μ-loop
+sub-holds c = search needs
 
-may-have-requires : tie.Need-may-have-requires Inv-loop μ-loop
-may-have-requires c κs = search needs
+holds-requires : tie.Need-holds-requires Inv-loop μ-loop
+holds-requires c κs = search needs
 
 sub-result : tie.Need-sub-result Inv-loop μ-loop
 sub-result c = search needs
@@ -49,7 +49,7 @@ add-result c = omega (arith, behind-up-to _ 16 (c .last-of .ensures))
 returns-2 : tie.Need-returns-2 Inv-loop μ-loop
 returns-2 c =
     behind-block _ _ 16 _ (c .before .before .before .before .loop .inv .0) (c .before .before .before .before .loop .inv .2)
-    (sym (c .before .before .may-have .ensures) ∙ c .before .if2 .taken) (c .last-of .ensures)
+    (sym (c .before .before .holds .ensures) ∙ c .before .if2 .taken) (c .last-of .ensures)
 
 mul-if3 : tie.Need-mul-if3 Inv-loop μ-loop
 mul-if3 c = search needs
@@ -62,7 +62,7 @@ loop-again c = (
   omega arith,
   omega arith,
   behind-down _ _ 16 (c .before .before .before .before .loop .inv .0) (omega arith) (omega arith) (c .before .before .before .before .loop .inv .2)
-      (sym (c .before .before .may-have .ensures) ∙ c .before .if2 .left),
+      (sym (c .before .before .holds .ensures) ∙ c .before .if2 .left),
 )
 
 sub-i : tie.Need-sub-i Inv-loop μ-loop
@@ -76,7 +76,7 @@ loop-again-2 c = (
   omega arith,
   omega arith,
   behind-down _ _ 16 (c .before .before .before .before .loop .inv .0) (omega arith) (omega arith) (c .before .before .before .before .loop .inv .2)
-      (sym (c .before .before .may-have .ensures) ∙ c .before .if2 .left),
+      (sym (c .before .before .holds .ensures) ∙ c .before .if2 .left),
 )
 
 last-of-requires-2 : tie.Need-last-of-requires-2 Inv-loop μ-loop
@@ -94,8 +94,8 @@ behind-last-spec =
     behind-plain-requires
     returns
     loop-holds
-    sub-may-have
-    may-have-requires
+    sub-holds
+    holds-requires
     sub-result
     sub-last-of
     last-of-requires

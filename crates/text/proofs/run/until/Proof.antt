@@ -32,8 +32,8 @@ returns-2 c = c .until-plain2 .ensures
 loop-holds : tie.Need-loop-holds Inv-loop μ-loop
 loop-holds c = (omega arith, omega arith, λ k a l. absurd (omega arith))
 
-may-have-requires : tie.Need-may-have-requires Inv-loop μ-loop
-may-have-requires c κs = search needs
+holds-requires : tie.Need-holds-requires Inv-loop μ-loop
+holds-requires c κs = search needs
 
 first-of-requires : tie.Need-first-of-requires Inv-loop μ-loop
 first-of-requires c κs = search needs
@@ -44,7 +44,7 @@ add-result c = omega (arith, first-up-to _ 16 _ (c .first-of .ensures))
 returns-3 : tie.Need-returns-3 Inv-loop μ-loop
 returns-3 c =
     until-block _ _ 16 (c .before .before .before .before .loop .inv .0) (omega (arith, c .before .before .before .loop-test .taken)) (c .before .before .before .before .loop .inv .2)
-    (sym (c .before .before .may-have .ensures) ∙ c .before .if3 .taken) (c .first-of .ensures)
+    (sym (c .before .before .holds .ensures) ∙ c .before .if3 .taken) (c .first-of .ensures)
 
 add-i : tie.Need-add-i Inv-loop μ-loop
 add-i c = search needs
@@ -53,7 +53,7 @@ loop-less : tie.Need-loop-less Inv-loop μ-loop
 loop-less c = search needs
 
 loop-again : tie.Need-loop-again Inv-loop μ-loop
-loop-again c = (omega arith, omega arith, free-on _ (c .before .before .before .loop .inv .2) (free-block _ 16 _ (sym (c .before .may-have .ensures) ∙ c .if3 .left)))
+loop-again c = (omega arith, omega arith, free-on _ (c .before .before .before .loop .inv .2) (free-block _ 16 _ (sym (c .before .holds .ensures) ∙ c .if3 .left)))
 
 first-of-requires-2 : tie.Need-first-of-requires-2 Inv-loop μ-loop
 first-of-requires-2 c κs = search needs
@@ -75,7 +75,7 @@ until-spec =
     until-plain-requires-2
     returns-2
     loop-holds
-    may-have-requires
+    holds-requires
     first-of-requires
     add-result
     returns-3

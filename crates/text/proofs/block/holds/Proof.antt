@@ -1,4 +1,4 @@
--- `block::may_have` meets its contract: while the flag is down none of the bytes looked at is the byte, and once it is up one is. Assumes nothing.
+-- `block::holds` meets its contract: while the flag is down none of the bytes looked at is the byte, and once it is up one is. Assumes nothing.
 use Rattle.text.proofs.Blocks.{none-yet, one-more, some-of, flag-tells}
 use Rattle.text.proofs.Places.{clash}
 use Rattle.text.specs.Place.{Free, isAt, firstOf}
@@ -9,8 +9,8 @@ use mathlib.Core.Bool.{true, false}
 use mathlib.Core.Logic.{⊎-elim}
 use borrow.Author.Needs.{needs}
 use native.Mathlib.Omega.{arith}
-use Rattle.text.proofs.block.may_have.Statement.{statement}
-use Rattle.text.proofs.block.may_have.Tie as tie
+use Rattle.text.proofs.block.holds.Statement.{statement}
+use Rattle.text.proofs.block.holds.Tie as tie
 
 abbrev Inv-loop : tie.InvT-loop
 Inv-loop s at b any₀ k₀ any k = (k ≤ 16) × (any ≡ false → Free (isAt b s) at (at + k)) × (any ≡ true → firstOf (isAt b s) 16 at < at + 16)
@@ -50,8 +50,8 @@ returns c =
     let z : c .before .loop .k ≡ 16 = omega (arith, c .before .loop .inv .0, c .loop-test .left) in
     flag-tells _ 16 _ _ (λ e. rw z at (c .before .loop .inv .1 e)) (c .before .loop .inv .2)
 
-pub may-have-spec : {M : Type 1} → statement M
-may-have-spec =
+pub holds-spec : {M : Type 1} → statement M
+holds-spec =
     tie.close
     (tie.spec
     Inv-loop

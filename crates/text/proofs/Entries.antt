@@ -6,8 +6,8 @@ use mathlib.Core.List.{List}
 use native.Mathlib.Omega.{arith}
 use lib.Dec.{ltb, leb, eqb}
 use lib.ListN.{length, getD, List·getD-eq-default}
-use borrow.Author.Tests.{lt-ltb, le-ltb, ltb-true, eqb-true}
-use Rattle.text.specs.Class.{between, isLetter, isDigit, isWord, isBlank}
+use borrow.Author.Tests.{lt-ltb, ltb-true, eqb-true}
+use Rattle.text.specs.Class.{between, isLetter, isDigit, isWord}
 use Rattle.text.specs.Number.{digitOf}
 use Rattle.text.proofs.Places.{by-order}
 use Rattle.text.proofs.Texts.{both-left, both-right}
@@ -42,15 +42,14 @@ same-is true b e = sym e
 same-is false true e = e
 same-is false false e = refl
 
--- a digit's entry is its value; a word byte's is at most 128; a blank's is 254
+-- a word byte's entry is at most 128, and a digit's is its value
 right : ℕ → Bool
 right b =
     same (leb (entryOf b) 128) (isWord b)
-    && same (eqb (entryOf b) 254) (isBlank b)
     && eqb (digitOf b) (cond (ltb (entryOf b) 16) (entryOf b) 16)
 
 computed : all right 256 0 ≡ true
-unfolding all right same entryOf between isLetter isDigit isWord isBlank digitOf
+unfolding all right same entryOf between isLetter isDigit isWord digitOf
 computed = refl
 
 -- no entry lies between a digit's and 128, so a sum below 128 is one of digits
@@ -58,7 +57,7 @@ apart : ℕ → Bool
 apart b = same (ltb (entryOf b) 128) (ltb (entryOf b) 16)
 
 apart-computed : all apart 256 0 ≡ true
-unfolding all apart same entryOf between isLetter isDigit isWord isBlank digitOf
+unfolding all apart same entryOf between isLetter isDigit isWord digitOf
 apart-computed = refl
 
 module _ {t : List ℕ} (is : t ≡ table) {b : ℕ} (h : b < 256) where
@@ -71,32 +70,19 @@ module _ {t : List ℕ} (is : t ≡ table) {b : ℕ} (h : b < 256) where
 
   pub entry-word : leb (getD t b 0) 128 ≡ isWord b
   unfolding right
-  entry-word = rw entry (same-is _ _ (both-left _ _ (both-left _ _ tested)))
-
-  pub entry-blank : eqb (getD t b 0) 254 ≡ isBlank b
-  unfolding right
-  entry-blank = rw entry (same-is _ _ (both-right (same (leb (entryOf b) 128) (isWord b)) _ (both-left _ _ tested)))
+  entry-word = rw entry (same-is _ _ (both-left _ _ tested))
 
   digit : digitOf b ≡ cond (ltb (getD t b 0) 16) (getD t b 0) 16
   unfolding right
-  digit = rw entry (eqb-true _ _ (both-right (same (leb (entryOf b) 128) (isWord b) && same (eqb (entryOf b) 254) (isBlank b)) _ tested))
+  digit = rw entry (eqb-true _ _ (both-right (same (leb (entryOf b) 128) (isWord b)) _ tested))
 
   pub entry-digit : getD t b 0 < 16 → digitOf b ≡ getD t b 0
   entry-digit l = digit ∙ rw (lt-ltb (getD t b 0) 16 l)
-
-  pub entry-none : 16 ≤ getD t b 0 → digitOf b ≡ 16
-  entry-none l = digit ∙ rw (le-ltb (getD t b 0) 16 l)
 
   pub entry-small : getD t b 0 < 128 → getD t b 0 < 16
   unfolding apart
   entry-small l =
       ltb-true _ _ (sym (same-is _ _ (rw (← entry) at (all-at apart 256 0 apart-computed b (omega arith) (omega arith)))) ∙ lt-ltb (getD t b 0) 128 l)
-
-  -- no digit of the base
-  pub entry-over : {base : ℕ} → base ≤ 16 → base ≤ getD t b 0 → base ≤ digitOf b
-  entry-over {base} u l =
-      by-order (getD t b 0) 16 (λ x. omega (arith, entry-digit x)) (λ x. omega (arith, entry-none (omega arith)))
-      (λ x. omega (arith, entry-none (omega arith)))
 
 -- no word byte stands behind a text
 no-word-zero : isWord 0 ≡ false

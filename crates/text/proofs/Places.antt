@@ -31,8 +31,20 @@ pub record Stops (p : ℕ → Bool) (i n j : ℕ) : Type 0 where
   pub before : Free p i j
   pub here : j < n → p j ≡ true
 
+-- two tests that say the same of every place find the same
+module _ {p q : ℕ → Bool} (same : (k : ℕ) → p k ≡ q k) where
+  pub first-same : (d i : ℕ) → firstOf p d i ≡ firstOf q d i
+  unfolding firstOf
+  first-same zero i = refl
+  first-same (suc d) i = rw (same i, first-same d (suc i))
+
+  pub last-same : (n : ℕ) → lastPlace p n ≡ lastPlace q n
+  unfolding lastPlace
+  last-same zero = refl
+  last-same (suc n) = rw (same n, last-same n)
+
 module _ (p : ℕ → Bool) where
-  stops-in : (d i n : ℕ) → n ≡ i + d → Stops p i n (firstOf p d i)
+  pub stops-in : (d i n : ℕ) → n ≡ i + d → Stops p i n (firstOf p d i)
   unfolding firstOf
   stops-in zero i n e =
       record {

@@ -5,14 +5,16 @@ use mathlib.Core.Path.{_≡_, refl, sym, ap, _∙_}
 use mathlib.Core.Bool.{Bool, true, false, not}
 use mathlib.Core.List.{List}
 use native.Mathlib.Omega.{arith}
+use lib.Dec.{ltb}
 use lib.ListN.{length, getD}
-use borrow.Author.Tests.{not-true, not-false}
+use borrow.Author.Tests.{lt-ltb, le-ltb, ltb-true, not-true, not-false}
 use Rattle.text.specs.declared.place.Found.{Found}
 use Rattle.text.specs.declared.place.Found.the-variants.{At, Nothing}
 use Rattle.text.specs.Class.{isWord, noWord, otherThan}
-use Rattle.text.specs.Place.{Free, isAt, lastPlace, firstByte, lastByte}
+use Rattle.text.specs.Place.{Free, isAt, firstOf, firstIn, foundBelow, firstPlace, firstByte, lastPlace, lastByte}
 use Rattle.text.specs.Run.{Run, RunBack, EndsAt, StartsAt, failsAt, runEnd, behind, runStart}
-use Rattle.text.proofs.Places.{by-order, Stops, first-stops, first-end, first-hit, first-miss, one-stop, last-hit-below, last-miss-below, last-zero, last-all, last-none, last-is, last-free, first-is, first-free}
+use Rattle.text.proofs.Places.{by-order, Stops, first-stops, first-end, first-hit, first-miss, one-stop, first-same, last-hit-below, last-miss-below, last-zero, last-same, last-all, last-none, last-is, last-free}
+use Rattle.text.proofs.Blocks.{free-block, first-by-block, last-by-block, last-skip-to}
 
 -- a test that fails is its negation's pass
 flip : {b : Bool} → b ≡ false → not b ≡ true
@@ -149,34 +151,78 @@ module _ (p : ℕ → Bool) (s : List ℕ) where
 
 -- the bytes other than one: their run ends at the first place of that byte, and the run that ends the text starts behind the last
 module _ (b : ℕ) (s : List ℕ) where
-  others : {i e : ℕ} → Free (isAt b s) i e → (k : ℕ) → i ≤ k → k < e → otherThan b (getD s k 0) ≡ true
-  others f k a l = flip (f k a l)
+  twice : (k : ℕ) → failsAt (otherThan b) s k ≡ isAt b s k
+  twice k = go (isAt b s k)
+    where
+      go : (x : Bool) → not (not x) ≡ x
+      go true = refl
+      go false = refl
 
-  pub until-found : (i : ℕ) {k : ℕ} → firstByte b s i ≡ At k → k ≡ runEnd (otherThan b) s i
-  unfolding firstByte
-  until-found i {k} e =
-      let r = first-is (isAt b s) e in
-      sym (run-all (otherThan b) s (record { from = r .from; within = omega (arith, r .within); inside = others (r .before); stops = λ l. flop (r .here) }))
+  pub until-first : (i : ℕ) → runEnd (otherThan b) s i ≡ firstIn (isAt b s) (length s) i
+  unfolding runEnd firstIn
+  until-first i = first-same twice (length s - i) i
 
-  pub until-none : {i : ℕ} → i ≤ length s → firstByte b s i ≡ Nothing → length s ≡ runEnd (otherThan b) s i
-  unfolding firstByte
-  until-none {i} h e =
-      sym (run-all (otherThan b) s (record { from = h; within = omega arith; inside = others (first-free (isAt b s) e h); stops = λ l. absurd (omega arith) }))
+  pub behind-byte : runStart (otherThan b) s ≡ behind (lastPlace (isAt b s) (length s))
+  unfolding runStart
+  behind-byte = ap behind (last-same twice (length s))
 
-  pub behind-found : {k : ℕ} → lastByte b s ≡ At k → suc k ≡ runStart (otherThan b) s
-  unfolding lastByte
-  behind-found {k} e =
-      let r = last-is (isAt b s) e in
-      sym (back-all (otherThan b) s (suc k) (record {
-        within = r .within;
-        inside = others (r .after);
-        stops = λ j q. let z : k ≡ j = omega arith in rw (← z) (flop (r .here));
-      }))
+  -- so the run tells where the byte stands
+  pub first-there : {i k : ℕ} → EndsAt (otherThan b) s i k → k < length s → At k ≡ firstByte b s i
+  unfolding firstByte firstPlace foundBelow
+  first-there {i} {k} r h = rw (← until-first i, ← r .is, lt-ltb k (length s) h)
 
-  pub behind-none : lastByte b s ≡ Nothing → 0 ≡ runStart (otherThan b) s
-  unfolding lastByte
-  behind-none e =
-      sym (back-all (otherThan b) s 0 (record { within = omega arith; inside = others (last-free (isAt b s) e); stops = λ j q. absurd (omega arith) }))
+  pub first-nowhere : {i k : ℕ} → EndsAt (otherThan b) s i k → length s ≤ k → Nothing ≡ firstByte b s i
+  unfolding firstByte firstPlace foundBelow
+  first-nowhere {i} {k} r h = rw (← until-first i, ← r .is, le-ltb k (length s) h)
+
+  pub last-there : {k : ℕ} → StartsAt (otherThan b) s k → 0 < k → At (k - 1) ≡ lastByte b s
+  unfolding lastByte behind
+  last-there {k} r h = go (lastPlace (isAt b s) (length s)) (r .is ∙ behind-byte)
+    where
+      go : (f : Found) → k ≡ behind f → At (k - 1) ≡ f
+      go (At j) q = ap At (omega arith)
+      go Nothing q = absurd (omega arith)
+
+  pub last-nowhere : {k : ℕ} → StartsAt (otherThan b) s k → k ≡ 0 → Nothing ≡ lastByte b s
+  unfolding lastByte behind
+  last-nowhere {k} r h = go (lastPlace (isAt b s) (length s)) (r .is ∙ behind-byte)
+    where
+      go : (f : Found) → k ≡ behind f → Nothing ≡ f
+      go (At j) q = absurd (omega arith)
+      go Nothing q = refl
+
+  -- by blocks of d bytes: the run ends where the first block that has the byte says, or the last block of all
+  pub until-block : (d : ℕ) {from i e : ℕ} → from ≤ i → i + d ≤ length s → Free (isAt b s) from i → ltb (firstOf (isAt b s) d i) (i + d) ≡ true →
+      e ≡ firstOf (isAt b s) d i → EndsAt (otherThan b) s from e
+  until-block d {from} u l f h q =
+      ends-at (otherThan b) s (q ∙ sym (first-by-block (isAt b s) d u l f (λ x. ltb-true _ _ h)) ∙ sym (until-first from))
+
+  pub until-end : (d : ℕ) {from i j e : ℕ} → from ≤ j → j ≤ i → j + d ≡ length s → Free (isAt b s) from i → e ≡ firstOf (isAt b s) d j →
+      EndsAt (otherThan b) s from e
+  until-end d {from} u l n f q =
+      ends-at (otherThan b) s
+      (q ∙ sym (first-by-block (isAt b s) d u (omega arith) (λ k x y. f k x (omega arith)) (λ x. omega arith)) ∙ sym (until-first from))
+
+  -- and it starts where the last block that has the byte says, or the first block of all
+  pub behind-block : (d i : ℕ) {r : ℕ} → d ≤ i → runStart (otherThan b) s ≡ behind (lastPlace (isAt b s) i) →
+      ltb (firstOf (isAt b s) d (i - d)) (i - d + d) ≡ true → r ≡ behind (lastPlace (λ (k : ℕ). isAt b s (i - d + k)) d) →
+      StartsAt (otherThan b) s (i - d + r)
+  behind-block d i {r} l e h q =
+      let z : i - d + d ≡ i = omega arith in
+      let below = last-by-block (isAt b s) d (i - d) (ltb-true _ _ h) in
+      starts-at (otherThan b) s (sym (e ∙ ap (λ (k : ℕ). behind (lastPlace (isAt b s) k)) (sym z) ∙ below ∙ ap (_+_ (i - d)) (sym q)))
+
+  pub behind-front : (d i : ℕ) {r : ℕ} → i ≡ d → runStart (otherThan b) s ≡ behind (lastPlace (isAt b s) i) →
+      r ≡ behind (lastPlace (λ (k : ℕ). isAt b s (0 + k)) d) → StartsAt (otherThan b) s r
+  behind-front d i l e q =
+      let front : lastPlace (λ (k : ℕ). isAt b s (0 + k)) d ≡ lastPlace (isAt b s) d = last-same (λ k. ap (isAt b s) (omega arith)) d in
+      starts-at (otherThan b) s (q ∙ ap behind front ∙ sym (rw l at e))
+
+  -- a block without the byte is passed over, whole or in part
+  pub behind-down : (d : ℕ) {i j : ℕ} → d ≤ i → i - d ≤ j → j ≤ i → runStart (otherThan b) s ≡ behind (lastPlace (isAt b s) i) →
+      ltb (firstOf (isAt b s) d (i - d)) (i - d + d) ≡ false → runStart (otherThan b) s ≡ behind (lastPlace (isAt b s) j)
+  behind-down d {i} {j} l u h e t =
+      e ∙ ap behind (last-skip-to (isAt b s) h (λ k x y. free-block (isAt b s) d (i - d) t k (omega arith) (omega arith)))
 
 -- what ends at the first word byte: none stands before it, and where the text goes on one stands there
 module _ (s : List ℕ) {i e : ℕ} (r : EndsAt noWord s i e) where

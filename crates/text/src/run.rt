@@ -1,9 +1,11 @@
-// Longest runs of a class, from a place and back from the end, and what stripping leaves.
+// Longest runs of a class, from a place and back from the end, and what stripping leaves. Runs of every byte but one go by blocks of sixteen bytes, and
+// the last block looked at may lie over bytes that were passed: right because none of these is the byte sought, so what it finds stands where it looks anew.
+use crate::block::BLOCK;
+use crate::block::first_of;
+use crate::block::last_of;
+use crate::block::may_have;
 use crate::class::Class;
 use crate::class::has;
-use crate::place::Found;
-use crate::place::first;
-use crate::place::last;
 ghost use mathlib.Core.Path.{_≡_};
 ghost use Rattle.text.specs.Class.{inClass, isBlank, otherThan};
 ghost use Rattle.text.specs.Run.{EndsAt, StartsAt, runEnd, stripped};
@@ -41,23 +43,71 @@ pub fn run_start(s: &[u8], c: Class) -> usize
 pub fn until(s: &[u8], b: u8, from: usize) -> usize
     ensures { λ r. ⌜ EndsAt (otherThan b) (now (s .entry)) from r ⌝ }
 {
-    if s.len() <= from {
-        return from;
+    let n = s.len();
+    if n < BLOCK {
+        return until_plain(s, b, from);
     }
-    match first(s, b, from) {
-        Found::At(k) => k,
-        Found::Nothing => s.len(),
+    let last = n - BLOCK;
+    if last < from {
+        return until_plain(s, b, from);
     }
+    let mut i = from;
+    while i < last {
+        if may_have(s, i, b) {
+            return i + first_of(s, i, b);
+        }
+        i += BLOCK;
+    }
+    last + first_of(s, last, b)
+}
+
+// The same, byte by byte: where no block fits.
+fn until_plain(s: &[u8], b: u8, from: usize) -> usize
+    ensures { λ r. ⌜ EndsAt (otherThan b) (now (s .entry)) from r ⌝ }
+{
+    let mut i = from;
+    while i < s.len() {
+        if s[i] == b {
+            return i;
+        }
+        i += 1;
+    }
+    i
 }
 
 // Where the run of bytes other than b that ends the text starts: behind the last b, else at the text's start.
 pub fn behind_last(s: &[u8], b: u8) -> usize
     ensures { λ r. ⌜ StartsAt (otherThan b) (now (s .entry)) r ⌝ }
 {
-    match last(s, b) {
-        Found::At(k) => k + 1,
-        Found::Nothing => 0,
+    let mut i = s.len();
+    if i < BLOCK {
+        return behind_plain(s, b);
     }
+    while BLOCK < i {
+        if may_have(s, i - BLOCK, b) {
+            return i - BLOCK + last_of(s, i - BLOCK, b);
+        }
+        if i < 2 * BLOCK {
+            i = BLOCK;
+        } else {
+            i -= BLOCK;
+        }
+    }
+    last_of(s, 0, b)
+}
+
+// The same, byte by byte: where no block fits.
+fn behind_plain(s: &[u8], b: u8) -> usize
+    ensures { λ r. ⌜ StartsAt (otherThan b) (now (s .entry)) r ⌝ }
+{
+    let mut i = s.len();
+    while i != 0 {
+        if s[i - 1] == b {
+            return i;
+        }
+        i -= 1;
+    }
+    0
 }
 
 // The text without the blanks at its ends: a part of what is lent.

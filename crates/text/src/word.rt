@@ -23,7 +23,7 @@ pub fn eight(s: &[u8], i: usize) -> u64
 }
 
 // The four bytes from a place on.
-pub fn four(s: &[u8], i: usize) -> u64
+fn four(s: &[u8], i: usize) -> u64
     requires { ⌜ i + 4 ≤ length (now s) ⌝ }
     ensures { λ r. ⌜ (Word 4 (now (s .entry)) i r) × (r < 4294967296) ⌝ }
 {

@@ -9,7 +9,7 @@ use native.Mathlib.Nat.{pow-suc, pow-le-pow-right, mul-le-mul}
 use lib.Dec.{ltb, leb}
 use lib.ListN.{length, getD, take, drop, length-drop}
 use lib.Seq.{getD-take, getD-drop, length-take-le}
-use borrow.Author.Tests.{lt-leb, leb-true}
+use borrow.Author.Tests.{lt-leb, leb-true, leb-false}
 use Rattle.text.specs.declared.number.Number.the-variants as N
 use Rattle.text.specs.Class.{between, isDigit}
 use Rattle.text.specs.Number.{digitOf, value, allDigits, numberOf}
@@ -101,16 +101,16 @@ module _ (s : List ℕ) (from limit : ℕ) {v j : ℕ} (r : ReadTo s 10 from v j
   unfolding numberOf allDigits value
   leading-none e = let z : j - from ≡ 0 = omega arith in rw (run-read, z)
 
-  pub leading-wide : limit < v → N.Unreadable ≡ numberOf 10 limit (take (runEnd isDigit s from - from) (drop from s))
+  wide : limit < v → N.Unreadable ≡ numberOf 10 limit (take (runEnd isDigit s from - from) (drop from s))
   unfolding numberOf
-  leading-wide l = rw (run-read, ← r .is, lt-leb v limit l) (go (ltb 0 (length (take (j - from) (drop from s))) && allDigits 10 (take (j - from) (drop from s))))
+  wide l = rw (run-read, ← r .is, lt-leb v limit l) (go (ltb 0 (length (take (j - from) (drop from s))) && allDigits 10 (take (j - from) (drop from s))))
     where
       go : (x : Bool) → N.Unreadable ≡ cond (x && false) (N.Value v) N.Unreadable
       go true = refl
       go false = refl
 
-  pub leading-value : (j ≡ from → ⊥) → v ≤ limit → N.Value v ≡ numberOf 10 limit (take (runEnd isDigit s from - from) (drop from s))
-  leading-value some l =
+  fits : (j ≡ from → ⊥) → v ≤ limit → N.Value v ≡ numberOf 10 limit (take (runEnd isDigit s from - from) (drop from s))
+  fits some l =
       let size : length (take (j - from) (drop from s)) ≡ j - from = length-take-le (j - from) (drop from s) (omega (arith, length-drop from s, r .within)) in
       rw run-read
       (sym
@@ -121,3 +121,10 @@ module _ (s : List ℕ) (from limit : ℕ) {v j : ℕ} (r : ReadTo s 10 from v j
         is = sym (r .is);
         within = l;
       })))
+
+  pub leading-some : (j ≡ from → ⊥) → cond (leb v limit) (N.Value v) N.Unreadable ≡ numberOf 10 limit (take (runEnd isDigit s from - from) (drop from s))
+  leading-some some = go (leb v limit) refl
+    where
+      go : (b : Bool) → leb v limit ≡ b → cond b (N.Value v) N.Unreadable ≡ numberOf 10 limit (take (runEnd isDigit s from - from) (drop from s))
+      go true t = fits some (leb-true v limit t)
+      go false t = wide (leb-false v limit t)

@@ -8,7 +8,8 @@ use native.Mathlib.Omega.{arith}
 use native.Mathlib.Nat.{pow-suc, pow-le-pow-right, mul-le-mul}
 use lib.ListN.{length, getD, drop, drop-of-length-le}
 use lib.Seq.{drop-cons}
-use borrow.Author.Tests.{lt-ltb, lt-leb}
+use lib.Dec.{leb}
+use borrow.Author.Tests.{lt-ltb, lt-leb, leb-true, leb-false}
 use Rattle.text.specs.declared.number.Number.the-variants as N
 use Rattle.text.specs.Class.{between, isDigit}
 use Rattle.text.specs.Number.{digitOf, value, badAt, badFirst, valueWithin, readingOf, readValue}
@@ -75,11 +76,18 @@ module _ (base from : ℕ) (s : List ℕ) where
     unfolding readingOf badFirst readValue
     few-bad {v} {i} r h e l = rw (lt-ltb from (length s) (r .some), r .clean .same, place-hit (badAt base s) h (is-bad base s i e l))
 
-    pub few-wide : {v i : ℕ} → Few v i → length s ≤ i → limit < v → N.Unreadable ≡ readValue (readingOf base limit from s)
+    few-wide : {v i : ℕ} → Few v i → length s ≤ i → limit < v → N.Unreadable ≡ readValue (readingOf base limit from s)
     unfolding readingOf badFirst valueWithin value readValue
     few-wide {v} {i} r h l =
         let e : value base 0 (drop from s) ≡ v = r .same-value ∙ rw (drop-of-length-le s h) in
         rw (lt-ltb from (length s) (r .some), r .clean .same, place-end (badAt base s) h, e, lt-leb v limit l)
 
-    pub few-whole : {v i : ℕ} → Few v i → length s ≤ i → v ≤ limit → N.Value v ≡ readValue (readingOf base limit from s)
-    few-whole {v} {i} r h l = whole-value base limit from s (record { some = r .some; fits = l; clean = r .clean; same-value = r .same-value }) h
+    few-fits : {v i : ℕ} → Few v i → length s ≤ i → v ≤ limit → N.Value v ≡ readValue (readingOf base limit from s)
+    few-fits {v} {i} r h l = whole-value base limit from s (record { some = r .some; fits = l; clean = r .clean; same-value = r .same-value }) h
+
+    pub few-whole : {v i : ℕ} → Few v i → length s ≤ i → cond (leb v limit) (N.Value v) N.Unreadable ≡ readValue (readingOf base limit from s)
+    few-whole {v} r h = go (leb v limit) refl
+      where
+        go : (b : Bool) → leb v limit ≡ b → cond b (N.Value v) N.Unreadable ≡ readValue (readingOf base limit from s)
+        go true t = few-fits r h (leb-true v limit t)
+        go false t = few-wide r h (leb-false v limit t)

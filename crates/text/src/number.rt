@@ -5,9 +5,12 @@ use crate::class::lies_between;
 use crate::place::byte_at;
 use crate::run::run_end;
 ghost use mathlib.Core.Path.{_≡_};
+ghost use mathlib.Core.Bool.{cond};
 ghost use Prim.Native.Nat.{_≤_, _<_, _+_, _-_};
+ghost use lib.Dec.{leb};
 ghost use lib.ListN.{length, take, drop};
 ghost use Rattle.text.specs.Class.{isDigit};
+ghost use Rattle.text.specs.declared.number.Number.the-variants as N;
 ghost use Rattle.text.specs.Run.{runEnd};
 ghost use Rattle.text.specs.Number.{digitOf, numberOf, readingOf, reasonOf, digitsFrom, hexOf, readValue};
 
@@ -67,10 +70,7 @@ pub fn leading(s: &[u8], from: usize, limit: u64) -> Number
     if i == from {
         return Number::Unreadable;
     }
-    if limit < v {
-        return Number::Unreadable;
-    }
-    Number::Value(v)
+    within(v, limit)
 }
 
 // `0x` at most once, then one or more digits of either case, of value at most the limit. A bad digit's place counts the `0x`.
@@ -138,6 +138,13 @@ fn read_short(s: &[u8], from: usize, base: u64, limit: u64) -> Number
         v = v * base + d;
         i += 1;
     }
+    within(v, limit)
+}
+
+// A value, unless it is past the limit.
+fn within(v: u64, limit: u64) -> Number
+    ensures { λ r. ⌜ r ≡ cond (leb v limit) (N.Value v) N.Unreadable ⌝ }
+{
     if limit < v {
         return Number::Unreadable;
     }

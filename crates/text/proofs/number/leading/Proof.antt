@@ -1,5 +1,5 @@
 -- `number::leading` meets its contract: what is read so far is a `ReadTo`, and digits that no further one follows are the whole run. Assumes nothing.
-use Rattle.text.proofs.DigitRuns.{ReadTo, read-starts, read-fits, read-steps, digit-above, leading-none, leading-wide, leading-value}
+use Rattle.text.proofs.DigitRuns.{ReadTo, read-starts, read-fits, read-steps, digit-above, leading-none, leading-some}
 use Rattle.text.specs.Class.{isDigit, inClass}
 use Rattle.text.specs.Number.{numberOf}
 use lib.ListN.{length, getD, take, drop}
@@ -71,11 +71,11 @@ loop-again c = read-steps _ _ _ (c .before .before .before .before .before .loop
 returns-2 : tie.Need-returns-2 Inv-loop μ-loop
 returns-2 c = leading-none _ _ _ (c .before .before .loop .inv) (stops (c .before)) (c .if3 .taken)
 
-returns-3 : tie.Need-returns-3 Inv-loop μ-loop
-returns-3 c = leading-wide _ _ _ (c .before .before .before .loop .inv) (stops (c .before .before)) (c .if4 .taken)
+within-requires : tie.Need-within-requires Inv-loop μ-loop
+within-requires c κs = search needs
 
-returns-4 : tie.Need-returns-4 Inv-loop μ-loop
-returns-4 c = leading-value _ _ _ (c .before .before .before .loop .inv) (stops (c .before .before)) (c .before .if3 .left) (c .if4 .left)
+returns-3 : tie.Need-returns-3 Inv-loop μ-loop
+returns-3 c = c .within .ensures ∙ leading-some _ _ _ (c .before .before .before .loop .inv) (stops (c .before .before)) (c .before .if3 .left)
 
 pub leading-spec : {M : Type 1} → statement M
 leading-spec =
@@ -99,5 +99,5 @@ leading-spec =
     loop-less
     loop-again
     returns-2
-    returns-3
-    returns-4)
+    within-requires
+    returns-3)

@@ -1,6 +1,6 @@
 -- `number::read_short` meets its contract: what is read so far is a `Few`, and each way out is one of its laws. Assumes nothing.
-use Rattle.text.proofs.FewDigits.{Few, few-starts, few-steps, few-fit, few-bad, few-wide, few-whole}
-use mathlib.Core.Path.{refl}
+use Rattle.text.proofs.FewDigits.{Few, few-starts, few-steps, few-fit, few-bad, few-whole}
+use mathlib.Core.Path.{refl, _∙_}
 use lib.ListN.{length}
 use Prim.Native.Nat.{_-_}
 use borrow.Author.Needs.{needs}
@@ -41,11 +41,11 @@ loop-less c = search needs
 loop-again : tie.Need-loop-again Inv-loop μ-loop
 loop-again c = few-steps _ _ _ (c .before .before .before .before .loop .inv) (c .before .before .before .loop-test .taken) (c .before .before .before .before .before .before .pre .1) (c .before .digit-in .ensures .0 (c .if1 .left)) (c .if1 .left)
 
-returns-2 : tie.Need-returns-2 Inv-loop μ-loop
-returns-2 c = few-wide _ _ _ _ (c .before .before .loop .inv) (c .before .loop-test .left) (c .if2 .taken)
+within-requires : tie.Need-within-requires Inv-loop μ-loop
+within-requires c κs = search needs
 
-returns-3 : tie.Need-returns-3 Inv-loop μ-loop
-returns-3 c = few-whole _ _ _ _ (c .before .before .loop .inv) (c .before .loop-test .left) (c .if2 .left)
+returns-2 : tie.Need-returns-2 Inv-loop μ-loop
+returns-2 c = c .within .ensures ∙ few-whole _ _ _ _ (c .before .before .loop .inv) (c .before .loop-test .left)
 
 pub read-short-spec : {M : Type 1} → statement M
 read-short-spec =
@@ -62,5 +62,5 @@ read-short-spec =
     add-i
     loop-less
     loop-again
-    returns-2
-    returns-3)
+    within-requires
+    returns-2)

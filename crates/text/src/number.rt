@@ -26,7 +26,7 @@ pub const MAX_63: u64 = 0x7fff_ffff_ffff_ffff;
 pub const MAX_64: u64 = 0xffff_ffff_ffff_ffff;
 
 // So many digits of any base up to 16 stay within 64 bits.
-const SHORT: usize = 16;
+pub const SHORT: usize = 16;
 
 pub enum Number {
     Value(u64),
@@ -142,7 +142,7 @@ fn read_short(s: &[u8], from: usize, base: u64, limit: u64) -> Number
 }
 
 // A value, unless it is past the limit.
-fn within(v: u64, limit: u64) -> Number
+pub fn within(v: u64, limit: u64) -> Number
     ensures { λ r. ⌜ r ≡ cond (leb v limit) (N.Value v) N.Unreadable ⌝ }
 {
     if limit < v {

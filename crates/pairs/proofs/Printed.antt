@@ -95,7 +95,7 @@ module _ (s : List ℕ) (n at : ℕ) (h : at + n ≤ length s) where
 
 -- ---- the piece
 
--- the two separators as numbers, each that of its text
+-- `, ` and `0x` as numbers, each that of its text
 pub comma-space-number : 0x202c ≡ wordOf (bytes ", ")
 unfolding wordOf
 comma-space-number = refl

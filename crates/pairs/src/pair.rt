@@ -7,7 +7,7 @@ use text::run::run_end;
 use text::run::until;
 use text::same::same;
 ghost use mathlib.Core.Path.{_≡_};
-ghost use Prim.Native.Nat.{_+_, _≤_};
+ghost use Prim.Native.Nat.{_≤_};
 ghost use lib.ListN.{length};
 ghost use Rattle.text.specs.Class.{inClass, isWord};
 ghost use Rattle.text.specs.Run.{runEnd, runStart};

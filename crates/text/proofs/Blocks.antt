@@ -24,7 +24,7 @@ module _ (p : ℕ → Bool) where
   pub free-on : {i j k : ℕ} → Free p i j → Free p j k → Free p i k
   free-on {i} {j} {k} f g m a b = by-order m j (λ h. f m a h) (λ e. g m (omega arith) b) (λ h. g m (omega arith) b)
 
-  -- d places have one that passes where the first of them is not behind them
+  -- where one of d places passes, the first that does is one of them
   pub some-of : (d : ℕ) {i j : ℕ} → i ≤ j → j < i + d → p j ≡ true → firstOf p d i < i + d
   some-of d {i} {j} a b t =
       by-order (firstOf p d i) j (λ h. omega arith) (λ e. omega arith)

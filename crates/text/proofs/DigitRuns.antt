@@ -5,16 +5,16 @@ use mathlib.Core.Path.{_≡_, refl, sym, ap, _∙_}
 use mathlib.Core.Bool.{Bool, true, false, cond, _&&_}
 use mathlib.Core.List.{List, [], _∷_}
 use native.Mathlib.Omega.{arith}
-use native.Mathlib.Nat.{pow-suc, pow-le-pow-right, mul-le-mul}
+use native.Mathlib.Nat.{pow-suc}
 use lib.Dec.{ltb, leb}
 use lib.ListN.{length, getD, take, drop, length-drop}
 use lib.Seq.{getD-take, getD-drop, length-take-le}
 use borrow.Author.Tests.{lt-leb, leb-true, leb-false}
 use Rattle.text.specs.declared.number.Number.the-variants as N
 use Rattle.text.specs.Class.{between, isDigit}
-use Rattle.text.specs.Number.{digitOf, value, allDigits, numberOf}
-use Rattle.text.specs.Run.{Run, runEnd}
-use Rattle.text.proofs.FewDigits.{digit-is, digit-none}
+use Rattle.text.specs.Number.{digitOf, value, allDigits, numberOf, leadingOf}
+use Rattle.text.specs.Run.{runEnd}
+use Rattle.text.proofs.FewDigits.{digit-is, digit-none, digit-more, sixteen-fit}
 use Rattle.text.proofs.Numbers.{number-all}
 use Rattle.text.proofs.Places.{by-order}
 use Rattle.text.proofs.Runs.{run-all}
@@ -42,16 +42,9 @@ module _ (s : List ℕ) (base from : ℕ) where
       let e : from - from ≡ 0 = omega arith in
       record { up = omega arith; within = h; narrow = rw e (omega arith); digits = λ k a b. absurd (omega arith); is = rw e }
 
-  wider : {v j d : ℕ} → ReadTo v j → base ≤ 16 → d < base → v * base + d < 16 ^ (j - from) * 16
-  wider {v} {j} {d} r b l =
-      let p : suc v * base ≤ 16 ^ (j - from) * 16 = mul-le-mul (r .narrow) b in
-      omega (arith, p)
-
   -- one of sixteen stays within 64 bits
   pub read-fits : {v j d : ℕ} → ReadTo v j → j - from < 16 → base ≤ 16 → d < base → v * base + d < 18446744073709551616
-  read-fits {v} {j} {d} r h b l =
-      let p : 16 ^ (j - from) ≤ 16 ^ 15 = pow-le-pow-right {n = 16} (omega arith) {i = j - from} {j = 15} (omega arith) in
-      omega (arith, p, wider r b l)
+  read-fits {v} {j} r h b l = sixteen-fit (j - from) h (r .narrow) b l
 
   pub read-steps : {v j d : ℕ} → ReadTo v j → j < length s → base ≤ 16 → d ≡ digitOf (getD s j 0) → d < base → ReadTo (v * base + d) (j + 1)
   read-steps {v} {j} {d} r h b e l =
@@ -62,7 +55,7 @@ module _ (s : List ℕ) (base from : ℕ) where
       record {
         up = omega (arith, r .up);
         within = omega arith;
-        narrow = rw (z, pow-suc 16 (j - from)) (wider r b l);
+        narrow = rw (z, pow-suc 16 (j - from)) (digit-more (j - from) (r .narrow) b l);
         digits =
             λ k a c. by-order k j (λ x. r .digits k a x) (λ x. rw (x, ← e) l) (λ x. absurd (omega arith));
         is = rw z (rw (r .is, e, ← there) (sym more));
@@ -97,11 +90,11 @@ module _ (s : List ℕ) (from limit : ℕ) {v j : ℕ} (r : ReadTo s 10 from v j
       run-all isDigit s
       (record { from = r .up; within = r .within; inside = λ k a b. digit-below (getD s k 0) (r .digits k a b); stops = stops })
 
-  pub leading-none : j ≡ from → N.Unreadable ≡ numberOf 10 limit (take (runEnd isDigit s from - from) (drop from s))
+  pub leading-none : j ≡ from → N.Unreadable ≡ leadingOf limit s from
   unfolding numberOf allDigits value
   leading-none e = let z : j - from ≡ 0 = omega arith in rw (run-read, z)
 
-  wide : limit < v → N.Unreadable ≡ numberOf 10 limit (take (runEnd isDigit s from - from) (drop from s))
+  wide : limit < v → N.Unreadable ≡ leadingOf limit s from
   unfolding numberOf
   wide l = rw (run-read, ← r .is, lt-leb v limit l) (go (ltb 0 (length (take (j - from) (drop from s))) && allDigits 10 (take (j - from) (drop from s))))
     where
@@ -109,7 +102,7 @@ module _ (s : List ℕ) (from limit : ℕ) {v j : ℕ} (r : ReadTo s 10 from v j
       go true = refl
       go false = refl
 
-  fits : (j ≡ from → ⊥) → v ≤ limit → N.Value v ≡ numberOf 10 limit (take (runEnd isDigit s from - from) (drop from s))
+  fits : (j ≡ from → ⊥) → v ≤ limit → N.Value v ≡ leadingOf limit s from
   fits some l =
       let size : length (take (j - from) (drop from s)) ≡ j - from = length-take-le (j - from) (drop from s) (omega (arith, length-drop from s, r .within)) in
       rw run-read
@@ -122,9 +115,9 @@ module _ (s : List ℕ) (from limit : ℕ) {v j : ℕ} (r : ReadTo s 10 from v j
         within = l;
       })))
 
-  pub leading-some : (j ≡ from → ⊥) → cond (leb v limit) (N.Value v) N.Unreadable ≡ numberOf 10 limit (take (runEnd isDigit s from - from) (drop from s))
+  pub leading-some : (j ≡ from → ⊥) → cond (leb v limit) (N.Value v) N.Unreadable ≡ leadingOf limit s from
   leading-some some = go (leb v limit) refl
     where
-      go : (b : Bool) → leb v limit ≡ b → cond b (N.Value v) N.Unreadable ≡ numberOf 10 limit (take (runEnd isDigit s from - from) (drop from s))
+      go : (b : Bool) → leb v limit ≡ b → cond b (N.Value v) N.Unreadable ≡ leadingOf limit s from
       go true t = fits some (leb-true v limit t)
       go false t = wide (leb-false v limit t)

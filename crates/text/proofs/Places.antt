@@ -255,7 +255,7 @@ stands-within s i h = by-order i (length s) (λ l. l) (λ e. absurd (h (List·ge
 
 -- what does not pass is passed over
 module _ (p : ℕ → Bool) where
-  pub place-skip : (d : ℕ) {i n : ℕ} → i + d ≤ n → Free p i (i + d) → firstPlace p n i ≡ firstPlace p n (i + d)
+  place-skip : (d : ℕ) {i n : ℕ} → i + d ≤ n → Free p i (i + d) → firstPlace p n i ≡ firstPlace p n (i + d)
   place-skip zero {i} {n} h f = let e : i + 0 ≡ i = omega arith in rw e
   place-skip (suc d) {i} {n} h f =
       let e : i + suc d ≡ i + 1 + d = omega arith in

@@ -151,20 +151,20 @@ module _ (p : ℕ → Bool) (s : List ℕ) where
 
 -- the bytes other than one: their run ends at the first place of that byte, and the run that ends the text starts behind the last
 module _ (b : ℕ) (s : List ℕ) where
-  twice : (k : ℕ) → failsAt (otherThan b) s k ≡ isAt b s k
-  twice k = go (isAt b s k)
+  other-fails-at : (k : ℕ) → failsAt (otherThan b) s k ≡ isAt b s k
+  other-fails-at k = go (isAt b s k)
     where
       go : (x : Bool) → not (not x) ≡ x
       go true = refl
       go false = refl
 
-  pub until-first : (i : ℕ) → runEnd (otherThan b) s i ≡ firstIn (isAt b s) (length s) i
+  until-first : (i : ℕ) → runEnd (otherThan b) s i ≡ firstIn (isAt b s) (length s) i
   unfolding runEnd firstIn
-  until-first i = first-same twice (length s - i) i
+  until-first i = first-same other-fails-at (length s - i) i
 
   pub behind-byte : runStart (otherThan b) s ≡ behind (lastPlace (isAt b s) (length s))
   unfolding runStart
-  behind-byte = ap behind (last-same twice (length s))
+  behind-byte = ap behind (last-same other-fails-at (length s))
 
   -- so the run tells where the byte stands
   pub first-there : {i k : ℕ} → EndsAt (otherThan b) s i k → k < length s → At k ≡ firstByte b s i

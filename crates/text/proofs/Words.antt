@@ -80,8 +80,8 @@ module _ (s : List ℕ) where
   past-end zero j h = refl
   past-end (suc n) j h = omega (arith, List·getD-eq-default s 0 {n = j} h, past-end n (suc j) (omega arith))
 
-  pub few-starts : {i : ℕ} → i ≤ length s → length s < i + 8 → FewTo i 0 (length s)
-  few-starts {i} a b =
+  pub bytes-start : {i : ℕ} → i ≤ length s → length s < i + 8 → FewTo i 0 (length s)
+  bytes-start {i} a b =
       record {
         from = a;
         within = omega arith;
@@ -90,24 +90,23 @@ module _ (s : List ℕ) where
       }
 
   -- one byte more stays within 64 bits
-  pub few-fits : {i w j : ℕ} (b : ℕ) → FewTo i w j → i < j → b < 256 → 256 * w + b < 18446744073709551616
-  few-fits {i} {w} {j} b r h l =
+  pub bytes-fit : {i w j : ℕ} (b : ℕ) → FewTo i w j → i < j → b < 256 → 256 * w + b < 18446744073709551616
+  bytes-fit {i} {w} {j} b r h l =
       let small : w < 256 ^ (i + 8 - j) = rw (r .word .is) (word-below (i + 8 - j) j (r .word .bytes)) in
       let p : 256 ^ (i + 8 - j) ≤ 256 ^ 7 = pow-le-pow-right {n = 256} (omega arith) {i = i + 8 - j} {j = 7} (omega arith) in
       omega (arith, small, p)
 
-  pub few-steps : {i w j b : ℕ} → FewTo i w j → i < j → b ≡ getD s (j - 1) 0 → b < 256 → FewTo i (256 * w + b) (j - 1)
-  few-steps {i} {w} {j} {b} r h e l =
+  pub bytes-step : {i w j b : ℕ} → FewTo i w j → i < j → b ≡ getD s (j - 1) 0 → b < 256 → FewTo i (256 * w + b) (j - 1)
+  bytes-step {i} {w} {j} {b} r h e l =
       let z : j - 1 + 1 ≡ j = omega arith in
       let q : i + 8 - j + 1 ≡ i + 8 - (j - 1) = omega (arith, r .within, r .near) in
       let x : Word (i + 8 - j + 1) s (j - 1) (b + 256 ^ 1 * w) = word-join (i + 8 - j) 1 (word-one e l) (rw z (r .word)) in
       let y : b + 256 ^ 1 * w ≡ 256 * w + b = omega arith in
       record { from = omega arith; within = omega (arith, r .within); near = r .near; word = rw (q, y) at x }
 
-  pub few-all : {i w j : ℕ} → FewTo i w j → j ≤ i → Word 8 s i w
-  few-all {i} {w} {j} r h =
+  pub bytes-all : {i w j : ℕ} → FewTo i w j → j ≤ i → Word 8 s i w
+  bytes-all {i} {w} {j} r h =
       let e : j ≡ i = omega (arith, r .from) in
-      let q : i + 8 - j ≡ 8 = omega arith in
       let z : i + 8 - i ≡ 8 = omega arith in
       rw z at (rw e at (r .word))
 

@@ -5,9 +5,10 @@ use mathlib.Core.Bool.{Bool, true, cond, _&&_}
 use mathlib.Core.List.{List, [], _∷_}
 use mathlib.Core.Option.{Option, some, none}
 use lib.Dec.{ltb, leb}
-use lib.ListN.{length, getD, drop}
+use lib.ListN.{length, getD, take, drop}
 use Rattle.text.specs.Class.{between, isDigit}
 use Rattle.text.specs.Place.{First, firstPlace, isAt}
+use Rattle.text.specs.Run.{runEnd}
 use Rattle.text.specs.declared.place.Found.{Found}
 use Rattle.text.specs.declared.place.Found.the-variants.{At, Nothing}
 use Rattle.text.specs.declared.number.Number.{Number}
@@ -88,6 +89,10 @@ numberOf base limit s =
     cond (ltb 0 (length s) && allDigits base s && leb (value base 0 s) limit)
     (N.Value (value base 0 s))
     N.Unreadable
+
+-- the number that the whole digit run of s from a place on is
+abbrev pub leadingOf : ℕ → List ℕ → ℕ → Number
+leadingOf limit s from = numberOf 10 limit (take (runEnd isDigit s from - from) (drop from s))
 
 -- a bad digit that was found goes before whatever else is told
 unfoldable pub badFirst : Found → Reading → Reading

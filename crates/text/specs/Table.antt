@@ -1,4 +1,4 @@
--- One table for all byte classes: what it says of each byte, as a list of 256 entries.
+-- One table for digits and word bytes: what it says of each byte, as a list of 256 entries.
 use Prim.Native.Nat.{ℕ, zero, suc}
 use mathlib.Core.Bool.{cond}
 use mathlib.Core.List.{List, [], _∷_}

@@ -3,7 +3,7 @@ ghost use mathlib.Core.Path.{_≡_};
 ghost use Rattle.text.specs.Class.{between, isBlank, isDigit, isLetter, isWord, inClass};
 
 // What a run is made of. The two negated classes end a run at one byte: the blank that ends a header's first run, and the
-// bracket that ends a bracketed value.
+// bracket that ends a bracketed value. They are for the definitions; code finds that byte by `until` and `behind_last`.
 pub enum Class {
     Blank,
     Digit,

@@ -1,4 +1,5 @@
-// Decimal and hex numbers within a width: one reader over base and limit, with a loop for up to sixteen digits and one for more.
+// Decimal and hex numbers within a width: one reader over base and limit, with a loop for up to sixteen digits and one for more. `leading` reads a digit
+// run while its end is sought: right because digits that no digit follows are the whole run, and sixteen of them stay within 64 bits.
 use crate::class::Class;
 use crate::class::is_digit;
 use crate::class::lies_between;
@@ -6,13 +7,11 @@ use crate::place::byte_at;
 use crate::run::run_end;
 ghost use mathlib.Core.Path.{_≡_};
 ghost use mathlib.Core.Bool.{cond};
-ghost use Prim.Native.Nat.{_≤_, _<_, _+_, _-_};
+ghost use Prim.Native.Nat.{_≤_, _<_, _+_};
 ghost use lib.Dec.{leb};
-ghost use lib.ListN.{length, take, drop};
-ghost use Rattle.text.specs.Class.{isDigit};
+ghost use lib.ListN.{length};
 ghost use Rattle.text.specs.declared.number.Number.the-variants as N;
-ghost use Rattle.text.specs.Run.{runEnd};
-ghost use Rattle.text.specs.Number.{digitOf, numberOf, readingOf, reasonOf, digitsFrom, hexOf, readValue};
+ghost use Rattle.text.specs.Number.{digitOf, numberOf, leadingOf, readingOf, reasonOf, digitsFrom, hexOf, readValue};
 
 // The largest value of each width.
 pub const MAX_8: u64 = 0xff;
@@ -24,6 +23,9 @@ pub const MAX_32: u64 = 0xffff_ffff;
 pub const MAX_63: u64 = 0x7fff_ffff_ffff_ffff;
 
 pub const MAX_64: u64 = 0xffff_ffff_ffff_ffff;
+
+// The base of a decimal number.
+const TEN: u64 = 10;
 
 // So many digits of any base up to 16 stay within 64 bits.
 pub const SHORT: usize = 16;
@@ -45,26 +47,26 @@ pub enum Reading {
 pub fn decimal(s: &[u8], limit: u64) -> Number
     ensures { λ r. ⌜ r ≡ numberOf 10 limit (now (s .entry)) ⌝ }
 {
-    read(s, 0, 10, limit)
+    read(s, 0, TEN, limit)
 }
 
-// The whole digit run from a place on, read as decimal: digit by digit while its end is sought; past so many digits the run is read again.
+// The whole digit run from a place on, read as decimal. One of more than sixteen digits is read again from its start.
 pub fn leading(s: &[u8], from: usize, limit: u64) -> Number
     requires { ⌜ from ≤ length (now s) ⌝ }
-    ensures { λ r. ⌜ r ≡ numberOf 10 limit (take (runEnd isDigit (now (s .entry)) from - from) (drop from (now (s .entry)))) ⌝ }
+    ensures { λ r. ⌜ r ≡ leadingOf limit (now (s .entry)) from ⌝ }
 {
     let mut v: u64 = 0;
     let mut i = from;
     while i < s.len() {
-        let d = digit_in(s[i], 10);
-        if 10 <= d {
+        let d = digit_in(s[i], TEN);
+        if TEN <= d {
             break;
         }
         if SHORT <= i - from {
             let end = run_end(s, Class::Digit, from);
             return decimal(&s[from..end], limit);
         }
-        v = v * 10 + d;
+        v = v * TEN + d;
         i += 1;
     }
     if i == from {

@@ -1,4 +1,4 @@
-// Bytes by their place, and the first and the last place of a byte, which are where runs of other bytes end and start.
+// Bytes by their place, and the first and the last place of a byte: a run of other bytes ends at the first and starts behind the last.
 use crate::run::behind_last;
 use crate::run::until;
 ghost use mathlib.Core.Path.{_≡_};

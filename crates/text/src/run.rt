@@ -1,5 +1,5 @@
-// Longest runs of a class, from a place and back from the end, and what stripping leaves. Runs of every byte but one go by blocks of sixteen bytes, and
-// the last block looked at may lie over bytes that were passed: right because none of these is the byte sought, so what it finds stands where it looks anew.
+// Longest runs of a class, from a place and back from the end, and what stripping leaves. Runs of bytes other than b go by blocks of sixteen; the block
+// at the end may cover bytes already passed. Right because none of those is b, so the b that it finds is a new one.
 use crate::block::BLOCK;
 use crate::block::first_of;
 use crate::block::holds;

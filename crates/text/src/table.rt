@@ -1,4 +1,5 @@
-// One table for all byte classes: a digit's entry is its value, another word byte's is 128, any other byte's is more, so each class is one comparison.
+// One table for digits of either base and word bytes: a digit's entry is its value, another word byte's is 128, any other byte's is more, so each of
+// these classes is one comparison.
 // Right because the entries are computed from the classes, byte by byte. Whoever needs the table writes it out once and lends it.
 ghost use mathlib.Core.Path.{_≡_};
 ghost use Prim.Native.Nat.{_<_};

@@ -1,5 +1,4 @@
 -- `pair::try_at` meets its contract, one law a way out. Assumes nothing.
-use native.Mathlib.Omega.{arith}
 use mathlib.Core.Path.{sym, _∙_}
 use Rattle.text.specs.Class.{inClass}
 use Rattle.pairs.proofs.Tries.{try-empty, try-unequal, try-hits, try-misses}

@@ -1,5 +1,4 @@
 -- `pair::value_end` meets its contract: a word run, else brackets, which no `]` closes from the tail on. Assumes nothing.
-use native.Mathlib.Omega.{arith}
 use mathlib.Core.Path.{sym, _∙_}
 use Rattle.text.specs.Class.{inClass}
 use Rattle.pairs.proofs.Tries.{value-word, value-bracket, bracket-behind}

@@ -1,8 +1,6 @@
 -- `number::digit_in` meets its contract: a byte that is no decimal digit is of value 10 or more, if of any. Assumes nothing.
-use Prim.Native.Nat.{ℕ, _≤_}
-use mathlib.Core.Path.{_≡_, sym, _∙_}
+use mathlib.Core.Path.{sym, _∙_}
 use Rattle.text.specs.Class.{isDigit}
-use Rattle.text.specs.Number.{digitOf}
 use Rattle.text.proofs.Numbers.{at-least}
 use Rattle.text.proofs.FewDigits.{digit-is, digit-none}
 use native.Mathlib.Omega.{arith}

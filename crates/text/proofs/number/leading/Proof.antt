@@ -6,7 +6,7 @@ use lib.ListN.{length, getD, take, drop}
 use Prim.Native.Nat.{ℕ, _<_, _-_}
 use mathlib.Core.Bool.{false}
 use mathlib.Core.Logic.{⊎-elim}
-use mathlib.Core.Path.{_≡_, sym, ap, _∙_}
+use mathlib.Core.Path.{_≡_, ap, _∙_}
 use borrow.Author.Needs.{needs}
 use native.Mathlib.Omega.{arith}
 use Rattle.text.proofs.number.leading.Statement.{statement}

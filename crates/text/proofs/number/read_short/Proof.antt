@@ -1,5 +1,5 @@
 -- `number::read_short` meets its contract: what is read so far is a `Few`, and each way out is one of its laws. Assumes nothing.
-use Rattle.text.proofs.FewDigits.{Few, few-starts, few-steps, few-fit, few-bad, few-whole}
+use Rattle.text.proofs.FewDigits.{Few, few-starts, few-steps, few-fit, few-bad, few-judged}
 use mathlib.Core.Path.{refl, _∙_}
 use lib.ListN.{length}
 use Prim.Native.Nat.{_-_}
@@ -45,7 +45,7 @@ within-requires : tie.Need-within-requires Inv-loop μ-loop
 within-requires c κs = search needs
 
 returns-2 : tie.Need-returns-2 Inv-loop μ-loop
-returns-2 c = c .within .ensures ∙ few-whole _ _ _ _ (c .before .before .loop .inv) (c .before .loop-test .left)
+returns-2 c = c .within .ensures ∙ few-judged _ _ _ _ (c .before .before .loop .inv) (c .before .loop-test .left)
 
 pub read-short-spec : {M : Type 1} → statement M
 read-short-spec =

@@ -1,7 +1,5 @@
 -- `number::within` meets its contract: a case each. Assumes nothing.
 use borrow.Author.Tests.{lt-leb, le-leb}
-use borrow.Author.Needs.{needs}
-use native.Mathlib.Omega.{arith}
 use Rattle.text.proofs.number.within.Statement.{statement}
 use Rattle.text.proofs.number.within.Tie as tie
 

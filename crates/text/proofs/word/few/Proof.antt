@@ -1,6 +1,5 @@
 -- `word::few` meets its contract: from the text's end back each byte is put below those read, and past the end all bytes are 0. Assumes nothing.
-use Rattle.text.proofs.Words.{FewTo, few-starts, few-fits, few-steps, few-all}
-use Prim.Native.Nat.{_-_}
+use Rattle.text.proofs.Words.{FewTo, bytes-start, bytes-fit, bytes-step, bytes-all}
 use borrow.Author.Needs.{needs}
 use native.Mathlib.Omega.{arith}
 use Rattle.text.proofs.word.few.Statement.{statement}
@@ -13,13 +12,13 @@ abbrev μ-loop : tie.MeasureT-loop
 μ-loop s i w₀ j₀ w j = j
 
 loop-holds : tie.Need-loop-holds Inv-loop μ-loop
-loop-holds c = few-starts _ (c .before .pre .0) (c .before .pre .1)
+loop-holds c = bytes-start _ (c .before .pre .0) (c .before .pre .1)
 
 sub-j : tie.Need-sub-j Inv-loop μ-loop
 sub-j c = search needs
 
 mul-w : tie.Need-mul-w Inv-loop μ-loop
-mul-w c = record { fits = omega (arith, few-fits _ 0 (c .before .loop .inv) (c .loop-test .taken) (omega arith)) }
+mul-w c = record { fits = omega (arith, bytes-fit _ 0 (c .before .loop .inv) (c .loop-test .taken) (omega arith)) }
 
 shared-slice-read-one : tie.Need-shared-slice-read-one Inv-loop μ-loop
 shared-slice-read-one c = search needs
@@ -28,16 +27,16 @@ one-requires : tie.Need-one-requires Inv-loop μ-loop
 one-requires c κs = search needs
 
 add-w : tie.Need-add-w Inv-loop μ-loop
-add-w c = record { fits = omega (arith, few-fits _ _ (c .before .before .before .loop .inv) (c .before .before .loop-test .taken) (c .one .ensures .1)) }
+add-w c = record { fits = omega (arith, bytes-fit _ _ (c .before .before .before .loop .inv) (c .before .before .loop-test .taken) (c .one .ensures .1)) }
 
 loop-less : tie.Need-loop-less Inv-loop μ-loop
 loop-less c = search needs
 
 loop-again : tie.Need-loop-again Inv-loop μ-loop
-loop-again c = few-steps _ (c .before .before .before .loop .inv) (c .before .before .loop-test .taken) (c .one .ensures .0) (c .one .ensures .1)
+loop-again c = bytes-step _ (c .before .before .before .loop .inv) (c .before .before .loop-test .taken) (c .one .ensures .0) (c .one .ensures .1)
 
 returns : tie.Need-returns Inv-loop μ-loop
-returns c = few-all _ (c .before .loop .inv) (c .loop-test .left)
+returns c = bytes-all _ (c .before .loop .inv) (c .loop-test .left)
 
 pub few-spec : {M : Type 1} → statement M
 few-spec =

@@ -7,6 +7,7 @@ use text::number::decimal;
 use text::number::digits_from;
 use text::number::hex;
 use text::number::value_of;
+use text::number::within;
 use text::place::Found;
 use text::table::is_word_at;
 use text::table::wide;
@@ -14,8 +15,6 @@ use text::table::word_end;
 use text::word::one;
 ghost use mathlib.Core.Path.{_≡_};
 ghost use Prim.Native.Nat.{_+_, _≤_, _<_};
-ghost use mathlib.Core.Bool.{cond};
-ghost use lib.Dec.{leb};
 ghost use lib.ListN.{length};
 ghost use Rattle.text.specs.Class.{inClass};
 ghost use Rattle.text.specs.Run.{runStart};
@@ -80,7 +79,7 @@ fn short_number(s: &[u8], t: &[u8; 256], v: usize, form: Form) -> Value
     }
     Value {
         end: e,
-        kept: keep_within(digits.value, limit_of(form), e),
+        kept: keep_number(within(digits.value, limit_of(form)), e),
     }
 }
 
@@ -117,19 +116,6 @@ fn digits_at(s: &[u8], t: &[u8; 256], from: usize, base: u64) -> Digits
     Digits {
         end: j,
         value: value,
-    }
-}
-
-// A number within the limit, or nothing.
-fn keep_within(value: u64, limit: u64, e: usize) -> Kept
-    ensures { λ r. ⌜ r ≡ cond (leb value limit) (record { value = value; end = e }) nothing ⌝ }
-{
-    if limit < value {
-        return Kept { value: 0, end: 0 };
-    }
-    Kept {
-        value: value,
-        end: e,
     }
 }
 

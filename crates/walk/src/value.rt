@@ -3,6 +3,7 @@
 use pairs::keys::Form;
 use pairs::pair::value_end;
 use text::number::Number;
+use text::number::SHORT;
 use text::number::decimal;
 use text::number::digits_from;
 use text::number::hex;
@@ -35,7 +36,7 @@ pub struct Value {
     pub kept: Kept,
 }
 
-// A run of at most sixteen digits: where it ends, and its value.
+// A run of at most `SHORT` digits: where it ends, and its value.
 pub struct Digits {
     pub end: usize,
     pub value: u64,
@@ -59,7 +60,7 @@ pub fn value_at(s: &[u8], t: &[u8; 256], v: usize, form: Form, tail: usize) -> V
     }
 }
 
-// A number of at most sixteen digits; none where the value may be anything else.
+// A number of at most `SHORT` digits; none where the value may be anything else.
 fn short_number(s: &[u8], t: &[u8; 256], v: usize, form: Form) -> Value
     requires { ⌜ (now t ≡ table) × (v ≤ length (now s)) ⌝ }
     ensures { λ r. ⌜ Short (now (s .entry)) form v r ⌝ }
@@ -94,7 +95,7 @@ fn digits_start(s: &[u8], v: usize, base: u64) -> usize
     v + digits_from(&s[v..])
 }
 
-// Digits from a place on, sixteen at most: so many have a value below 2^64 in a base up to 16.
+// Digits from a place on, `SHORT` at most.
 fn digits_at(s: &[u8], t: &[u8; 256], from: usize, base: u64) -> Digits
     requires { ⌜ (now t ≡ table) × (from ≤ length (now s)) × (base ≤ 16) ⌝ }
     ensures { λ r. ⌜ DigitsRead (now (s .entry)) base from r ⌝ }
@@ -107,7 +108,7 @@ fn digits_at(s: &[u8], t: &[u8; 256], from: usize, base: u64) -> Digits
         if base <= d {
             break;
         }
-        if 16 <= j - from {
+        if SHORT <= j - from {
             break;
         }
         value = value * base + d;

@@ -15,7 +15,7 @@ use text::table::wide;
 use text::table::word_end;
 use text::word::one;
 ghost use mathlib.Core.Path.{_≡_};
-ghost use Prim.Native.Nat.{_+_, _≤_, _<_};
+ghost use Prim.Native.Nat.{_≤_};
 ghost use lib.ListN.{length};
 ghost use Rattle.text.specs.Class.{inClass};
 ghost use Rattle.text.specs.Run.{runStart};

@@ -1,12 +1,12 @@
 -- Between two pairs the kernel prints a comma and a space, neither of which is of a word. Assumes nothing.
-use Prim.Native.Nat.{ℕ, suc, _+_, _*_, _≤_, _<_}
-use mathlib.Core.Path.{_≡_, refl, sym, _∙_}
-use mathlib.Core.Bool.{Bool, true, false, not}
+use Prim.Native.Nat.{ℕ, _+_, _≤_, _<_}
+use mathlib.Core.Path.{_≡_, refl, sym}
+use mathlib.Core.Bool.{true}
 use mathlib.Core.List.{List}
 use native.Mathlib.Omega.{arith}
 use lib.ListN.{length, getD}
 use Rattle.text.specs.Class.{between, isLetter, isDigit, isWord, noWord}
-use Rattle.text.specs.Run.{Run, runEnd, EndsAt}
+use Rattle.text.specs.Run.{EndsAt}
 use Rattle.text.specs.Word.{Word}
 use Rattle.text.proofs.Places.{by-order}
 use Rattle.text.proofs.Runs.{run-all}

@@ -196,7 +196,7 @@ mask-is o = ap (λ (x : Candidate). x .mask) (o .is) ∙ sym (ap (λ (x : Candid
 -- a word run that ends at m
 module _ (s : List ℕ) (i m : ℕ) (ends : EndsAt isWord s i m) where
   -- no key, where no `=` follows
-  pub bare-word : (getD s m 0 ≡ 61 → ⊥) → Started s i (record { row = suc (length keys); form = Text; end = m })
+  bare-word : (getD s m 0 ≡ 61 → ⊥) → Started s i (record { row = suc (length keys); form = Text; end = m })
   bare-word n =
       record {
         ends = ends;
@@ -207,7 +207,7 @@ module _ (s : List ℕ) (i m : ℕ) (ends : EndsAt isWord s i m) where
       }
 
   -- what its text is in the table, where one does
-  pub key-word : {key : Key} → key ≡ keyNamed (part s i m) → getD s m 0 ≡ 61 →
+  key-word : {key : Key} → key ≡ keyNamed (part s i m) → getD s m 0 ≡ 61 →
       Started s i (record { row = key .row; form = key .form; end = m })
   key-word {key} e sign =
       let within : key .row ≤ length keys = rw e (key-within (part s i m)) in

@@ -1,23 +1,22 @@
 -- One step of the walk: a try from a word byte that fails fails from every byte of its word run, and one that does not is a pair. Assumes nothing.
 use Prim.Native.Nat.{ℕ, suc, _+_, _≤_, _<_}
 use mathlib.Core.Path.{_≡_, refl, sym, ap, _∙_}
-use mathlib.Core.Bool.{Bool, true, false}
+use mathlib.Core.Bool.{true, false}
 use mathlib.Core.List.{List}
 use native.Mathlib.Omega.{arith}
 use lib.ListN.{length, getD, set}
 use Rattle.text.specs.declared.place.Found.{Found}
 use Rattle.text.specs.declared.place.Found.the-variants as F
 use Rattle.text.specs.Class.{isWord}
-use Rattle.text.specs.Run.{runEnd, EndsAt}
+use Rattle.text.specs.Run.{runEnd}
 use Rattle.text.proofs.Places.{by-order, clash}
 use Rattle.text.proofs.Runs.{run-is}
 use Rattle.pairs.specs.declared.keys.Form.{Form}
-use Rattle.pairs.specs.declared.pair.Pair.the-variants.{Hit, Miss}
-use Rattle.pairs.specs.Pair.{part, valueEnd, pairWith, pairAt}
+use Rattle.pairs.specs.declared.pair.Pair.the-variants.{Miss}
+use Rattle.pairs.specs.Pair.{valueEnd, pairWith, pairAt}
 use Rattle.pairs.specs.Table.{keys}
 use Rattle.pairs.proofs.Tries.{value-is, value-up, value-within, try-unequal, try-hits, try-misses, miss-within}
 use Rattle.walk.specs.declared.start.Start.{Start}
-use Rattle.walk.specs.declared.value.Kept.{Kept}
 use Rattle.walk.specs.declared.value.Value.{Value}
 use Rattle.walk.specs.Start.{Started}
 use Rattle.walk.specs.Kept.{keptIn, valueOf, Stepped, Step}

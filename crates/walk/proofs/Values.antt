@@ -1,6 +1,6 @@
 -- A value's digits read while its end is sought: digits that no word byte follows are the whole word run, so they are the value, and what they say
 -- is the number of its part. Assumes nothing.
-use Prim.Native.Nat.{ℕ, zero, suc, _+_, _-_, _*_, _^_, _≤_, _<_}
+use Prim.Native.Nat.{ℕ, zero, suc, _+_, _-_, _≤_, _<_}
 use mathlib.Core.Path.{_≡_, refl, sym, ap, _∙_}
 use mathlib.Core.Bool.{Bool, true, false, cond, _&&_, _||_}
 use mathlib.Core.List.{List, [], _∷_}
@@ -10,6 +10,7 @@ use lib.ListN.{length, getD, take, drop, length-drop, List·getD-eq-default}
 use lib.Seq.{take-nil, getD-take, getD-drop, drop-drop, length-take-le}
 use borrow.Author.Tests.{eq-eqb, ne-eqb, lt-leb, le-leb, leb-true, leb-false, eqb-true}
 use Rattle.text.specs.declared.number.Number.{Number}
+use Rattle.text.specs.declared.number.Number.the-variants as N
 use Rattle.text.specs.declared.number.Reading.{Reading}
 use Rattle.text.specs.declared.place.Found.{Found}
 use Rattle.text.specs.declared.place.Found.the-variants as F
@@ -215,10 +216,10 @@ module _ (s : List ℕ) (v base from e w : ℕ) (below : base ≤ 16) (start : S
       let d : digitOf (getD s (v + k) 0) < base = digits (v + k) (omega (arith, behind-start)) (omega arith) in
       rw (byte-of k l) (lt-leb base (digitOf (getD s (v + k) 0)) d)
 
-  read-kept : (limit : ℕ)
-      → keptNumber e (readValue (readingOf base limit (from - v) (part s v e))) ≡ cond (leb w limit) (record { value = w; end = e }) nothing
-  unfolding readValue keptNumber
-  read-kept limit = go (leb w limit) refl
+  -- the digits read as a number: their value where it is within the limit
+  digits-judged : (limit : ℕ) → readValue (readingOf base limit (from - v) (part s v e)) ≡ cond (leb w limit) (N.Value w) N.Unreadable
+  unfolding readValue
+  digits-judged limit = go (leb w limit) refl
     where
       there : from - v < length (part s v e)
       there = omega (arith, size, behind-start)
@@ -226,8 +227,7 @@ module _ (s : List ℕ) (v base from e w : ℕ) (below : base ≤ 16) (start : S
       same : value base 0 (drop (from - v) (part s v e)) ≡ w
       same = rw rest (sym is)
 
-      go : (b : Bool) → leb w limit ≡ b
-          → keptNumber e (readValue (readingOf base limit (from - v) (part s v e))) ≡ cond b (record { value = w; end = e }) nothing
+      go : (b : Bool) → leb w limit ≡ b → readValue (readingOf base limit (from - v) (part s v e)) ≡ cond b (N.Value w) N.Unreadable
       go true t = rw (judged-all base limit (from - v) (part s v e) (Judged.fits {v = w} there all-good same (leb-true _ _ t)))
       go false t = rw (judged-all base limit (from - v) (part s v e) (Judged.wide there all-good (rw same (leb-false _ _ t))))
 
@@ -256,9 +256,9 @@ module _ (s : List ℕ) (v base from e w : ℕ) (below : base ≤ 16) (start : S
           ∙ two
 
   kept-short : (form : Form) → base ≡ baseOf form → (base ≡ 0 → ⊥)
-      → keptIn form s v e ≡ cond (leb w (limitOf form)) (record { value = w; end = e }) nothing
+      → keptIn form s v e ≡ keptNumber e (cond (leb w (limitOf form)) (N.Value w) N.Unreadable)
   unfolding keptIn baseOf limitOf hexOf
-  kept-short (Decimal limit) b some-base = ap (keptNumber e) (number-read 10 limit (part s v e) ∙ same) ∙ read-kept limit
+  kept-short (Decimal limit) b some-base = ap (keptNumber e) (number-read 10 limit (part s v e) ∙ same ∙ digits-judged limit)
     where
       first : Started s v base from → 0 ≡ from - v
       first (Started.plain p) = omega arith
@@ -266,7 +266,7 @@ module _ (s : List ℕ) (v base from e w : ℕ) (below : base ≤ 16) (start : S
 
       same : readValue (readingOf 10 limit 0 (part s v e)) ≡ readValue (readingOf base limit (from - v) (part s v e))
       same = rw (← first start, b)
-  kept-short (Hex limit) b some-base = ap (keptNumber e) same ∙ read-kept limit
+  kept-short (Hex limit) b some-base = ap (keptNumber e) (same ∙ digits-judged limit)
     where
       same : readValue (readingOf 16 limit (digitsFrom (part s v e)) (part s v e)) ≡ readValue (readingOf base limit (from - v) (part s v e))
       same = rw (hex-start b, b)
@@ -277,18 +277,18 @@ module _ (s : List ℕ) (v base from e w : ℕ) (below : base ≤ 16) (start : S
 pub short-none : (s : List ℕ) (form : Form) (v : ℕ) {r : Value} → r ≡ record { end = 0; kept = nothing } → Short s form v r
 short-none s form v {r} e h = absurd (let z : r .end ≡ 0 = ap (λ (x : Value). x .end) e in omega arith)
 
-module _ (s : List ℕ) (form : Form) (v : ℕ) {base from limit : ℕ} {d : Digits} {k : Kept} where
+module _ (s : List ℕ) (form : Form) (v : ℕ) {base from limit : ℕ} {d : Digits} {n : Number} {k : Kept} where
   pub short-is : base ≡ baseOf form → (base ≡ 0 → ⊥) → from ≡ digitsStart s v base → DigitsRead s base from d → (d .end ≡ from → ⊥)
-      → false ≡ isWord (getD s (d .end) 0) → limit ≡ limitOf form → k ≡ cond (leb (d .value) limit) (record { value = d .value; end = d .end }) nothing
-      → record { end = d .end; kept = k } ≡ valueOf s form v (valueEnd s v)
+      → false ≡ isWord (getD s (d .end) 0) → limit ≡ limitOf form → n ≡ cond (leb (d .value) limit) (N.Value (d .value)) N.Unreadable
+      → k ≡ keptNumber (d .end) n → record { end = d .end; kept = k } ≡ valueOf s form v (valueEnd s v)
   unfolding valueOf
-  short-is b some-base from-is read more free limit-is k-is =
+  short-is b some-base from-is read more free limit-is n-is k-is =
       let below : base ≤ 16 = base-below form b in
       let start : Started s v base from = rw from-is (started s v base) in
       let some : from < d .end = by-order from (d .end) (λ h. h) (λ h. absurd (more (sym h))) (λ h. absurd (omega (arith, read .up))) in
       let ends = ends-there s v base from (d .end) (d .value) below start some (read .within) (read .digits) (read .is) (sym free) in
       let kept = kept-short s v base from (d .end) (d .value) below start some (read .within) (read .digits) (read .is) form b some-base in
-      rw (ends, kept, ← limit-is, ← k-is)
+      rw (ends, kept, ← limit-is, ← n-is, ← k-is)
 
 -- ---- a value of any kind
 

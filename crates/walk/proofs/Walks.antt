@@ -19,9 +19,9 @@ use Rattle.pairs.specs.declared.pair.Pair.the-variants.{Hit, Miss}
 use Rattle.pairs.specs.declared.pair.Span.{Span}
 use Rattle.pairs.specs.declared.pair.Span.the-variants as S
 use Rattle.pairs.specs.Pair.{part, pairWith, pairAt, nextPair, pairsFrom, lastIn, lastPair}
-use Rattle.pairs.specs.Table.{Key, Row, keys, rowAt, keyNamed}
+use Rattle.pairs.specs.Table.{Key, keys, rowAt, keyNamed}
 use Rattle.pairs.proofs.Tries.{try-empty}
-use Rattle.pairs.proofs.Matches.{next-ends, next-hits, next-skips, next-rise}
+use Rattle.pairs.proofs.Matches.{next-ends, next-hits, next-skips}
 use Rattle.pairs.proofs.PairLists.{pairs-same}
 use Rattle.pairs.proofs.LastPairs.{last-takes, last-passes, last-end}
 use Rattle.pairs.proofs.Rows.{key-same, key-form, key-within}

@@ -4,5 +4,5 @@
 //     start    the word run that starts at a place, and whose key it is
 //     value    the value behind a key's `=`, and what is kept of it
 pub mod last;
-pub mod start;
-pub mod value;
+mod start;
+mod value;

@@ -62,6 +62,15 @@ const UNPLUG_IS: u64 = 0x3d_6775_6c70_6e75;
 
 const DROPPED_IS: u64 = 0x3d64_6570_706f_7264;
 
+// So many bytes are compared at once.
+const WORD: usize = 8;
+
+// A byte has so many values.
+const BYTE: u64 = 0x100;
+
+// A row is chosen by the sum of its name's first two bytes, modulo this.
+const CHOICES: u64 = 32;
+
 // The masks of so many bytes of eight.
 const FOUR: u64 = 0xffff_ffff;
 
@@ -94,7 +103,7 @@ pub fn start_at(s: &[u8], t: &[u8; 256], i: usize) -> Start
     requires { ⌜ (now t ≡ table) × (i < length (now s)) ⌝ }
     ensures { λ r. ⌜ Started (now (s .entry)) i r ⌝ }
 {
-    if s.len() < i + 8 {
+    if s.len() < i + WORD {
         return start_of(few(s, i), s, t, i);
     }
     start_of(eight(s, i), s, t, i)
@@ -105,7 +114,7 @@ fn start_of(w: u64, s: &[u8], t: &[u8; 256], i: usize) -> Start
     requires { ⌜ (now t ≡ table) × (i < length (now s)) × Word 8 (now s) i w ⌝ }
     ensures { λ r. ⌜ Started (now (s .entry)) i r ⌝ }
 {
-    let c = choose((w % 0x100 + w / 0x100 % 0x100) % 32);
+    let c = choose((w % BYTE + w / BYTE % BYTE) % CHOICES);
     if w & c.mask == c.want {
         let form = c.form;
         return Start {

@@ -3,19 +3,19 @@
 use pairs::keys::Form;
 use pairs::pair::value_end;
 use text::number::Number;
+use text::number::SHORT;
 use text::number::decimal;
 use text::number::digits_from;
 use text::number::hex;
 use text::number::value_of;
+use text::number::within;
 use text::place::Found;
 use text::table::is_word_at;
 use text::table::wide;
 use text::table::word_end;
 use text::word::one;
 ghost use mathlib.Core.Path.{_≡_};
-ghost use Prim.Native.Nat.{_+_, _≤_, _<_};
-ghost use mathlib.Core.Bool.{cond};
-ghost use lib.Dec.{leb};
+ghost use Prim.Native.Nat.{_≤_};
 ghost use lib.ListN.{length};
 ghost use Rattle.text.specs.Class.{inClass};
 ghost use Rattle.text.specs.Run.{runStart};
@@ -36,7 +36,7 @@ pub struct Value {
     pub kept: Kept,
 }
 
-// A run of at most sixteen digits: where it ends, and its value.
+// A run of at most `SHORT` digits: where it ends, and its value.
 pub struct Digits {
     pub end: usize,
     pub value: u64,
@@ -60,7 +60,7 @@ pub fn value_at(s: &[u8], t: &[u8; 256], v: usize, form: Form, tail: usize) -> V
     }
 }
 
-// A number of at most sixteen digits; none where the value may be anything else.
+// A number of at most `SHORT` digits; none where the value may be anything else.
 fn short_number(s: &[u8], t: &[u8; 256], v: usize, form: Form) -> Value
     requires { ⌜ (now t ≡ table) × (v ≤ length (now s)) ⌝ }
     ensures { λ r. ⌜ Short (now (s .entry)) form v r ⌝ }
@@ -80,7 +80,7 @@ fn short_number(s: &[u8], t: &[u8; 256], v: usize, form: Form) -> Value
     }
     Value {
         end: e,
-        kept: keep_within(digits.value, limit_of(form), e),
+        kept: keep_number(within(digits.value, limit_of(form)), e),
     }
 }
 
@@ -95,7 +95,7 @@ fn digits_start(s: &[u8], v: usize, base: u64) -> usize
     v + digits_from(&s[v..])
 }
 
-// Digits from a place on, sixteen at most: so many have a value below 2^64 in a base up to 16.
+// Digits from a place on, `SHORT` at most.
 fn digits_at(s: &[u8], t: &[u8; 256], from: usize, base: u64) -> Digits
     requires { ⌜ (now t ≡ table) × (from ≤ length (now s)) × (base ≤ 16) ⌝ }
     ensures { λ r. ⌜ DigitsRead (now (s .entry)) base from r ⌝ }
@@ -108,7 +108,7 @@ fn digits_at(s: &[u8], t: &[u8; 256], from: usize, base: u64) -> Digits
         if base <= d {
             break;
         }
-        if 16 <= j - from {
+        if SHORT <= j - from {
             break;
         }
         value = value * base + d;
@@ -117,19 +117,6 @@ fn digits_at(s: &[u8], t: &[u8; 256], from: usize, base: u64) -> Digits
     Digits {
         end: j,
         value: value,
-    }
-}
-
-// A number within the limit, or nothing.
-fn keep_within(value: u64, limit: u64, e: usize) -> Kept
-    ensures { λ r. ⌜ r ≡ cond (leb value limit) (record { value = value; end = e }) nothing ⌝ }
-{
-    if limit < value {
-        return Kept { value: 0, end: 0 };
-    }
-    Kept {
-        value: value,
-        end: e,
     }
 }
 

@@ -38,15 +38,19 @@ returns-3 c = short-none _ _ _ (c .none3 .ensures)
 limit-of-requires : tie.Need-limit-of-requires
 limit-of-requires c κs = search needs
 
-keep-within-requires : tie.Need-keep-within-requires
-keep-within-requires c κs = search needs
+within-requires : tie.Need-within-requires
+within-requires c κs = search needs
+
+keep-number-requires : tie.Need-keep-number-requires
+keep-number-requires c κs = search needs
 
 returns-4 : tie.Need-returns-4
 returns-4 c =
-    λ h. short-is _ _ _ (c .before .before .before .before .before .before .before .before .base-of .ensures) (c .before .before .before .before .before .before .before .if1 .left) (c .before .before .before .before .before .before .digits-start .ensures) (c .before .before .before .before .before .digits-at .ensures) (c .before .before .before .before .if2 .left)
-    (sym (c .before .before .if3 .left) ∙ c .before .before .before .is-word-at .ensures)
-    (c .before .limit-of .ensures)
-    (c .keep-within .ensures)
+    λ h. short-is _ _ _ (c .before .before .before .before .before .before .before .before .before .base-of .ensures) (c .before .before .before .before .before .before .before .before .if1 .left) (c .before .before .before .before .before .before .before .digits-start .ensures) (c .before .before .before .before .before .before .digits-at .ensures) (c .before .before .before .before .before .if2 .left)
+    (sym (c .before .before .before .if3 .left) ∙ c .before .before .before .before .is-word-at .ensures)
+    (c .before .before .limit-of .ensures)
+    (c .before .within .ensures)
+    (c .keep-number .ensures)
 
 pub short-number-spec : {M : Type 1} → statement M
 short-number-spec =
@@ -63,5 +67,6 @@ short-number-spec =
     none-requires-3
     returns-3
     limit-of-requires
-    keep-within-requires
+    within-requires
+    keep-number-requires
     returns-4)

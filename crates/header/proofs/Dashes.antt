@@ -16,7 +16,7 @@ use Rattle.text.specs.Class.{isDigit, inClass}
 use Rattle.text.specs.Number.{numberOf}
 use Rattle.text.specs.Place.{lastPlace, isAt}
 use Rattle.text.specs.Run.{Run, runEnd}
-use Rattle.text.proofs.Blocks.{last-skip}
+use Rattle.text.proofs.Blocks.{last-skip-to}
 use Rattle.text.proofs.Places.{clash, last-zero, last-hit, last-miss, last-is, last-all}
 use Rattle.text.proofs.Runs.{run-over, run-stop, run-step, run-is, run-all, run-within}
 use Rattle.text.proofs.Numbers.{number-is, number-all}
@@ -40,7 +40,7 @@ module _ (h : List ℕ) (k : ℕ) where
   unfolding dashAt
   dash-numbered p e = rw (lt-ltb 0 k p, eq-eqb _ _ e)
 
-  pub dash-plain : 0 < k → getD h k 0 ≡ 45 → dashAt false h k ≡ true
+  dash-plain : 0 < k → getD h k 0 ≡ 45 → dashAt false h k ≡ true
   unfolding dashAt
   dash-plain p e = rw (lt-ltb 0 k p, eq-eqb _ _ e)
 
@@ -159,9 +159,7 @@ pub pid-before-task : (h : List ℕ) {m : ℕ} → taskOf h ≡ At m → lastPla
 unfolding taskOf
 pid-before-task h {m} e =
     let r = last-is (dashAt false h) e in
-    let e : firstRun h - (firstRun h - (m + 1)) ≡ m + 1 = omega (arith, r .within) in
-    last-skip (dashAt true h) (firstRun h - (m + 1)) (omega arith) (λ k a b. no-numbered h k (r .after k (omega (arith, r .within)) b))
-    ∙ ap (lastPlace (dashAt true h)) e
+    last-skip-to (dashAt true h) (omega (arith, r .within)) (λ k a b. no-numbered h k (r .after k (omega arith) b))
 
 -- the digits behind a dash, as code cuts them
 pub pid-some : (h : List ℕ) {k : ℕ} → lastPlace (dashAt true h) (firstRun h) ≡ At k → numberOf 10 (2 ^ 32 - 1) (take (runEnd isDigit h (k + 1) - (k + 1)) (drop (k + 1) h)) ≡ pidOf h

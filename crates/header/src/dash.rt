@@ -13,7 +13,7 @@ ghost use Rattle.text.specs.declared.place.Found.the-variants.{At};
 ghost use Rattle.text.specs.Place.{lastPlace};
 ghost use Rattle.header.specs.Dash.{dashAt, taskOf, pidOf};
 
-// The task's length: it is all before the last dash of the first run that has a byte before it. A dash at place 0 has none, so 0 stands for no dash.
+// The task's length: it is all before the last dash with a byte before it in the first run. A dash at place 0 has none, so 0 stands for no dash.
 pub fn parse_task(h: &[u8]) -> Found
     ensures { λ r. ⌜ r ≡ taskOf (now (h .entry)) ⌝ }
 {
@@ -35,7 +35,7 @@ pub fn parse_task(h: &[u8]) -> Found
 }
 
 // The whole digit run behind the last dash that has a byte before it and a digit behind it. The task's dash is the last of all in the run,
-// so no byte behind it is looked at again.
+// so no dash is sought behind it.
 pub fn parse_pid(h: &[u8], task: usize) -> Number
     requires { ⌜ taskOf (now h) ≡ At task ⌝ }
     ensures { λ r. ⌜ r ≡ pidOf (now (h .entry)) ⌝ }

@@ -50,8 +50,8 @@ pub enum BodyAnswer {
     Refused(u8),
 }
 
-// The kind goes by the type and the header's function, and is sought behind the four keys because it is never refused. Asked for: what the walk keeps of
-// each key.
+// The kind goes by the type and the header's function. The kind is read after the four checks, so that a refused line does not pay for it. Asked for:
+// what the walk keeps of each key.
 pub fn read_body(
     p: &[u8],
     function: &[u8],

@@ -1,7 +1,6 @@
 -- The split: the last colon has one place, and what is left on its sides is stripped to one header and one payload. Assumes nothing.
-use Prim.Native.Nat.{ℕ, suc, _+_, _-_, _≤_, _<_}
+use Prim.Native.Nat.{ℕ, suc, _+_, _-_, _≤_}
 use mathlib.Core.Path.{_≡_, refl, sym, ap, _∙_}
-use mathlib.Core.Bool.{false}
 use mathlib.Core.List.{List, [], _∷_, _++_}
 use native.Mathlib.Numerals.{add-one}
 use native.Mathlib.Omega.{arith}
@@ -10,31 +9,10 @@ use lib.Seq.{split-at, getD-drop, getD-append-seam, getD-append-add, take-at}
 use borrow.Author.Tests.{eq-eqb, ne-eqb, eqb-true}
 use Rattle.text.specs.declared.place.Found.the-variants.{At}
 use Rattle.text.specs.Place.{Last, lastByte, isAt}
-use Rattle.text.specs.Class.{isBlank}
-use Rattle.text.specs.Run.{Run, runEnd, runStart, stripped}
-use Rattle.text.proofs.Places.{by-order, clash, last-is, last-all}
-use Rattle.text.proofs.Runs.{run-over, run-stop, run-is}
+use Rattle.text.specs.Run.{stripped}
+use Rattle.text.proofs.Places.{clash, last-is, last-all}
 use Rattle.text.proofs.Stripping.{strip-is, strip-all}
 use Rattle.scan.specs.Frame.{Split}
-
--- behind the run of blanks that starts a text no blank stands, so stripping what is left there strips the text
-pub stripped-behind-blanks : (s : List ℕ) → stripped (drop (runEnd isBlank s 0) s) ≡ stripped s
-unfolding stripped
-stripped-behind-blanks s = ap (λ (n : ℕ). take (runStart isBlank (drop n rest)) (drop n rest)) no-run
-  where
-    rest : List ℕ
-    rest = drop (runEnd isBlank s 0) s
-
-    front-run : Run isBlank s 0 (runEnd isBlank s 0)
-    front-run = run-is isBlank s (omega arith)
-
-    first-byte : 0 < length rest → isBlank (getD rest 0 0) ≡ false
-    first-byte h =
-        let z : runEnd isBlank s 0 + 0 ≡ runEnd isBlank s 0 = omega arith in
-        rw (getD-drop (runEnd isBlank s 0) s 0 0, z) (front-run .stops (omega (arith, length-drop (runEnd isBlank s 0) s)))
-
-    no-run : runEnd isBlank rest 0 ≡ 0
-    no-run = by-order 0 (length rest) (λ h. run-stop isBlank rest h (first-byte h)) (λ h. run-over isBlank rest (omega arith)) (λ h. absurd (omega arith))
 
 -- header and payload behind the last colon are a split
 pub split-is : (t : List ℕ) {k : ℕ} → lastByte 58 t ≡ At k → Split t (stripped (take k t)) (stripped (drop (k + 1) t))

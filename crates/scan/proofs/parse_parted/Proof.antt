@@ -1,14 +1,13 @@
--- `parse_parted` meets its contract: the header is stripped behind the front's run of blanks, which is the front stripped, the payload is the rest
+-- `parse_parted` meets its contract: the header is the front between its two runs of blanks, which is the front stripped, the payload the rest
 -- stripped. Assumes nothing.
-use Rattle.scan.proofs.Splits.{stripped-behind-blanks}
 use Rattle.scan.proofs.Stages.{parted-refused, parted-read, parted-allows, payload-same}
 use Rattle.scan.specs.Head.{headTold, headOf}
-use Rattle.text.proofs.Stripping.{rest-is}
+use Rattle.text.proofs.Stripping.{rest-is, part-length, stripped-by}
 use Rattle.text.specs.Run.{stripped}
 use Rattle.text.specs.Class.{inClass}
-use Prim.Native.Nat.{ℕ, _+_}
+use Prim.Native.Nat.{ℕ, _+_, _-_}
 use mathlib.Core.List.{List}
-use lib.ListN.{take, drop}
+use lib.ListN.{length, take, drop}
 use lib.Seq.{length-take-le}
 use mathlib.Core.Path.{_≡_, sym, ap, _∙_}
 use native.Mathlib.Omega.{arith}
@@ -17,23 +16,45 @@ use Rattle.scan.proofs.parse_parted.Statement.{statement}
 use Rattle.scan.proofs.parse_parted.Tie as tie
 
 -- the line up to its last colon
-abbrev front-of : tie.After-strip → List ℕ
-front-of c = take (c .before .before .before .before .before .before .args .colon) (c .before .before .before .before .before .before .args .line .now)
+abbrev front-of : tie.After-header → List ℕ
+front-of c = take (c .before .before .before .before .before .before .before .args .colon) (c .before .before .before .before .before .before .before .args .line .now)
 
--- what is left behind the run of blanks, stripped, is the front stripped
-header-is : (c : tie.After-strip) → c .strip .result .now ≡ stripped (front-of c)
+-- what lies between the two runs of blanks is the front stripped
+between : (c : tie.After-header)
+    → take (c .before .run-start .result) (take (length (front-of c) - c .before .before .before .run-end .result) (drop (c .before .before .before .run-end .result) (front-of c)))
+    ≡ stripped (front-of c)
 unfolding inClass
-header-is c =
-    c .strip .ensures .is
-    ∙ ap stripped (rest-is (c .before .before .run-end .result) (front-of c))
-    ∙ ap (λ (n : ℕ). stripped (drop n (front-of c))) (c .before .before .run-end .ensures .is)
-    ∙ stripped-behind-blanks (front-of c)
+between c = stripped-by (front-of c) (c .before .before .before .run-end .ensures .is) (rest-is (c .before .before .before .run-end .result) (front-of c)) (c .before .run-start .ensures .is)
 
 slice-aggregate-front : tie.Need-slice-aggregate-front
 slice-aggregate-front c = sym (length-take-le _ _ (omega (arith, c .before .before .before .pre)))
 
 run-end-requires : tie.Need-run-end-requires
 run-end-requires c κs = search needs
+
+sub-rest : tie.Need-sub-rest
+sub-rest c = search needs
+
+part-rest-start : tie.Need-part-rest-start
+part-rest-start c = search needs
+
+part-rest-end : tie.Need-part-rest-end
+part-rest-end c = search needs
+
+run-start-requires : tie.Need-run-start-requires
+run-start-requires c κs = search needs
+
+slice-aggregate-header : tie.Need-slice-aggregate-header
+slice-aggregate-header c = part-length _ _ (c .before .run-start .ensures .within)
+
+read-head-requires : tie.Need-read-head-requires
+read-head-requires c κs = search needs
+
+enum-known-head : tie.Need-enum-known-head
+enum-known-head c = search needs
+
+add-behind : tie.Need-add-behind
+add-behind c = search needs
 
 sub-strip : tie.Need-sub-strip
 sub-strip c = search needs
@@ -47,31 +68,10 @@ part-strip-end c = search needs
 strip-requires : tie.Need-strip-requires
 strip-requires c κs = search needs
 
-read-head-requires : tie.Need-read-head-requires
-read-head-requires c κs = search needs
-
-enum-known-head : tie.Need-enum-known-head
-enum-known-head c = search needs
-
-add-behind : tie.Need-add-behind
-add-behind c = search needs
-
-sub-strip-2 : tie.Need-sub-strip-2
-sub-strip-2 c = search needs
-
-part-strip-start-2 : tie.Need-part-strip-start-2
-part-strip-start-2 c = search needs
-
-part-strip-end-2 : tie.Need-part-strip-end-2
-part-strip-end-2 c = search needs
-
-strip-requires-2 : tie.Need-strip-requires-2
-strip-requires-2 c κs = search needs
-
 parse-payload-requires : tie.Need-parse-payload-requires
 unfolding inClass
 parse-payload-requires c κs =
-    parted-allows (c .before .before .before .before .before .before .before .before .before .before .before .before .before .args .line .now) (c .before .before .before .before .before .before .before .before .before .before .before .before .before .args .colon) (header-is (c .before .before .before .before .before .before .before)) (c .before .before .before .before .before .before .before .before .before .run-end .ensures .is) (c .before .before .before .before .before .before .before .before .before .before .before .before .before .good .0 .0) (sym (c .before .before .before .before .before .before .read-head .ensures) ∙ ap headTold (c .before .before .before .before .head .given .1))
+    parted-allows (c .before .before .before .before .before .before .before .before .before .before .before .before .before .before .args .line .now) (c .before .before .before .before .before .before .before .before .before .before .before .before .before .before .args .colon) (between (c .before .before .before .before .before .before .before)) (c .before .before .before .before .before .before .before .before .before .before .run-end .ensures .is) (c .before .before .before .before .before .before .before .before .before .before .before .before .before .before .good .0 .0) (sym (c .before .before .before .before .before .before .read-head .ensures) ∙ ap headTold (c .before .before .before .before .head .given .1))
 
 enum-known-number : tie.Need-enum-known-number
 enum-known-number c = search needs
@@ -82,11 +82,11 @@ same-length c = search needs
 returns : tie.Need-returns
 unfolding inClass
 returns c =
-    parted-read _ _ _ _ (ap headOf (sym (header-is (c .before .before .before .before .before .before .before .before .before .before))) ∙ sym (c .before .before .before .before .before .before .before .before .before .read-head .ensures) ∙ ap headTold (c .before .before .before .before .before .before .before .head .given .1))
-    (payload-same (header-is (c .before .before .before .before .before .before .before .before .before .before)) (c .before .before .before .before .before .before .before .before .before .before .before .before .run-end .ensures .is) (c .before .before .before .before .strip2 .ensures .is ∙ ap stripped (rest-is (c .before .before .before .before .before .before .before .before .before .before .before .before .before .before .before .before .args .colon + 1) (c .before .before .before .before .before .before .before .before .before .before .before .before .before .before .before .before .args .line .now))) (c .before .before .parse-payload .ensures))
+    parted-read _ _ _ _ (ap headOf (sym (between (c .before .before .before .before .before .before .before .before .before .before))) ∙ sym (c .before .before .before .before .before .before .before .before .before .read-head .ensures) ∙ ap headTold (c .before .before .before .before .before .before .before .head .given .1))
+    (payload-same (between (c .before .before .before .before .before .before .before .before .before .before)) (c .before .before .before .before .before .before .before .before .before .before .before .before .before .run-end .ensures .is) (c .before .before .before .before .strip .ensures .is ∙ ap stripped (rest-is (c .before .before .before .before .before .before .before .before .before .before .before .before .before .before .before .before .before .args .colon + 1) (c .before .before .before .before .before .before .before .before .before .before .before .before .before .before .before .before .before .args .line .now))) (c .before .before .parse-payload .ensures))
 
 returns-2 : tie.Need-returns-2
-returns-2 c = parted-refused _ _ _ _ (ap headOf (sym (header-is (c .before .before .before .before))) ∙ sym (c .before .before .before .read-head .ensures) ∙ ap headTold (c .before .number .given .1))
+returns-2 c = parted-refused _ _ _ _ (ap headOf (sym (between (c .before .before .before .before))) ∙ sym (c .before .before .before .read-head .ensures) ∙ ap headTold (c .before .number .given .1))
 
 pub parse-parted-spec : {M : Type 1} → statement M
 parse-parted-spec =
@@ -94,17 +94,18 @@ parse-parted-spec =
     (tie.spec
     slice-aggregate-front
     run-end-requires
+    sub-rest
+    part-rest-start
+    part-rest-end
+    run-start-requires
+    slice-aggregate-header
+    read-head-requires
+    enum-known-head
+    add-behind
     sub-strip
     part-strip-start
     part-strip-end
     strip-requires
-    read-head-requires
-    enum-known-head
-    add-behind
-    sub-strip-2
-    part-strip-start-2
-    part-strip-end-2
-    strip-requires-2
     parse-payload-requires
     enum-known-number
     same-length

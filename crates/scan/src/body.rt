@@ -50,7 +50,7 @@ pub enum BodyAnswer {
     Refused(u8),
 }
 
-// The kind goes by the type and the header's function. The kind is read after the four checks, so that a refused line does not pay for it. Asked for:
+// The kind goes by the type and the header's function. The kind is read after the four checks, so that a line refused here does not pay for it. Asked for:
 // what the walk keeps of each key.
 pub fn read_body(
     p: &[u8],

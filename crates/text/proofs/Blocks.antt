@@ -74,7 +74,7 @@ module _ (p : ℕ → Bool) where
       })
 
   -- d free places below i
-  pub last-skip : (d : ℕ) {i : ℕ} → d ≤ i → Free p (i - d) i → lastPlace p i ≡ lastPlace p (i - d)
+  last-skip : (d : ℕ) {i : ℕ} → d ≤ i → Free p (i - d) i → lastPlace p i ≡ lastPlace p (i - d)
   last-skip zero {i} h f = let e : i - 0 ≡ i = omega arith in rw e
   last-skip (suc d) {i} h f =
       let e : i - 1 - d ≡ i - suc d = omega arith in

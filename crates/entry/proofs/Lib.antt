@@ -2,5 +2,6 @@
 pub mod Parts
 pub mod Pads
 pub mod Codes
+pub mod Names
 pub mod Told
 pub mod Cases

@@ -68,7 +68,7 @@ among (e ∷ es) code = cond (eqb code (codeOf e)) e (among es code)
 unfoldable pub eventOf : ℕ → Event
 eventOf code = among named code
 
--- the name that each event prints: code 38 has the name of 36, as in the Rust; an unknown one prints its code
+-- the name that each event prints; an unknown one prints its code
 unfoldable pub nameOf : Event → List ℕ
 nameOf ErrConn = bytes "ERR_CONN"
 nameOf ErrLink = bytes "ERR_LINK"
@@ -88,7 +88,7 @@ nameOf PopCmplt = bytes "POP_CMPLT"
 nameOf PcieWake = bytes "PCIE_WAKE"
 nameOf DpConChange = bytes "DP_CON_CHANGE"
 nameOf DptxDiscovery = bytes "DPTX_DISCOVERY"
-nameOf LinkRecovery = bytes "DP_CON_CHANGE"
+nameOf LinkRecovery = bytes "LINK_RECOVERY"
 nameOf AsymLink = bytes "ASYM_LINK"
 nameOf (Unknown code) = decimalText code
 

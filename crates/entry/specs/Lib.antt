@@ -1,4 +1,5 @@
--- What the contracts of `entry` cite: events, kinds, and the entry as a value.
+-- What the contracts of `entry` cite: events and their names, kinds, and the entry as a value.
 pub mod Event
+pub mod Names
 pub mod Kind
 pub mod Entry

@@ -91,7 +91,7 @@ pub fn name_of(e: Event) -> Name
         Event::PcieWake => pad(b"PCIE_WAKE"),
         Event::DpConChange => pad(b"DP_CON_CHANGE"),
         Event::DptxDiscovery => pad(b"DPTX_DISCOVERY"),
-        Event::LinkRecovery => pad(b"DP_CON_CHANGE"),
+        Event::LinkRecovery => pad(b"LINK_RECOVERY"),
         Event::AsymLink => pad(b"ASYM_LINK"),
         Event::Unknown(code) => decimal(code),
     }

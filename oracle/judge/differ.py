@@ -8,7 +8,7 @@ import tempfile
 from generate import books, lines as generator, packets as packet_generator
 from generate.tree import encoded
 from judge import packets
-from judge.lines import bad_piece, beyond, both
+from judge.lines import NAME_ALONE, bad_piece, beyond, both, by_rust, counted
 from judge.tally import Tally, ask, in_parts
 from reading import line as reading, packet as packet_reading
 from reading.book import read_book
@@ -48,15 +48,15 @@ def replay(texts, strict):
 
 
 def judge(tally, name, line, oracle, ours):
-    """Lenient: inside the limits the Rust decides, beyond them document 01, by the second reading. Strict: the same where no piece is bad, else the reading."""
+    """Lenient: inside the limits the Rust decides, save the name of 38, beyond them document 01, by the second reading. Strict: the same where no piece is bad, else the reading."""
     outside = beyond(line, oracle)
-    lenient = oracle.replace("none ", "refused ") if outside is None else reading.answer(line)
+    lenient = by_rust(oracle) if outside is None else reading.answer(line)
     strict = reading.answer(line, strict=True) if bad_piece(line) else lenient
     if ours != (lenient, strict):
         return tally.differ(name, line, (lenient, strict), ours)
     if outside is not None:
         return tally.beyond(name, f"{outside[0]}: {', '.join(both(*ours))}")
-    return tally.all_same(name, both(*ours))
+    return tally.all_same(name, counted(*ours))
 
 
 def judge_all(tally, some):
@@ -71,6 +71,7 @@ def compare(seed, count, short):
     for some in in_parts(generator.generate(seed, count, short), AT_ONCE):
         judge_all(tally, some)
     tally.must_meet("strict refused 18")
+    tally.must_meet(NAME_ALONE)
     return tally
 
 

@@ -11,7 +11,7 @@ from generate.seed import Seed, frame
 from generate.tree import encoded
 from judge import chosen, chosen_books, chosen_reasons, chosen_records
 from judge.differ import group, line_frame
-from judge.lines import beyond, strictly
+from judge.lines import CODE_38, beyond, by_rust, strictly
 from judge.tally import ask
 from reading import book as book_reading, line as line_reading, packet as packet_reading, pending, reasons, record as record_reading
 
@@ -67,12 +67,12 @@ def line_cases():
 
 
 def lenient_answer(line, slots, oracle, origin):
-    """The judged file's answer where it has one, else the reading's."""
+    """The judged file's answer where it has one, save the name of 38, else the reading's."""
     ours = line_reading.answer(line, slots)
     if beyond(line, oracle) is None and ours != "refused 17":
-        if ours != oracle.replace("none ", "refused "):
+        if ours != by_rust(oracle):
             raise ValueError(f"{line!r}: {oracle} against {ours}")
-        origin["the Rust, lenient"] += 1
+        origin["the Rust save the name of 38, lenient" if CODE_38 in ours else "the Rust, lenient"] += 1
         return ours
     origin[f"the reading, lenient {ours}"] += 1
     return ours

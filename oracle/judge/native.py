@@ -132,11 +132,12 @@ class Calls:
         """Adapter, unplug and the event's name; the name's zeros must be there."""
         answers = [call(entry) for call in (self.library.ck_adapter_num, self.library.ck_unplug)]
         answers = [None if answer == NONE else answer for answer in answers]
-        if entry.code == NONE:
-            return (*answers, None)
-        text = self.library.ck_event_name(entry.code)
+        return (*answers, None if entry.code == NONE else self.event_name(entry.code))
+
+    def event_name(self, code):
+        text = self.library.ck_event_name(code)
         name = bytes(text.bytes)
-        return (*answers, name[:text.len].decode() if not any(name[text.len:]) else "torn")
+        return name[:text.len].decode() if not any(name[text.len:]) else "torn"
 
     def check(self, book):
         return self.library.ck_book_check(book, len(book))

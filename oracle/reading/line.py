@@ -18,7 +18,7 @@ EVENT_NAMES = {
     0: "ERR_CONN", 1: "ERR_LINK", 2: "ERR_ADDR", 4: "ERR_ADP", 7: "HP_ACK", 8: "ERR_ENUM",
     9: "ERR_NUA", 11: "ERR_LEN", 12: "ERR_HEC", 13: "ERR_FC", 14: "ERR_PLUG", 15: "ERR_LOCK",
     32: "DP_BW", 33: "ROP_CMPLT", 34: "POP_CMPLT", 35: "PCIE_WAKE", 36: "DP_CON_CHANGE",
-    37: "DPTX_DISCOVERY", 38: "DP_CON_CHANGE", 39: "ASYM_LINK",
+    37: "DPTX_DISCOVERY", 38: "LINK_RECOVERY", 39: "ASYM_LINK",
 }
 # Events whose info byte is something else than an adapter.
 NO_ADAPTER = (33, 36)

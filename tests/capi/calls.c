@@ -217,6 +217,21 @@ static int named(uint8_t code, const char *name) {
     return text.len == n && !memcmp(text.bytes, name, n);
 }
 
+/* Two codes with one name. */
+static int alike(int one, int other) {
+    ck_event_text a = ck_event_name((uint8_t)one), b = ck_event_name((uint8_t)other);
+    return a.len == b.len && !memcmp(a.bytes, b.bytes, sizeof a.bytes);
+}
+
+static void event_names(void) {
+    int pairs = 0;
+    for (int other = 0; other < 256; other++)
+        for (int one = 0; one < other; one++) pairs += alike(one, other);
+    see(pairs == 0 && alike(38, 38), "a name tells its code: no two of the 256 have one name");
+    see(named(0, "ERR_CONN") && named(37, "DPTX_DISCOVERY") && named(3, "3") && named(255, "255"), "names");
+    see(named(36, "DP_CON_CHANGE") && named(38, "LINK_RECOVERY"), "38 has its own name, and 36 keeps its");
+}
+
 static void questions(void) {
     ck_entry e;
     memset(&e, 0, sizeof e);
@@ -228,7 +243,6 @@ static void questions(void) {
     see(ck_adapter_num(e) == CK_NONE && ck_unplug(e) == CK_NONE, "nothing known, nothing answered");
     e.code = 36 + 256, e.port = 7;
     see(ck_adapter_num(e) == 7, "a code past its width counts as absent");
-    see(named(0, "ERR_CONN") && named(37, "DPTX_DISCOVERY") && named(38, "DP_CON_CHANGE") && named(3, "3") && named(255, "255"), "names");
 }
 
 static void books(void) {
@@ -423,6 +437,7 @@ int main(int count, char **words) {
     whats();
     refused_entries();
     questions();
+    event_names();
     books();
     packets();
     fields();

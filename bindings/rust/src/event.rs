@@ -57,7 +57,8 @@ events! {
     AsymLink = 39;
 }
 
-/// Prints the event's name as the proved call gives it, and an unknown code in decimal.
+/// Prints the event's name as the proved call gives it, and an unknown code in decimal. No two codes print the same, so a name tells its code; where
+/// tbtools prints `DP_CON_CHANGE` for 38 as well as for 36, 38 is `LINK_RECOVERY` here.
 impl fmt::Display for Event {
     fn fmt(&self, f: &mut fmt::Formatter<'_>) -> fmt::Result {
         let name = raw::event_name(self.code());

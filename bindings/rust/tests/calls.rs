@@ -1,5 +1,6 @@
 //! The safe side of the C calls: answers, refusals, and lent memory that stays as it was.
 use chomkadieu::{Book, Entry, Event, MOST_BYTES, MOST_DWORDS, Pdf, Refusal, What, what};
+use std::collections::HashSet;
 
 const FWD: &[u8] =
     b" fwd-7 [002] d..1. 12.000345: tb_tx: type=TB_CFG_PKG_READ, size=3, domain=0, route=0, data=[0x0, 0x0, 0x04002001]\n";
@@ -52,9 +53,12 @@ fn optional_fields_and_questions() {
         (entry.unplug_byte(), entry.unplug(), entry.dropped()),
         (Some(2), Some(false), true)
     );
-    assert_eq!(Event::LinkRecovery.to_string(), "DP_CON_CHANGE");
+    assert_eq!(Event::DpConChange.to_string(), "DP_CON_CHANGE");
+    assert_eq!(Event::LinkRecovery.to_string(), "LINK_RECOVERY");
     assert_eq!(Event::Unknown(3).to_string(), "3");
     assert!((0..=255).all(|code| Event::from(code).code() == code));
+    let names: HashSet<_> = (0..=255).map(|code| Event::from(code).to_string()).collect();
+    assert_eq!(names.len(), 256);
 }
 
 #[test]

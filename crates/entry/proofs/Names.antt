@@ -7,7 +7,6 @@ use mathlib.Core.List.{List, [], _∷_, map}
 use native.Mathlib.Omega.{arith}
 use lib.Dec.{eqb}
 use lib.ListN.{take}
-use lib.Seq.{take-append-seam}
 use borrow.Author.Tests.{not-true}
 use Rattle.text.specs.Same.{sameText}
 use Rattle.text.specs.Class.{isDigit, between}
@@ -21,6 +20,7 @@ use Rattle.entry.specs.declared.events.Name.{Name}
 use Rattle.entry.specs.Event.{codeOf, named, among, eventOf, nameOf, padded}
 use Rattle.entry.specs.Names.{Named, printed, NamesTellCodes}
 use Rattle.entry.proofs.Codes.{one-code}
+use Rattle.entry.proofs.Pads.{name-start}
 
 -- ---- the test
 
@@ -132,10 +132,8 @@ tells a b h k same = go (listed named a) (listed named b) refl refl
     go false true p q = absurd (listed-no-decimal b a q (omega arith) (sym same ∙ unlisted-decimal a p))
     go false false p q = one-decimal a b (omega arith) (omega arith) (sym (unlisted-decimal a p) ∙ same ∙ unlisted-decimal b q)
 
--- a name is the start of what is handed out, as far as its length says
 one-padded : (s t : List ℕ) → padded s ≡ padded t → s ≡ t
-unfolding padded
-one-padded s t same = sym (take-append-seam s _) ∙ ap (λ (n : Name). take (n .len) (n .bytes)) same ∙ take-append-seam t _
+one-padded s t same = sym (name-start s refl) ∙ ap (λ (n : Name). take (n .len) (n .bytes)) same ∙ name-start t refl
 
 pub names-tell-codes : NamesTellCodes
 unfolding eventOf nameOf

@@ -1,12 +1,13 @@
--- Padding copies byte after byte over zeros. Assumes nothing.
+-- Padding copies byte after byte over zeros, and the start of a padded name, as long as it says, is the name. Assumes nothing.
 use native.Mathlib.Nat.{zero-add}
 use Prim.Native.Nat.{ℕ, zero, suc, _+_, _-_, _≤_, _<_}
 use mathlib.Core.Path.{_≡_, sym, ap, _∙_}
 use mathlib.Core.List.{List, _++_}
 use native.Mathlib.Numerals.{add-one}
 use native.Mathlib.Omega.{arith}
-use lib.ListN.{length, getD, drop, set, replicate}
-use lib.Seq.{paste, paste-zero, paste-suc, take-length}
+use lib.ListN.{length, getD, take, drop, set, replicate, length-append}
+use lib.Seq.{paste, paste-zero, paste-suc, take-length, take-append-seam}
+use Rattle.entry.specs.declared.events.Name.{Name}
 use Rattle.entry.specs.Event.{padded}
 
 -- i bytes of s copied over fourteen zeros
@@ -33,3 +34,14 @@ module _ (s : List ℕ) (fits : length s ≤ 14) where
       let e : i ≡ length s = omega (arith, r .within) in
       let b : bytes ≡ s ++ replicate (14 - length s) 0 = r .so-far ∙ rw (e, take-length s) (ap (λ (l : List ℕ). s ++ l) (drop-zeros (0 + length s) 14 ∙ ap (λ (k : ℕ). replicate (14 - k) 0) (zero-add (length s)))) in
       rw (b, e)
+
+-- ---- names that were handed out
+
+module _ (s : List ℕ) {n : Name} where
+  pub name-within : n ≡ padded s → n .len ≤ length (n .bytes)
+  unfolding padded
+  name-within e = rw e (omega (arith, length-append s (replicate (14 - length s) 0)))
+
+  pub name-start : n ≡ padded s → take (n .len) (n .bytes) ≡ s
+  unfolding padded
+  name-start e = rw e (take-append-seam s (replicate (14 - length s) 0))

@@ -1,14 +1,12 @@
 -- Where a text was put, or was not since it did not fit, the place handed back is in the buffer. Assumes nothing.
-use Prim.Native.Nat.{ℕ, _+_, _-_, _≤_}
+use Prim.Native.Nat.{ℕ, _+_, _≤_}
 use mathlib.Core.Path.{_≡_, refl, _∙_}
 use mathlib.Core.Bool.{Bool, true, false}
 use mathlib.Core.List.{List}
 use native.Mathlib.Omega.{arith}
 use lib.Dec.{leb}
-use lib.ListN.{length, replicate, length-append}
+use lib.ListN.{length}
 use borrow.Author.Tests.{leb-true}
-use Rattle.entry.specs.declared.events.Name.{Name}
-use Rattle.entry.specs.Event.{padded}
 use Rattle.print.specs.Put.{Placed, placeAfter}
 
 pub placed-within : {out s exit : List ℕ} {at r : ℕ} → at ≤ length out → Placed out at s exit r → r ≤ length out
@@ -22,8 +20,3 @@ placed-within {out} {s} {exit} {at} {r} h p = go (leb (at + length s) (length ou
     go false e =
         let q : r ≡ at = p .place ∙ rw e refl in
         omega arith
-
--- a printed name lies within its bytes
-pub name-within : (s : List ℕ) {n : Name} → n ≡ padded s → n .len ≤ length (n .bytes)
-unfolding padded
-name-within s e = rw e (omega (arith, length-append s (replicate (14 - length s) 0)))

@@ -3,15 +3,20 @@
 //     say_if       a text where something holds
 //     say_name     a book's name as it is shown
 //     say_number   a number in decimal
+//     say_event    the name that an event prints
 //     say_dword    eight hex digits
 //     say_hex      hex digits, at least eight
 use channel::sink::Sink;
 use channel::sink::say;
+use entry::events::Event;
+use entry::events::name_of;
 use escape::put_escaped;
 use print::hex::put_dword;
 use print::put::put_decimal;
 ghost use Prim.Native.Nat.{_+_, _≤_, _<_};
+ghost use mathlib.Core.List.{_++_};
 ghost use lib.ListN.{length};
+ghost use Rattle.entry.specs.Event.{nameOf};
 ghost use Rattle.print.specs.Hex.{dwordText};
 ghost use Rattle.listing_rows.specs.Rows.{wordAndNumber};
 ghost use Rattle.saying.specs.Telling.{Told, nameText};
@@ -66,6 +71,17 @@ pub fn say_number(out: &mut [u8], sink: Sink, word: &[u8], n: u64) -> Sink
     let end = put_decimal(&mut room, 0, n);
     let worded = say(out, sink, word);
     say(out, worded, &room[..end])
+}
+
+// A word and then the name that an event prints.
+pub fn say_event(out: &mut [u8], sink: Sink, word: &[u8], e: Event) -> Sink
+    ensures { λ r. ⌜ Told (now (out .entry)) sink (now (word .entry) ++ nameOf e) (now (out .exit)) r ⌝ }
+{
+    let name = name_of(e);
+    let bytes = name.bytes;
+    let end = name.len;
+    let worded = say(out, sink, word);
+    say(out, worded, &bytes[..end])
 }
 
 // Eight hex digits.

@@ -1,5 +1,5 @@
-// What `show` prints of one line over a book: of an entry its time, function, kind and route, each dword with what the book says of it, and where the
-// data starts; of each other line why it is none. Every word goes through a sink.
+// What `show` prints of one line over a book: of an entry its time, function, kind, route and event, each dword with what the book says of it, and where
+// the data starts; of each other line why it is none. Every word goes through a sink.
 //
 //     show_line      a line's block
 mod dwords;
@@ -12,7 +12,10 @@ use channel::sink::Sink;
 use channel::sink::say;
 use entry::Entry;
 use entry::data;
+use entry::event;
 use entry::function;
+use entry::optional::MaybeEvent;
+use saying::say_event;
 use saying::say_hex;
 use saying::say_number;
 use scan::Answer;
@@ -40,7 +43,7 @@ pub fn show_line(
     }
 }
 
-// Time, function, kind and route.
+// Time, function, kind and route, and the event where there is one.
 fn show_head(line: &[u8], e: Entry, out: &mut [u8], sink: Sink) -> Sink {
     let a = say_number(out, sink, b"  ", e.seconds);
     let b = say_number(out, a, b" s ", e.microseconds);
@@ -50,5 +53,13 @@ fn show_head(line: &[u8], e: Entry, out: &mut [u8], sink: Sink) -> Sink {
     let g = say_kind(out, f, e.kind);
     let h = say(out, g, b"  route ");
     let i = say_hex(out, h, e.route);
-    say(out, i, b"\n")
+    let j = show_event(event(e), out, i);
+    say(out, j, b"\n")
+}
+
+fn show_event(what: MaybeEvent, out: &mut [u8], sink: Sink) -> Sink {
+    match what {
+        MaybeEvent::Is(v) => say_event(out, sink, b"  event ", v),
+        MaybeEvent::Absent => sink,
+    }
 }

@@ -22,10 +22,10 @@ pub fn calls() -> io::Result<()> {
     ])?;
     race_calls(&mut [
         ("an event's name, printed by tbtools", &mut || {
-            each(|code| text_sum(&plain_name(code)))
+            each(|code| text_sum(&plain_name(shared(code))))
         }),
         ("an event's name, ck_event_name", &mut || {
-            each(|code| text_sum(&event_name(code)))
+            each(|code| text_sum(&event_name(shared(code))))
         }),
     ])
 }
@@ -37,6 +37,11 @@ fn race_calls(runners: &mut [Runner]) -> io::Result<()> {
 /// Every code in turn, the same for each run.
 fn each(one: impl Fn(u8) -> u64) -> u64 {
     (0..CALLS).fold(0, |sum, i| sum.wrapping_add(one(black_box(i as u8))))
+}
+
+/// Codes whose names are the same on both sides: for 38, which tbtools prints with the name of 36, stands 36.
+fn shared(code: u8) -> u8 {
+    if code == 38 { 36 } else { code }
 }
 
 fn text_sum(text: &EventText) -> u64 {

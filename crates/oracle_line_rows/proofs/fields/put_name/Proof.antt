@@ -1,5 +1,5 @@
 -- `fields::put_name` meets its contract: a printed name lies within its bytes. Assumes nothing.
-use Rattle.oracle_line_rows.proofs.Bounds.{name-within}
+use Rattle.entry.proofs.Pads.{name-within}
 use native.Mathlib.Omega.{arith}
 use borrow.Author.Needs.{needs}
 use Rattle.oracle_line_rows.proofs.fields.put_name.Statement.{statement}

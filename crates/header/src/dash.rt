@@ -35,7 +35,7 @@ pub fn parse_task(h: &[u8]) -> Found
 }
 
 // The whole digit run behind the last dash that has a byte before it and a digit behind it. The task's dash is the last of all in the run,
-// so no dash is sought behind it.
+// so no dash is sought behind it. Asked for: where the task ends, which `read_head` has of `parse_task`.
 pub fn parse_pid(h: &[u8], task: usize) -> Number
     requires { ⌜ taskOf (now h) ≡ At task ⌝ }
     ensures { λ r. ⌜ r ≡ pidOf (now (h .entry)) ⌝ }

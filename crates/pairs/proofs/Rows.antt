@@ -2,27 +2,22 @@
 -- nothing.
 use Prim.Native.Nat.{ℕ, zero, suc, _+_, _≤_, _<_}
 use mathlib.Core.Path.{_≡_, refl, sym, ap, _∙_}
-use mathlib.Core.Bool.{Bool, true, false, not, _&&_, _||_}
+use mathlib.Core.Bool.{Bool, true, false, _||_}
 use mathlib.Core.List.{List, [], _∷_}
 use native.Mathlib.Omega.{arith}
 use lib.Dec.{eqb}
 use lib.ListN.{length}
-use borrow.Author.Tests.{not-true, eq-eqb, ne-eqb, eqb-true}
+use borrow.Author.Tests.{eq-eqb, ne-eqb, eqb-true}
 use Rattle.text.specs.Same.{sameText}
 use Rattle.text.proofs.Places.{clash}
-use Rattle.text.proofs.Texts.{both-left, both-right, same-refl, same-true}
+use Rattle.text.proofs.Texts.{same-refl, same-true}
+use Rattle.text.proofs.Computed.{has, once, once-first}
 use Rattle.pairs.specs.declared.keys.Form.{Form}
 use Rattle.pairs.specs.Table.{Key, Row, keys, rowIn, rowAt, rowTakes, keyAfter, unknown, keyNamed}
 
--- a name stands in some row
-has : List ℕ → List Row → Bool
-has name [] = false
-has name (q ∷ qs) = sameText name (q .name) || has name qs
-
--- no name stands twice
-once : List Row → Bool
-once [] = true
-once (q ∷ qs) = not (has (q .name) qs) && once qs
+abbrev names : List Row → List (List ℕ)
+names [] = []
+names (q ∷ qs) = q .name ∷ names qs
 
 -- neither half holds where the whole does not
 neither-left : (a b : Bool) → (a || b) ≡ false → a ≡ false
@@ -34,23 +29,21 @@ neither-right true b e = absurd (let z : _≡_ {A = ℕ} 0 1 = cc in omega arith
 neither-right false b e = e
 
 -- a name that no row has is no row's
-has-none : (name : List ℕ) (qs : List Row) → has name qs ≡ false → (k : ℕ) → k < length qs → sameText name (rowIn qs k .name) ≡ false
-unfolding has
+has-none : (name : List ℕ) (qs : List Row) → has (names qs) name ≡ false → (k : ℕ) → k < length qs → sameText name (rowIn qs k .name) ≡ false
 has-none name [] e k h = absurd (omega arith)
 has-none name (q ∷ qs) e zero h = neither-left _ _ e
 has-none name (q ∷ qs) e (suc k) h = has-none name qs (neither-right (sameText name (q .name)) _ e) k (omega arith)
 
 -- rows of one name are one row
-one-row : (name : List ℕ) (qs : List Row) → once qs ≡ true → (j k : ℕ) → j < length qs → k < length qs →
+one-row : (name : List ℕ) (qs : List Row) → once (names qs) ≡ true → (j k : ℕ) → j < length qs → k < length qs →
     sameText name (rowIn qs j .name) ≡ true → sameText name (rowIn qs k .name) ≡ true → j ≡ k
-unfolding once
 one-row name [] o j k h l s t = absurd (omega arith)
-one-row name (q ∷ qs) o j k h l s t = go j k h l s t (λ a b x y u v. one-row name qs (both-right (not (has (q .name) qs)) _ o) a b x y u v)
+one-row name (q ∷ qs) o j k h l s t = go j k h l s t (λ a b x y u v. one-row name qs (once-first (q .name) (names qs) o .1) a b x y u v)
   where
     -- no row behind the first has its name
     first-alone : (i : ℕ) → i < length qs → sameText name (q .name) ≡ true → sameText name (rowIn qs i .name) ≡ true → ⊥
     first-alone i x u v =
-        let none = has-none (q .name) qs (not-true _ (both-left (not (has (q .name) qs)) _ o)) i x in
+        let none = has-none (q .name) qs (once-first (q .name) (names qs) o .0) i x in
         clash v (rw (same-true name (q .name) u) none)
 
     go : (j k : ℕ) → j < length (q ∷ qs) → k < length (q ∷ qs) → sameText name (rowIn (q ∷ qs) j .name) ≡ true →
@@ -95,8 +88,8 @@ taken-by name n (q ∷ qs) key = go (sameText name (q .name)) refl (taken-by nam
     go false e (by-none rest s) = by-none (none e rest) (s ∙ rw e)
 
 -- the one test that the table must pass
-keys-once : once keys ≡ true
-unfolding once has keys sameText
+keys-once : once (names keys) ≡ true
+unfolding keys sameText
 keys-once = refl
 
 module _ (name : List ℕ) where

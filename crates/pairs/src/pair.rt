@@ -99,7 +99,8 @@ fn try_at(s: &[u8], i: usize, m: usize, tail: usize) -> Pair
 }
 
 // Where the value from v on ends, whose word run ends at e: there if the run has a byte, else with its brackets. No `]` stands from `tail` on, so a `[`
-// there is given up at once, and many of them cost no more than one.
+// there is given up at once, and many of them cost no more than one. Asked for: where the run ends and where no `]` stands any more, which both walks have
+// sought.
 pub fn value_end(s: &[u8], v: usize, e: usize, tail: usize) -> Found
     requires { ⌜ (e ≡ runEnd isWord (now s) v) × (tail ≡ runStart (inClass NotClose) (now s)) ⌝ }
     ensures { λ r. ⌜ r ≡ valueEnd (now (s .entry)) v ⌝ }

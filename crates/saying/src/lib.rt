@@ -8,18 +8,16 @@
 //     say_hex      hex digits, at least eight
 use channel::sink::Sink;
 use channel::sink::say;
-use entry::events::Event;
 use entry::events::name_of;
+use entry::optional::MaybeEvent;
 use escape::put_escaped;
 use print::hex::put_dword;
 use print::put::put_decimal;
 ghost use Prim.Native.Nat.{_+_, _≤_, _<_};
-ghost use mathlib.Core.List.{_++_};
 ghost use lib.ListN.{length};
-ghost use Rattle.entry.specs.Event.{nameOf};
 ghost use Rattle.print.specs.Hex.{dwordText};
 ghost use Rattle.listing_rows.specs.Rows.{wordAndNumber};
-ghost use Rattle.saying.specs.Telling.{Told, nameText};
+ghost use Rattle.saying.specs.Telling.{Told, nameText, eventText};
 
 // How many bytes of a name are escaped at a time, and how many bytes that can be.
 const PIECE: usize = 64;
@@ -73,15 +71,20 @@ pub fn say_number(out: &mut [u8], sink: Sink, word: &[u8], n: u64) -> Sink
     say(out, worded, &room[..end])
 }
 
-// A word and then the name that an event prints.
-pub fn say_event(out: &mut [u8], sink: Sink, word: &[u8], e: Event) -> Sink
-    ensures { λ r. ⌜ Told (now (out .entry)) sink (now (word .entry) ++ nameOf e) (now (out .exit)) r ⌝ }
+// A word and then the name that an event prints; nothing for no event.
+pub fn say_event(out: &mut [u8], sink: Sink, word: &[u8], what: MaybeEvent) -> Sink
+    ensures { λ r. ⌜ Told (now (out .entry)) sink (eventText (now (word .entry)) what) (now (out .exit)) r ⌝ }
 {
-    let name = name_of(e);
-    let bytes = name.bytes;
-    let end = name.len;
-    let worded = say(out, sink, word);
-    say(out, worded, &bytes[..end])
+    match what {
+        MaybeEvent::Is(e) => {
+            let name = name_of(e);
+            let bytes = name.bytes;
+            let end = name.len;
+            let worded = say(out, sink, word);
+            say(out, worded, &bytes[..end])
+        }
+        MaybeEvent::Absent => sink,
+    }
 }
 
 // Eight hex digits.

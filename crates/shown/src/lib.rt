@@ -14,7 +14,6 @@ use entry::Entry;
 use entry::data;
 use entry::event;
 use entry::function;
-use entry::optional::MaybeEvent;
 use saying::say_event;
 use saying::say_hex;
 use saying::say_number;
@@ -53,13 +52,6 @@ fn show_head(line: &[u8], e: Entry, out: &mut [u8], sink: Sink) -> Sink {
     let g = say_kind(out, f, e.kind);
     let h = say(out, g, b"  route ");
     let i = say_hex(out, h, e.route);
-    let j = show_event(event(e), out, i);
+    let j = say_event(out, i, b"  event ", event(e));
     say(out, j, b"\n")
-}
-
-fn show_event(what: MaybeEvent, out: &mut [u8], sink: Sink) -> Sink {
-    match what {
-        MaybeEvent::Is(v) => say_event(out, sink, b"  event ", v),
-        MaybeEvent::Absent => sink,
-    }
 }

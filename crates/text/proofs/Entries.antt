@@ -1,7 +1,7 @@
 -- What the table says of a byte is what the classes say of it: one test over all 256 bytes, computed. Assumes nothing.
 use Prim.Native.Nat.{ℕ, zero, suc, _+_, _≤_, _<_}
 use mathlib.Core.Path.{_≡_, refl, sym, ap, _∙_}
-use mathlib.Core.Bool.{Bool, true, false, not, cond, _&&_}
+use mathlib.Core.Bool.{Bool, true, false, cond, _&&_}
 use mathlib.Core.List.{List}
 use native.Mathlib.Omega.{arith}
 use lib.Dec.{ltb, leb, eqb}
@@ -9,38 +9,15 @@ use lib.ListN.{length, getD, List·getD-eq-default}
 use borrow.Author.Tests.{lt-ltb, ltb-true, eqb-true}
 use Rattle.text.specs.Class.{between, isLetter, isDigit, isWord}
 use Rattle.text.specs.Number.{digitOf}
-use Rattle.text.proofs.Places.{by-order}
 use Rattle.text.proofs.Texts.{both-left, both-right}
+use Rattle.text.proofs.Computed.{all, all-at, same, same-is}
 use Rattle.text.specs.Table.{entryOf, entries, table}
-
--- the test passes for n numbers from b on
-all : (ℕ → Bool) → ℕ → ℕ → Bool
-all p zero b = true
-all p (suc n) b = p b && all p n (suc b)
-
-all-at : (p : ℕ → Bool) (n b : ℕ) → all p n b ≡ true → (k : ℕ) → b ≤ k → k < b + n → p k ≡ true
-unfolding all
-all-at p zero b t k h l = absurd (omega arith)
-all-at p (suc n) b t k h l =
-    by-order b k (λ x. all-at p n (suc b) (both-right (p b) _ t) k (omega arith) (omega arith))
-    (λ e. rw (← e) (both-left _ _ t))
-    (λ x. absurd (omega arith))
 
 entries-at : (n b k : ℕ) → k < n → getD (entries n b) k 0 ≡ entryOf (b + k)
 unfolding entries
 entries-at zero b k h = absurd (omega arith)
 entries-at (suc n) b zero h = let e : b + 0 ≡ b = omega arith in rw e
 entries-at (suc n) b (suc k) h = let e : b + suc k ≡ suc b + k = omega arith in rw e (entries-at n (suc b) k (omega arith))
-
-same : Bool → Bool → Bool
-same true b = b
-same false b = not b
-
-same-is : (a b : Bool) → same a b ≡ true → a ≡ b
-unfolding same
-same-is true b e = sym e
-same-is false true e = e
-same-is false false e = refl
 
 -- a word byte's entry is at most 128, and a digit's is its value
 right : ℕ → Bool

@@ -5,6 +5,7 @@ pub mod Runs
 pub mod Stripping
 pub mod OwnParts
 pub mod Texts
+pub mod Computed
 pub mod Words
 pub mod Numbers
 pub mod Entries

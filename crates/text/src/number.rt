@@ -50,7 +50,8 @@ pub fn decimal(s: &[u8], limit: u64) -> Number
     read(s, 0, TEN, limit)
 }
 
-// The whole digit run from a place on, read as decimal. One of more than sixteen digits is read again from its start.
+// The whole digit run from a place on, read as decimal. One of more than sixteen digits is read again from its start. Asked for: a place in the text,
+// which `parse_pid` has of the dash that it found.
 pub fn leading(s: &[u8], from: usize, limit: u64) -> Number
     requires { ⌜ from ≤ length (now s) ⌝ }
     ensures { λ r. ⌜ r ≡ leadingOf limit (now (s .entry)) from ⌝ }

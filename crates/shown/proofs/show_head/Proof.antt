@@ -46,11 +46,14 @@ say-requires-4 c κs = search needs
 say-hex-requires : tie.Need-say-hex-requires
 say-hex-requires c κs = search needs
 
+slice-aggregate-say-event : tie.Need-slice-aggregate-say-event
+slice-aggregate-say-event c = search needs
+
 event-requires : tie.Need-event-requires
 event-requires c κs = search needs
 
-show-event-requires : tie.Need-show-event-requires
-show-event-requires c κs = search needs
+say-event-requires : tie.Need-say-event-requires
+say-event-requires c κs = search needs
 
 slice-aggregate-say-4 : tie.Need-slice-aggregate-say-4
 slice-aggregate-say-4 c = search needs
@@ -59,7 +62,7 @@ say-requires-5 : tie.Need-say-requires-5
 say-requires-5 c κs = search needs
 
 same-length : tie.Need-same-length
-same-length c = omega (arith, c .before .before .before .before .before .before .before .before .before .before .before .before .before .before .before .before .before .before .before .before .before .before .before .before .before .before .before .before .before .before .before .before .before .before .before .before .before .before .before .before .before .before .before .before .out .given, c .before .before .before .before .before .before .before .before .before .before .before .before .before .before .before .before .before .before .before .before .before .before .before .before .before .before .before .before .before .before .before .before .before .before .before .before .before .before .before .out2 .given, c .before .before .before .before .before .before .before .before .before .before .before .before .before .before .before .before .before .before .before .before .before .before .before .before .before .before .before .before .before .before .before .before .before .before .out3 .given, c .before .before .before .before .before .before .before .before .before .before .before .before .before .before .before .before .before .before .before .before .before .before .before .before .before .before .before .before .before .out4 .given, c .before .before .before .before .before .before .before .before .before .before .before .before .before .before .before .before .before .before .before .before .before .before .before .before .out5 .given, c .before .before .before .before .before .before .before .before .before .before .before .before .before .before .before .before .before .before .before .before .out6 .given, c .before .before .before .before .before .before .before .before .before .before .before .before .before .before .before .out7 .given, c .before .before .before .before .before .before .before .before .before .before .before .out8 .given, c .before .before .before .before .before .before .out9 .given, c .before .out10 .given)
+same-length c = omega (arith, c .before .before .before .before .before .before .before .before .before .before .before .before .before .before .before .before .before .before .before .before .before .before .before .before .before .before .before .before .before .before .before .before .before .before .before .before .before .before .before .before .before .before .before .before .before .out .given, c .before .before .before .before .before .before .before .before .before .before .before .before .before .before .before .before .before .before .before .before .before .before .before .before .before .before .before .before .before .before .before .before .before .before .before .before .before .before .before .before .out2 .given, c .before .before .before .before .before .before .before .before .before .before .before .before .before .before .before .before .before .before .before .before .before .before .before .before .before .before .before .before .before .before .before .before .before .before .before .out3 .given, c .before .before .before .before .before .before .before .before .before .before .before .before .before .before .before .before .before .before .before .before .before .before .before .before .before .before .before .before .before .before .out4 .given, c .before .before .before .before .before .before .before .before .before .before .before .before .before .before .before .before .before .before .before .before .before .before .before .before .before .out5 .given, c .before .before .before .before .before .before .before .before .before .before .before .before .before .before .before .before .before .before .before .before .before .out6 .given, c .before .before .before .before .before .before .before .before .before .before .before .before .before .before .before .before .out7 .given, c .before .before .before .before .before .before .before .before .before .before .before .before .out8 .given, c .before .before .before .before .before .before .out9 .given, c .before .out10 .given)
 
 returns : tie.Need-returns
 returns c = search needs
@@ -82,8 +85,9 @@ show-head-spec =
     slice-aggregate-say-3
     say-requires-4
     say-hex-requires
+    slice-aggregate-say-event
     event-requires
-    show-event-requires
+    say-event-requires
     slice-aggregate-say-4
     say-requires-5
     same-length

@@ -159,7 +159,8 @@ ck_write_answer ck_record_write(const uint8_t *text, size_t length, ck_entry ent
 /* 0 if the book belongs to the grammar, else 20. */
 uint8_t ck_book_check(const uint8_t *book, size_t length);
 
-/* The name that an event's code prints, a code without a name in decimal. No two codes print the same; 38 prints LINK_RECOVERY. */
+/* The name that an event's code prints, a code without a name in decimal. No two codes print the same: 38, for which
+ * tbtools prints the name of 36, prints LINK_RECOVERY. */
 ck_event_text ck_event_name(uint8_t code);
 
 /* The entry's adapter: its port, but CK_NONE for the codes 33 and 36 and where there is no port. An optional field past its width counts as

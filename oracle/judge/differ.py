@@ -1,4 +1,4 @@
-"""The programs under test beside the judged Rust: every field of every line and packet."""
+"""The programs under test beside the judged Rust: every field of every line and packet, save the name of 38."""
 
 import os
 import struct
@@ -48,7 +48,8 @@ def replay(texts, strict):
 
 
 def judge(tally, name, line, oracle, ours):
-    """Lenient: inside the limits the Rust decides, save the name of 38, beyond them document 01, by the second reading. Strict: the same where no piece is bad, else the reading."""
+    """Lenient: inside the limits the Rust decides, save the name of 38, beyond them document 01, by the second reading. Strict: the same where no piece
+    is bad, else the reading."""
     outside = beyond(line, oracle)
     lenient = by_rust(oracle) if outside is None else reading.answer(line)
     strict = reading.answer(line, strict=True) if bad_piece(line) else lenient

@@ -14,7 +14,8 @@ NAME_ALONE = "entry that departs from the Rust in the name of 38 alone"
 
 
 def by_rust(oracle):
-    """What the Rust's answer lets us expect: the same, but for the name of 38. Should the Rust ever name 38 otherwise, what nobody answers, so that it is told."""
+    """What the Rust's answer lets us expect: the same, but for the name of 38. If the Rust names 38 otherwise, a text that no reader answers, so that it
+    shows as a difference."""
     if CODE_38 not in oracle:
         return oracle.replace("none ", "refused ")
     if RUST_NAME not in oracle:
@@ -64,7 +65,7 @@ def both(lenient, strict):
 
 
 def counted(lenient, strict):
-    """The same of answers that the Rust decides, and whether they depart from it in the name of 38."""
+    """Both answers to a line that the Rust decides, as they are counted, and a third count where they depart from it in the name of 38."""
     return both(lenient, strict) + ((NAME_ALONE,) if CODE_38 in lenient else ())
 
 

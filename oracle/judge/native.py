@@ -129,12 +129,13 @@ class Calls:
         return (answer.number if fits and written is not None else "torn"), written
 
     def questions(self, entry):
-        """Adapter, unplug and the event's name; the name's zeros must be there."""
+        """Adapter, unplug and the event's name."""
         answers = [call(entry) for call in (self.library.ck_adapter_num, self.library.ck_unplug)]
         answers = [None if answer == NONE else answer for answer in answers]
         return (*answers, None if entry.code == NONE else self.event_name(entry.code))
 
     def event_name(self, code):
+        """The name that is handed out, "torn" where no zeros stand behind it."""
         text = self.library.ck_event_name(code)
         name = bytes(text.bytes)
         return name[:text.len].decode() if not any(name[text.len:]) else "torn"

@@ -229,7 +229,7 @@ static void event_names(void) {
         for (int one = 0; one < other; one++) pairs += alike(one, other);
     see(pairs == 0 && alike(38, 38), "a name tells its code: no two of the 256 have one name");
     see(named(0, "ERR_CONN") && named(37, "DPTX_DISCOVERY") && named(3, "3") && named(255, "255"), "names");
-    see(named(36, "DP_CON_CHANGE") && named(38, "LINK_RECOVERY"), "38 has its own name, and 36 keeps its");
+    see(named(36, "DP_CON_CHANGE") && named(38, "LINK_RECOVERY"), "38 has its own name, and 36 the one it had");
 }
 
 static void questions(void) {

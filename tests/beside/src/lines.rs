@@ -42,7 +42,7 @@ fn judge(tally: &mut Tally, ours: &mut Ours, line: &[u8]) {
     let dwords = dwords(&rust);
     let slots = slots(tally.given(), dwords.unwrap_or_default());
     let row = by_rust(&rust);
-    let (class, lenient) = expected(line, &row, dwords, slots);
+    let (class, lenient) = expected(line, &rust, dwords, slots);
     let (strict_class, strict) = strictly(lenient, line);
     for (reading, ours, expected) in [
         ("a lenient line", &mut ours.lenient, lenient),
@@ -61,8 +61,8 @@ fn judge(tally: &mut Tally, ours: &mut Ours, line: &[u8]) {
     tally.beside(strict_class, strict);
 }
 
-/// What the Rust's answer lets us expect: the same, but for the name of 38. Should the Rust ever name 38 otherwise, what nobody answers, so that it is
-/// told.
+/// What the Rust's answer lets us expect: the same, but for the name of 38. If the Rust names 38 otherwise, a text that no reader answers, so that it
+/// shows as a difference.
 fn by_rust(rust: &str) -> Cow<'_, str> {
     if !rust.contains(CODE_38) {
         rust.into()

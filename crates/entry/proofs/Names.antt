@@ -87,6 +87,7 @@ one-listed (e ∷ es) a b t h k same =
   where
     again : (code : ℕ) → listed es code ≡ true → nameOf e ≡ nameOf (among es code) → ⊥
     again code l same = clash (ap (has (map nameOf es)) same ∙ listed-has es code l) (once-first (nameOf e) (map nameOf es) t .0)
+
     go : (x y : Bool) → (listed es a ≡ true → listed es b ≡ true → nameOf (among es a) ≡ nameOf (among es b) → among es a ≡ among es b)
         → (x || listed es a) ≡ true → (y || listed es b) ≡ true → nameOf (cond x e (among es a)) ≡ nameOf (cond y e (among es b))
         → cond x e (among es a) ≡ cond y e (among es b)

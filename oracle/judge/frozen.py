@@ -71,7 +71,7 @@ def lenient_answer(line, slots, oracle, origin):
     ours = line_reading.answer(line, slots)
     if beyond(line, oracle) is None and ours != "refused 17":
         if ours != by_rust(oracle):
-            raise ValueError(f"{line!r}: {oracle} against {ours}")
+            raise ValueError(f"{line!r}: {by_rust(oracle)} against {ours}")
         origin["the Rust save the name of 38, lenient" if CODE_38 in ours else "the Rust, lenient"] += 1
         return ours
     origin[f"the reading, lenient {ours}"] += 1

@@ -19,7 +19,7 @@ def by_rust(oracle):
     if CODE_38 not in oracle:
         return oracle.replace("none ", "refused ")
     if RUST_NAME not in oracle:
-        return f"the Rust's name of code 38 is another than{RUST_NAME}"
+        return f"another name of 38 than{RUST_NAME}: {oracle}"
     return oracle.replace(RUST_NAME, OWN_NAME)
 
 
@@ -75,7 +75,7 @@ def judge(tally, name, line, oracle):
     expected = by_rust(oracle) if outside is None else f"refused {outside[1]}"
     said = reading.answer(line), reading.answer(line, strict=True)
     if said != (expected, strictly(line, expected)):
-        return tally.differ(name, line, (oracle, strictly(line, expected)), said)
+        return tally.differ(name, line, (expected, strictly(line, expected)), said)
     if outside is not None:
         return tally.beyond(name, f"{outside[0]}: reading {', '.join(both(*said))}, oracle {word(oracle)}")
     return tally.all_same(name, counted(*said))

@@ -1,4 +1,4 @@
--- What the contracts of `entry` cite: events and their names, kinds, and the entry as a value.
+-- What the contracts of `entry` cite: events, kinds, and the entry as a value; and what is promised of the events' names.
 pub mod Event
 pub mod Names
 pub mod Kind

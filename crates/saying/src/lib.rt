@@ -1,4 +1,4 @@
-// Words through a sink: names, numbers and hex digits, one behind the other.
+// Words through a sink: names, numbers, events and hex digits, one behind the other.
 //
 //     say_if       a text where something holds
 //     say_name     a book's name as it is shown

@@ -1,96 +1,52 @@
--- Notification events: the code and the name of each.
+-- Notification events: the event of a code, the code of an event, and the names that they print.
 use Prim.Native.Nat.{ℕ, _-_}
-use mathlib.Core.Bool.{cond}
-use mathlib.Core.List.{List, [], _∷_, _++_}
-use lib.Dec.{eqb}
+use mathlib.Core.List.{List, _++_}
 use lib.ListN.{length, replicate}
-use Rattle.text.specs.Quote.{bytes}
 use Rattle.text.specs.Decimal.{decimalText}
 use Rattle.entry.specs.declared.events.Event.{Event}
 use Rattle.entry.specs.declared.events.Event.the-variants.{ErrConn, ErrLink, ErrAddr, ErrAdp, HpAck, ErrEnum, ErrNua, ErrLen, ErrHec, ErrFc, ErrPlug, ErrLock, DpBw, RopCmplt, PopCmplt, PcieWake, DpConChange, DptxDiscovery, LinkRecovery, AsymLink, Unknown}
 use Rattle.entry.specs.declared.events.Name.{Name}
+use Rattle.entry.specs.Codes.{table, rowIn, eventIn, nameIn}
+
+-- the event of a code: the one in its row, unknown with its code in a gap
+unfoldable pub eventOf : ℕ → Event
+eventOf code = eventIn (rowIn table code) code
+
+-- the name in a code's row
+unfoldable pub nameAt : ℕ → List ℕ
+nameAt code = nameIn (rowIn table code) code
+
+-- the way back: a named event leads to the code of its row, an unknown one to the code that it keeps
+abbrev pub byCode : {A : Type 0} → (ℕ → A) → (ℕ → A) → Event → A
+byCode inRow kept ErrConn = inRow 0
+byCode inRow kept ErrLink = inRow 1
+byCode inRow kept ErrAddr = inRow 2
+byCode inRow kept ErrAdp = inRow 4
+byCode inRow kept HpAck = inRow 7
+byCode inRow kept ErrEnum = inRow 8
+byCode inRow kept ErrNua = inRow 9
+byCode inRow kept ErrLen = inRow 11
+byCode inRow kept ErrHec = inRow 12
+byCode inRow kept ErrFc = inRow 13
+byCode inRow kept ErrPlug = inRow 14
+byCode inRow kept ErrLock = inRow 15
+byCode inRow kept DpBw = inRow 32
+byCode inRow kept RopCmplt = inRow 33
+byCode inRow kept PopCmplt = inRow 34
+byCode inRow kept PcieWake = inRow 35
+byCode inRow kept DpConChange = inRow 36
+byCode inRow kept DptxDiscovery = inRow 37
+byCode inRow kept LinkRecovery = inRow 38
+byCode inRow kept AsymLink = inRow 39
+byCode inRow kept (Unknown code) = kept code
 
 -- the code of each event
 abbrev pub codeOf : Event → ℕ
-codeOf ErrConn = 0
-codeOf ErrLink = 1
-codeOf ErrAddr = 2
-codeOf ErrAdp = 4
-codeOf HpAck = 7
-codeOf ErrEnum = 8
-codeOf ErrNua = 9
-codeOf ErrLen = 11
-codeOf ErrHec = 12
-codeOf ErrFc = 13
-codeOf ErrPlug = 14
-codeOf ErrLock = 15
-codeOf DpBw = 32
-codeOf RopCmplt = 33
-codeOf PopCmplt = 34
-codeOf PcieWake = 35
-codeOf DpConChange = 36
-codeOf DptxDiscovery = 37
-codeOf LinkRecovery = 38
-codeOf AsymLink = 39
-codeOf (Unknown code) = code
+codeOf e = byCode (λ code. code) (λ code. code) e
 
--- the events that have a name, in the order of their codes
-abbrev pub named : List Event
-named =
-    ErrConn
-    ∷ ErrLink
-    ∷ ErrAddr
-    ∷ ErrAdp
-    ∷ HpAck
-    ∷ ErrEnum
-    ∷ ErrNua
-    ∷ ErrLen
-    ∷ ErrHec
-    ∷ ErrFc
-    ∷ ErrPlug
-    ∷ ErrLock
-    ∷ DpBw
-    ∷ RopCmplt
-    ∷ PopCmplt
-    ∷ PcieWake
-    ∷ DpConChange
-    ∷ DptxDiscovery
-    ∷ LinkRecovery
-    ∷ AsymLink
-    ∷ []
-
--- the event of a list that has the code, else unknown
-abbrev pub among : List Event → ℕ → Event
-among [] code = Unknown code
-among (e ∷ es) code = cond (eqb code (codeOf e)) e (among es code)
-
--- the event of a code: the named one, else unknown with its code
-unfoldable pub eventOf : ℕ → Event
-eventOf code = among named code
-
--- the name that each event prints; an unknown one prints its code
+-- the name that each event prints: that in its row; an unknown one prints its code
 unfoldable pub nameOf : Event → List ℕ
-nameOf ErrConn = bytes "ERR_CONN"
-nameOf ErrLink = bytes "ERR_LINK"
-nameOf ErrAddr = bytes "ERR_ADDR"
-nameOf ErrAdp = bytes "ERR_ADP"
-nameOf HpAck = bytes "HP_ACK"
-nameOf ErrEnum = bytes "ERR_ENUM"
-nameOf ErrNua = bytes "ERR_NUA"
-nameOf ErrLen = bytes "ERR_LEN"
-nameOf ErrHec = bytes "ERR_HEC"
-nameOf ErrFc = bytes "ERR_FC"
-nameOf ErrPlug = bytes "ERR_PLUG"
-nameOf ErrLock = bytes "ERR_LOCK"
-nameOf DpBw = bytes "DP_BW"
-nameOf RopCmplt = bytes "ROP_CMPLT"
-nameOf PopCmplt = bytes "POP_CMPLT"
-nameOf PcieWake = bytes "PCIE_WAKE"
-nameOf DpConChange = bytes "DP_CON_CHANGE"
-nameOf DptxDiscovery = bytes "DPTX_DISCOVERY"
-nameOf LinkRecovery = bytes "LINK_RECOVERY"
-nameOf AsymLink = bytes "ASYM_LINK"
-nameOf (Unknown code) = decimalText code
+nameOf e = byCode nameAt decimalText e
 
 -- a name as it is handed out: its bytes, then zeros up to 14, and its length
 unfoldable pub padded : List ℕ → Name

@@ -1,4 +1,5 @@
 -- What the contracts of `entry` cite: events, kinds, and the entry as a value; and what is promised of the events' names.
+pub mod Codes
 pub mod Event
 pub mod Names
 pub mod Kind

@@ -1,4 +1,5 @@
 // The entry of a trace line by value, and its questions. Its texts and dwords lie in what the caller lends.
+mod codes;
 pub mod events;
 pub mod kind;
 pub mod optional;

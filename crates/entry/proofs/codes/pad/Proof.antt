@@ -1,10 +1,10 @@
--- `events::pad` meets its contract: the bytes so far are a `Padding`. Assumes nothing.
+-- `codes::pad` meets its contract: the bytes so far are a `Padding`. Assumes nothing.
 use Rattle.entry.proofs.Pads.{Padding, padding-starts, padding-steps, padding-ends}
 use lib.ListN.{length}
 use Prim.Native.Nat.{_-_}
 use borrow.Author.Needs.{needs}
-use Rattle.entry.proofs.events.pad.Statement.{statement}
-use Rattle.entry.proofs.events.pad.Tie as tie
+use Rattle.entry.proofs.codes.pad.Statement.{statement}
+use Rattle.entry.proofs.codes.pad.Tie as tie
 
 abbrev Inv-loop : tie.InvT-loop
 Inv-loop s bytes₀ i₀ bytes i = Padding s bytes i

@@ -10,29 +10,6 @@ use borrow.Author.Tests.{eqb-true}
 use Rattle.text.specs.Decimal.{decimalText}
 use Rattle.text.proofs.Decimals.{decimal-short, decimal-long}
 use Rattle.entry.specs.declared.events.Event.{Event}
-use Rattle.entry.specs.Event.{codeOf, named, among, eventOf}
-
-code-among : (es : List Event) (code : ℕ) → codeOf (among es code) ≡ code
-code-among [] code = refl
-code-among (e ∷ es) code = go (eqb code (codeOf e)) refl (code-among es code)
-  where
-    go : (b : Bool) → eqb code (codeOf e) ≡ b → codeOf (among es code) ≡ code → codeOf (cond b e (among es code)) ≡ code
-    go true t r = sym (eqb-true code (codeOf e) t)
-    go false t r = r
-
--- the event of a code has that code
-pub event-code : (code : ℕ) → codeOf (eventOf code) ≡ code
-unfolding eventOf
-event-code code = code-among named code
-
--- each named event is the event of its code, so no named code is unknown
-pub named-events : map (λ (e : Event). eventOf (codeOf e)) named ≡ named
-unfolding eventOf
-named-events = refl
-
--- so two codes with one event are one code
-pub one-code : (a b : ℕ) → eventOf a ≡ eventOf b → a ≡ b
-one-code a b e = sym (event-code a) ∙ ap codeOf e ∙ event-code b
 
 -- the digits of a code, as code computes them
 pub one-digit : (n : ℕ) → n < 10 → (48 + n % 10) ∷ [] ≡ decimalText n

@@ -1,11 +1,11 @@
--- `events::decimal` meets its contract: a code has one, two or three digits. Assumes nothing.
-use Rattle.entry.proofs.Codes.{one-digit, two-digits, three-digits}
+-- `codes::decimal` meets its contract: a code has one, two or three digits. Assumes nothing.
+use Rattle.entry.proofs.Digits.{one-digit, two-digits, three-digits}
 use Rattle.entry.specs.Event.{padded}
 use mathlib.Core.Path.{ap, _∙_}
 use native.Mathlib.Omega.{arith}
 use borrow.Author.Needs.{needs}
-use Rattle.entry.proofs.events.decimal.Statement.{statement}
-use Rattle.entry.proofs.events.decimal.Tie as tie
+use Rattle.entry.proofs.codes.decimal.Statement.{statement}
+use Rattle.entry.proofs.codes.decimal.Tie as tie
 
 add-ones : tie.Need-add-ones
 add-ones c = search needs

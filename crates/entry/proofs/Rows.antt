@@ -1,0 +1,167 @@
+-- The event table: its rows are in number order, so each byte has one; and the event of a row leads back to the row's code and name. Each is one computed
+-- test over the table, and what such a test says of any rows, by induction. Assumes nothing.
+use Prim.Native.Nat.{ℕ, _+_, _≤_, _<_}
+use mathlib.Core.Path.{_≡_, refl, sym, ap, _∙_}
+use mathlib.Core.Bool.{Bool, true, false, cond, _&&_, _||_}
+use mathlib.Core.List.{List, [], _∷_}
+use native.Mathlib.Omega.{arith}
+use lib.Dec.{eqb, leb}
+use borrow.Author.Tests.{eqb-true, leb-true, eq-eqb, ne-eqb, le-leb, lt-leb}
+use Rattle.text.specs.Class.{between}
+use Rattle.text.specs.Quote.{bytes}
+use Rattle.text.specs.Same.{sameText}
+use Rattle.text.specs.Decimal.{decimalText}
+use Rattle.text.proofs.Places.{clash, by-order}
+use Rattle.text.proofs.Texts.{both-left, both-right, same-true}
+use Rattle.entry.specs.declared.codes.Decision.{Decision}
+use Rattle.entry.specs.declared.events.Event.the-variants.{Unknown}
+use Rattle.entry.specs.Codes.{Row, code, gap, table, rowIn, eventIn, nameIn, InOrder, end, next-code, next-gap, rowsIn, LaidOut}
+use Rattle.entry.specs.Event.{codeOf, eventOf, nameAt, nameOf, padded}
+use Rattle.entry.specs.Names.{printed}
+
+-- ---- rows that name a code, and gaps
+
+abbrev pub named : Row → Bool
+named (code c e name) = true
+named (gap low high) = false
+
+-- a code of a gap stays unknown and prints in decimal
+pub gap-says : (r : Row) (n : ℕ) → named r ≡ false → (eventIn r n ≡ Unknown n) × (nameIn r n ≡ decimalText n)
+gap-says (code c e name) n h = absurd (clash refl h)
+gap-says (gap low high) n h = (refl, refl)
+
+-- so where a code is in a gap, what is decided of an unknown one is what the table says
+pub gap-decided : (n : ℕ) → named (rowIn table n) ≡ false → (d : Decision) → (d .event ≡ Unknown n) × (d .name ≡ padded (decimalText n))
+    → (d .event ≡ eventOf n) × (d .name ≡ padded (nameAt n))
+unfolding eventOf nameAt
+gap-decided n h d is =
+    let says = gap-says (rowIn table n) n h in
+    (is .0 ∙ sym (says .0), is .1 ∙ sym (ap padded (says .1)))
+
+-- the codes of the rows of one code
+abbrev singles : List Row → List ℕ
+singles [] = []
+singles (code c e name ∷ rs) = c ∷ singles rs
+singles (gap low high ∷ rs) = cond (eqb low high) (low ∷ singles rs) (singles rs)
+
+-- a number is none of some, one fact behind the other, as a match tells it behind its single arms
+abbrev NoneOf : Type 0 → List ℕ → ℕ → Type 0
+NoneOf told [] n = told
+NoneOf told (c ∷ cs) n = NoneOf (told × (n ≡ c → ⊥)) cs n
+
+-- a number that is none of these codes is in a gap
+abbrev Behind : List Row → ℕ → Type 0 → Type 0
+Behind rs n told = NoneOf told (singles rs) n → told × (named (rowIn rs n) ≡ false)
+
+gap-behind : (told : Type 0) (rs : List Row) (n : ℕ) → Behind rs n told
+gap-behind told [] n h = (h, refl)
+gap-behind told (code c e name ∷ rs) n h =
+    let q = gap-behind (told × (n ≡ c → ⊥)) rs n h in
+    (q .0 .0, rw (ne-eqb n c (q .0 .1)) (q .1))
+gap-behind told (gap low high ∷ rs) n h =
+    let q = behind (eqb low high) (gap-behind told rs n) (gap-behind (told × (n ≡ low → ⊥)) rs n) h in
+    (q .0, over (between low high n) (q .1))
+  where
+    behind : (b : Bool) → Behind rs n told → Behind rs n (told × (n ≡ low → ⊥)) → NoneOf told (cond b (low ∷ singles rs) (singles rs)) n
+        → told × (named (rowIn rs n) ≡ false)
+    behind true many one h = let q = one h in (q .0 .0, q .1)
+    behind false many one h = many h
+
+    over : (b : Bool) → named (rowIn rs n) ≡ false → named (cond b (gap low high) (rowIn rs n)) ≡ false
+    over true h = refl
+    over false h = h
+
+pub gap-behind-singles : (n : ℕ) → NoneOf (Unit {0}) (singles table) n → named (rowIn table n) ≡ false
+gap-behind-singles n h = gap-behind (Unit {0}) table n h .1
+
+-- ---- the way back
+
+-- the row's event has the row's code and prints the row's name
+abbrev leads-back : Row → Bool
+leads-back (code c e name) = eqb (codeOf e) c && sameText (nameOf e) (bytes name)
+leads-back (gap low high) = true
+
+abbrev all-lead-back : List Row → Bool
+all-lead-back [] = true
+all-lead-back (r ∷ rs) = leads-back r && all-lead-back rs
+
+table-leads-back : all-lead-back table ≡ true
+unfolding table nameOf nameAt sameText between
+table-leads-back = refl
+
+abbrev Leads : Row → ℕ → Type 0
+Leads r n = (codeOf (eventIn r n) ≡ n) × (nameOf (eventIn r n) ≡ nameIn r n)
+
+row-leads : (rs : List Row) (n : ℕ) → all-lead-back rs ≡ true → Leads (rowIn rs n) n
+unfolding nameOf
+row-leads [] n t = (refl, refl)
+row-leads (code c e name ∷ rs) n t =
+    go (eqb n c) refl (row-leads rs n (both-right (leads-back (code c e name)) _ t))
+  where
+    own : leads-back (code c e name) ≡ true
+    own = both-left _ (all-lead-back rs) t
+
+    go : (b : Bool) → eqb n c ≡ b → Leads (rowIn rs n) n → Leads (cond b (code c e name) (rowIn rs n)) n
+    go true h r = (eqb-true (codeOf e) c (both-left _ _ own) ∙ sym (eqb-true n c h), same-true (nameOf e) (bytes name) (both-right (eqb (codeOf e) c) _ own))
+    go false h r = r
+row-leads (gap low high ∷ rs) n t = go (between low high n) (row-leads rs n t)
+  where
+    go : (b : Bool) → Leads (rowIn rs n) n → Leads (cond b (gap low high) (rowIn rs n)) n
+    go true r = (refl, refl)
+    go false r = r
+
+-- the event of a code has that code
+pub event-code : (n : ℕ) → codeOf (eventOf n) ≡ n
+unfolding eventOf
+event-code n = row-leads table n table-leads-back .0
+
+-- so two codes with one event are one code
+pub one-code : (a b : ℕ) → eventOf a ≡ eventOf b → a ≡ b
+one-code a b e = sym (event-code a) ∙ ap codeOf e ∙ event-code b
+
+-- what a code prints is the name in its row
+pub printed-at : (n : ℕ) → printed n ≡ nameAt n
+unfolding eventOf nameAt
+printed-at n = row-leads table n table-leads-back .1
+
+-- ---- number order
+
+abbrev ordered : ℕ → List Row → ℕ → Bool
+ordered n [] m = eqb n m
+ordered n (code c e name ∷ rs) m = eqb n c && ordered (c + 1) rs m
+ordered n (gap low high ∷ rs) m = eqb n low && (leb low high && ordered (high + 1) rs m)
+
+ordered-is : (n : ℕ) (rs : List Row) (m : ℕ) → ordered n rs m ≡ true → InOrder n rs m
+ordered-is n [] m t = rw (eqb-true n m t) end
+ordered-is n (code c e name ∷ rs) m t = rw (eqb-true n c (both-left _ _ t)) (next-code (ordered-is (c + 1) rs m (both-right (eqb n c) _ t)))
+ordered-is n (gap low high ∷ rs) m t =
+    let u = both-right (eqb n low) _ t in
+    rw (eqb-true n low (both-left _ _ t)) (next-gap (leb-true low high (both-left _ _ u)) (ordered-is (high + 1) rs m (both-right (leb low high) _ u)))
+
+-- rows in order have no code below their first
+none-below : {a b : ℕ} {rs : List Row} → InOrder a rs b → (k : ℕ) → k < a → rowsIn rs k ≡ []
+unfolding between
+none-below end k h = refl
+none-below (next-code {n} o) k h = rw (ne-eqb k n (omega arith)) (none-below o k (omega arith))
+none-below (next-gap {low} {high} l o) k h = rw (lt-leb low k h) (none-below o k (omega arith))
+
+-- and one row of each code from there on
+one-in-order : {a b : ℕ} {rs : List Row} → InOrder a rs b → (k : ℕ) → a ≤ k → k < b → rowsIn rs k ≡ rowIn rs k ∷ []
+unfolding between
+one-in-order end k l h = absurd (omega arith)
+one-in-order (next-code {n} {m} {e} {name} o) k l h =
+    by-order n k (λ x. rw (ne-eqb k n (omega arith)) (one-in-order o k (omega arith) h))
+    (λ x. rw (eq-eqb k n (sym x)) (ap (λ (rs : List Row). code n e name ∷ rs) (none-below o k (omega arith))))
+    (λ x. absurd (omega arith))
+one-in-order (next-gap {low} {high} {m} {rs} r o) k l h =
+    by-order high k (λ x. rw (le-leb low k l, lt-leb k high x) (one-in-order o k (omega arith) h)) (λ x. here (omega arith)) (λ x. here (omega arith))
+  where
+    here : k ≤ high → rowsIn (gap low high ∷ rs) k ≡ rowIn (gap low high ∷ rs) k ∷ []
+    here x = rw (le-leb low k l, le-leb k high x) (ap (λ (rs : List Row). gap low high ∷ rs) (none-below o k (omega arith)))
+
+table-in-order : InOrder 0 table 256
+unfolding table
+table-in-order = ordered-is 0 table 256 refl
+
+pub laid-out : LaidOut
+laid-out = record { in-order = table-in-order; one-row = λ n h. one-in-order table-in-order n (omega arith) h }

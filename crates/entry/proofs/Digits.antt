@@ -1,17 +1,12 @@
--- Events: the event of a code has that code, and each named event is the event of its code, by one computed test over the table.
--- Assumes nothing.
+-- The digits of a code, as the code computes them, are those of the code in decimal: one, two or three, by what a decimal of one digit is and what one
+-- of more is. Assumes nothing.
 use Prim.Native.Nat.{ℕ, _+_, _/_, _%_, _^_, _≤_, _<_}
-use mathlib.Core.Path.{_≡_, refl, sym, ap, _∙_}
-use mathlib.Core.Bool.{Bool, true, false, cond}
-use mathlib.Core.List.{List, [], _∷_, map}
+use mathlib.Core.Path.{_≡_, sym}
+use mathlib.Core.List.{[], _∷_}
 use native.Mathlib.Omega.{arith}
-use lib.Dec.{eqb}
-use borrow.Author.Tests.{eqb-true}
 use Rattle.text.specs.Decimal.{decimalText}
 use Rattle.text.proofs.Decimals.{decimal-short, decimal-long}
-use Rattle.entry.specs.declared.events.Event.{Event}
 
--- the digits of a code, as code computes them
 pub one-digit : (n : ℕ) → n < 10 → (48 + n % 10) ∷ [] ≡ decimalText n
 one-digit n h = let e : n % 10 ≡ n = omega arith in rw e (sym (decimal-short n h))
 

@@ -1,12 +1,13 @@
--- The event table: its rows are in number order, so each byte has one; and the event of a row leads back to the row's code and name. Each is one computed
--- test over the table, and what such a test says of any rows, by induction. Assumes nothing.
+-- The event table: what is decided of a code that is none of the single ones is what a gap says; the event of a row leads back to the row's code and name;
+-- the rows are in number order, so each byte has one. Each is said of any rows, by induction, and comes to the table by a computed test. Assumes nothing.
 use Prim.Native.Nat.{ℕ, _+_, _≤_, _<_}
 use mathlib.Core.Path.{_≡_, refl, sym, ap, _∙_}
-use mathlib.Core.Bool.{Bool, true, false, cond, _&&_, _||_}
+use mathlib.Core.Logic.{_⊎_, inl, inr}
+use mathlib.Core.Bool.{Bool, true, false, cond, not, _&&_}
 use mathlib.Core.List.{List, [], _∷_}
 use native.Mathlib.Omega.{arith}
 use lib.Dec.{eqb, leb}
-use borrow.Author.Tests.{eqb-true, leb-true, eq-eqb, ne-eqb, le-leb, lt-leb}
+use borrow.Author.Tests.{eqb-true, leb-true, not-true, eq-eqb, ne-eqb, le-leb, lt-leb}
 use Rattle.text.specs.Class.{between}
 use Rattle.text.specs.Quote.{bytes}
 use Rattle.text.specs.Same.{sameText}
@@ -14,8 +15,9 @@ use Rattle.text.specs.Decimal.{decimalText}
 use Rattle.text.proofs.Places.{clash, by-order}
 use Rattle.text.proofs.Texts.{both-left, both-right, same-true}
 use Rattle.entry.specs.declared.codes.Decision.{Decision}
-use Rattle.entry.specs.declared.events.Event.the-variants.{Unknown}
-use Rattle.entry.specs.Codes.{Row, code, gap, table, rowIn, eventIn, nameIn, InOrder, end, next-code, next-gap, rowsIn, LaidOut}
+use Rattle.entry.specs.declared.events.Event.{Event}
+use Rattle.entry.specs.declared.events.Event.the-variants.{ErrConn, ErrLink, ErrAddr, ErrAdp, HpAck, ErrEnum, ErrNua, ErrLen, ErrHec, ErrFc, ErrPlug, ErrLock, DpBw, RopCmplt, PopCmplt, PcieWake, DpConChange, DptxDiscovery, LinkRecovery, AsymLink, Unknown}
+use Rattle.entry.specs.Codes.{Row, code, gap, table, rowIn, eventIn, nameIn, InOrder, end, next-code, next-gap, gapFirst, rowsIn, LaidOut}
 use Rattle.entry.specs.Event.{codeOf, eventOf, nameAt, nameOf, padded}
 use Rattle.entry.specs.Names.{printed}
 
@@ -119,6 +121,31 @@ event-code n = row-leads table n table-leads-back .0
 pub one-code : (a b : ℕ) → eventOf a ≡ eventOf b → a ≡ b
 one-code a b e = sym (event-code a) ∙ ap codeOf e ∙ event-code b
 
+-- and each event is the one in the row of its code, or an unknown one
+pub event-in-row : (e : Event) → (eventOf (codeOf e) ≡ e) ⊎ (e ≡ Unknown (codeOf e))
+unfolding eventOf table between
+event-in-row ErrConn = inl refl
+event-in-row ErrLink = inl refl
+event-in-row ErrAddr = inl refl
+event-in-row ErrAdp = inl refl
+event-in-row HpAck = inl refl
+event-in-row ErrEnum = inl refl
+event-in-row ErrNua = inl refl
+event-in-row ErrLen = inl refl
+event-in-row ErrHec = inl refl
+event-in-row ErrFc = inl refl
+event-in-row ErrPlug = inl refl
+event-in-row ErrLock = inl refl
+event-in-row DpBw = inl refl
+event-in-row RopCmplt = inl refl
+event-in-row PopCmplt = inl refl
+event-in-row PcieWake = inl refl
+event-in-row DpConChange = inl refl
+event-in-row DptxDiscovery = inl refl
+event-in-row LinkRecovery = inl refl
+event-in-row AsymLink = inl refl
+event-in-row (Unknown n) = inr refl
+
 -- what a code prints is the name in its row
 pub printed-at : (n : ℕ) → printed n ≡ nameAt n
 unfolding eventOf nameAt
@@ -129,21 +156,24 @@ printed-at n = row-leads table n table-leads-back .1
 abbrev ordered : ℕ → List Row → ℕ → Bool
 ordered n [] m = eqb n m
 ordered n (code c e name ∷ rs) m = eqb n c && ordered (c + 1) rs m
-ordered n (gap low high ∷ rs) m = eqb n low && (leb low high && ordered (high + 1) rs m)
+ordered n (gap low high ∷ rs) m = eqb n low && (leb low high && (not (gapFirst rs) && ordered (high + 1) rs m))
 
 ordered-is : (n : ℕ) (rs : List Row) (m : ℕ) → ordered n rs m ≡ true → InOrder n rs m
 ordered-is n [] m t = rw (eqb-true n m t) end
 ordered-is n (code c e name ∷ rs) m t = rw (eqb-true n c (both-left _ _ t)) (next-code (ordered-is (c + 1) rs m (both-right (eqb n c) _ t)))
 ordered-is n (gap low high ∷ rs) m t =
     let u = both-right (eqb n low) _ t in
-    rw (eqb-true n low (both-left _ _ t)) (next-gap (leb-true low high (both-left _ _ u)) (ordered-is (high + 1) rs m (both-right (leb low high) _ u)))
+    let v = both-right (leb low high) _ u in
+    rw (eqb-true n low (both-left _ _ t))
+    (next-gap (leb-true low high (both-left _ _ u)) (not-true _ (both-left _ (ordered (high + 1) rs m) v))
+    (ordered-is (high + 1) rs m (both-right (not (gapFirst rs)) _ v)))
 
 -- rows in order have no code below their first
 none-below : {a b : ℕ} {rs : List Row} → InOrder a rs b → (k : ℕ) → k < a → rowsIn rs k ≡ []
 unfolding between
 none-below end k h = refl
 none-below (next-code {n} o) k h = rw (ne-eqb k n (omega arith)) (none-below o k (omega arith))
-none-below (next-gap {low} {high} l o) k h = rw (lt-leb low k h) (none-below o k (omega arith))
+none-below (next-gap {low} {high} l g o) k h = rw (lt-leb low k h) (none-below o k (omega arith))
 
 -- and one row of each code from there on
 one-in-order : {a b : ℕ} {rs : List Row} → InOrder a rs b → (k : ℕ) → a ≤ k → k < b → rowsIn rs k ≡ rowIn rs k ∷ []
@@ -153,7 +183,7 @@ one-in-order (next-code {n} {m} {e} {name} o) k l h =
     by-order n k (λ x. rw (ne-eqb k n (omega arith)) (one-in-order o k (omega arith) h))
     (λ x. rw (eq-eqb k n (sym x)) (ap (λ (rs : List Row). code n e name ∷ rs) (none-below o k (omega arith))))
     (λ x. absurd (omega arith))
-one-in-order (next-gap {low} {high} {m} {rs} r o) k l h =
+one-in-order (next-gap {low} {high} {m} {rs} r g o) k l h =
     by-order high k (λ x. rw (le-leb low k l, lt-leb k high x) (one-in-order o k (omega arith) h)) (λ x. here (omega arith)) (λ x. here (omega arith))
   where
     here : k ≤ high → rowsIn (gap low high ∷ rs) k ≡ rowIn (gap low high ∷ rs) k ∷ []

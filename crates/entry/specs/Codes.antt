@@ -2,7 +2,7 @@
 use Prim.Native.Nat.{ℕ, _+_, _≤_, _<_}
 use Prim.Native.String.{String}
 use mathlib.Core.Path.{_≡_}
-use mathlib.Core.Bool.{Bool, cond}
+use mathlib.Core.Bool.{Bool, true, false, cond}
 use mathlib.Core.List.{List, [], _∷_}
 use lib.Dec.{eqb}
 use Rattle.text.specs.Class.{between}
@@ -66,18 +66,24 @@ abbrev pub nameIn : Row → ℕ → List ℕ
 nameIn (code c e name) n = bytes name
 nameIn (gap low high) n = decimalText n
 
--- rows in number order, from a code up to another: each begins where the one before it ends
+-- does a gap come first?
+abbrev pub gapFirst : List Row → Bool
+gapFirst [] = false
+gapFirst (code c e name ∷ rs) = false
+gapFirst (gap low high ∷ rs) = true
+
+-- rows in number order, from a code up to another: each begins where the one before it ends, and no gap stands behind a gap
 pub data InOrder : ℕ → List Row → ℕ → Type 0 where
   end : {n : ℕ} → InOrder n [] n
   next-code : {n m : ℕ} {e : Event} {name : String} {rs : List Row} → InOrder (n + 1) rs m → InOrder n (code n e name ∷ rs) m
-  next-gap : {low high m : ℕ} {rs : List Row} → low ≤ high → InOrder (high + 1) rs m → InOrder low (gap low high ∷ rs) m
+  next-gap : {low high m : ℕ} {rs : List Row} → low ≤ high → gapFirst rs ≡ false → InOrder (high + 1) rs m → InOrder low (gap low high ∷ rs) m
 
 -- all rows of a table that hold a code
 abbrev pub rowsIn : List Row → ℕ → List Row
 rowsIn [] n = []
 rowsIn (r ∷ rs) n = cond (holds r n) (r ∷ rowsIn rs n) (rowsIn rs n)
 
--- the table can be checked with a ruler: its rows are in number order from 0 to 255, and each byte is in one row and no other
+-- the table can be checked with a ruler: its rows are in number order from 0 to 255, each gap one of them, and each byte is in one row and no other
 pub record LaidOut : Type 0 where
   pub in-order : InOrder 0 table 256
   pub one-row : (n : ℕ) → n < 256 → rowsIn table n ≡ rowIn table n ∷ []

@@ -1,10 +1,10 @@
--- What a code prints tells the code: one computed test passes over the table, that none of its names stands twice and none is all digits; so two named
--- codes with one name are one, no name is a decimal, and a decimal reads back to its number. A second one, over all 256 codes, ties the table to document
--- 01's ranges. Assumes nothing.
+-- What a code prints tells the code, by computed tests over the table: rows of one name have one code, so two named codes with one name are one; no name is
+-- digits alone, so none is a decimal, and a decimal reads back to its number. A third, over all 256 codes, ties the table to document 01's ranges.
+-- Assumes nothing.
 use Prim.Native.Nat.{ℕ, _^_, _<_}
 use mathlib.Core.Path.{_≡_, refl, sym, ap, _∙_}
-use mathlib.Core.Bool.{Bool, true, false, cond, not, _&&_, _||_}
-use mathlib.Core.List.{List, [], _∷_}
+use mathlib.Core.Bool.{Bool, true, false, not, _||_}
+use mathlib.Core.List.{List}
 use native.Mathlib.Omega.{arith}
 use lib.Dec.{eqb}
 use lib.ListN.{take}
@@ -15,94 +15,65 @@ use Rattle.text.specs.Same.{sameText}
 use Rattle.text.specs.Number.{digitOf, value, allDigits}
 use Rattle.text.specs.Decimal.{decimalText}
 use Rattle.text.proofs.Places.{clash}
-use Rattle.text.proofs.Texts.{both-left, both-right, same-refl, same-true}
-use Rattle.text.proofs.Computed.{all, all-at, same, same-is, has, once, once-first}
+use Rattle.text.proofs.Texts.{same-refl}
+use Rattle.text.proofs.Computed.{all, all-at, same, same-is}
 use Rattle.text.proofs.Decimals.{decimal-prints}
 use Rattle.entry.specs.declared.events.Event.the-variants.{Unknown}
 use Rattle.entry.specs.declared.events.Name.{Name}
-use Rattle.entry.specs.Codes.{Row, code, gap, table, rowIn, nameIn}
+use Rattle.entry.specs.Codes.{Row, code, gap, table, holds, rowIn, nameIn}
 use Rattle.entry.specs.Event.{eventOf, nameAt, nameOf, padded}
 use Rattle.entry.specs.Names.{hasName, Named, printed, NamesTellCodes}
-use Rattle.entry.proofs.Rows.{named, gap-says, printed-at}
+use Rattle.entry.proofs.Rows.{named, gap-says, every, every-found, printed-at}
 use Rattle.entry.proofs.Pads.{name-start}
 
--- ---- the test
+-- ---- the tests
 
-abbrev names : List Row → List (List ℕ)
-names [] = []
-names (code c e name ∷ rs) = bytes name ∷ names rs
-names (gap low high ∷ rs) = names rs
+-- where two rows have one name, they have one code
+abbrev apart : Row → Row → Bool
+apart (code c e name) (code d f other) = not (sameText (bytes name) (bytes other)) || eqb c d
+apart (code c e name) (gap low high) = true
+apart (gap low high) q = true
 
-abbrev no-digits : List (List ℕ) → Bool
-no-digits [] = true
-no-digits (t ∷ ts) = not (allDigits 10 t) && no-digits ts
-
-table-apart : (once (names table) && no-digits (names table)) ≡ true
-unfolding table allDigits digitOf isDigit between sameText
+table-apart : every (λ r. every (apart r) table) table ≡ true
+unfolding table sameText
 table-apart = refl
 
-names-once : once (names table) ≡ true
-names-once = both-left _ _ table-apart
+-- a row's name is not digits alone
+abbrev worded : Row → Bool
+worded (code c e name) = not (allDigits 10 (bytes name))
+worded (gap low high) = true
 
-names-no-digits : no-digits (names table) ≡ true
-names-no-digits = both-right (once (names table)) _ table-apart
+table-worded : every worded table ≡ true
+unfolding table allDigits digitOf isDigit between
+table-worded = refl
 
--- ---- what it says of any rows
+-- ---- what they say of the rows of two codes, and of one
 
-or-right : (a : Bool) {b : Bool} → b ≡ true → (a || b) ≡ true
-or-right true e = refl
-or-right false e = e
+abbrev OneCode : ℕ → ℕ → Row → Row → Type 0
+OneCode a b r q = named r ≡ true → named q ≡ true → nameIn r a ≡ nameIn q b → a ≡ b
 
--- a row that names a code, found among rows, has one of their names
-abbrev Among : List Row → Row → ℕ → Type 0
-Among rs r n = named r ≡ true → has (names rs) (nameIn r n) ≡ true
+rows-apart : (a b : ℕ) (r q : Row) → apart r q ≡ true → holds r a ≡ true → holds q b ≡ true → OneCode a b r q
+rows-apart a b (code c e name) (code d f other) t h k x y same =
+    let one = ap (sameText (bytes name)) (sym same) ∙ same-refl (bytes name) in
+    eqb-true a c h ∙ eqb-true c d (rw one at t) ∙ sym (eqb-true b d k)
+rows-apart a b (code c e name) (gap low high) t h k x y same = absurd (clash y refl)
+rows-apart a b (gap low high) q t h k x y same = absurd (clash x refl)
 
-name-among : (rs : List Row) (n : ℕ) → Among rs (rowIn rs n) n
-name-among [] n h = absurd (clash h refl)
-name-among (code c e name ∷ rs) n h = go (eqb n c) (name-among rs n) h
-  where
-    go : (b : Bool) → Among rs (rowIn rs n) n → Among (code c e name ∷ rs) (cond b (code c e name) (rowIn rs n)) n
-    go true r h = rw (same-refl (bytes name))
-    go false r h = or-right (sameText (nameIn (rowIn rs n) n) (bytes name)) (r h)
-name-among (gap low high ∷ rs) n h = go (between low high n) (name-among rs n) h
-  where
-    go : (b : Bool) → Among rs (rowIn rs n) n → Among rs (cond b (gap low high) (rowIn rs n)) n
-    go true r h = absurd (clash h refl)
-    go false r h = r h
+one-named : (a b : ℕ) → OneCode a b (rowIn table a) (rowIn table b)
+one-named a b =
+    every-found (λ r. every (apart r) table) (λ r. OneCode a b r (rowIn table b)) a
+    (λ r t h. every-found (apart r) (OneCode a b r) b (λ q u k. rows-apart a b r q u h k) (λ x y same. absurd (clash y refl)) table t)
+    (λ x y same. absurd (clash x refl)) table table-apart
 
--- a text of a list that has none of digits alone is not digits alone
-has-no-digits : (ts : List (List ℕ)) (t : List ℕ) → no-digits ts ≡ true → has ts t ≡ true → allDigits 10 t ≡ false
-has-no-digits [] t p h = absurd (clash h refl)
-has-no-digits (u ∷ ts) t p h = go (sameText t u) refl (has-no-digits ts t (both-right (not (allDigits 10 u)) _ p)) h
-  where
-    go : (b : Bool) → sameText t u ≡ b → (has ts t ≡ true → allDigits 10 t ≡ false) → (b || has ts t) ≡ true → allDigits 10 t ≡ false
-    go true s r h = ap (allDigits 10) (same-true t u s) ∙ not-true _ (both-left _ (no-digits ts) p)
-    go false s r h = r h
+abbrev Worded : ℕ → Row → Type 0
+Worded n r = named r ≡ true → allDigits 10 (nameIn r n) ≡ false
 
--- where no name stands twice, two rows that name codes and have one name are those of one code
-abbrev One : (a b : ℕ) → Row → Row → Type 0
-One a b r q = named r ≡ true → named q ≡ true → nameIn r a ≡ nameIn q b → a ≡ b
+row-worded : (n : ℕ) (r : Row) → worded r ≡ true → holds r n ≡ true → Worded n r
+row-worded n (code c e name) t h x = not-true _ t
+row-worded n (gap low high) t h x = absurd (clash x refl)
 
-one-named : (rs : List Row) (a b : ℕ) → once (names rs) ≡ true → One a b (rowIn rs a) (rowIn rs b)
-one-named [] a b t h k same = absurd (clash h refl)
-one-named (code c e name ∷ rs) a b t h k same =
-    go (eqb a c) (eqb b c) refl refl (one-named rs a b (once-first (bytes name) (names rs) t .1)) h k same
-  where
-    again : (n : ℕ) → named (rowIn rs n) ≡ true → bytes name ≡ nameIn (rowIn rs n) n → ⊥
-    again n l same = clash (ap (has (names rs)) same ∙ name-among rs n l) (once-first (bytes name) (names rs) t .0)
-
-    go : (x y : Bool) → eqb a c ≡ x → eqb b c ≡ y → One a b (rowIn rs a) (rowIn rs b)
-        → One a b (cond x (code c e name) (rowIn rs a)) (cond y (code c e name) (rowIn rs b))
-    go true true p q r h k same = eqb-true a c p ∙ sym (eqb-true b c q)
-    go true false p q r h k same = absurd (again b k same)
-    go false true p q r h k same = absurd (again a h (sym same))
-    go false false p q r h k same = r h k same
-one-named (gap low high ∷ rs) a b t h k same = go (between low high a) (between low high b) (one-named rs a b t) h k same
-  where
-    go : (x y : Bool) → One a b (rowIn rs a) (rowIn rs b) → One a b (cond x (gap low high) (rowIn rs a)) (cond y (gap low high) (rowIn rs b))
-    go true y r h k same = absurd (clash h refl)
-    go false true r h k same = absurd (clash k refl)
-    go false false r h k same = r h k same
+named-worded : (n : ℕ) → Worded n (rowIn table n)
+named-worded n = every-found worded (Worded n) n (row-worded n) (λ x. absurd (clash x refl)) table table-worded
 
 -- ---- codes
 
@@ -125,8 +96,7 @@ unlisted-decimal n e = printed-at n ∙ gap-says (rowIn table n) n e .1
 listed-no-decimal : (a n : ℕ) → listed a ≡ true → n < 2 ^ 64 → printed a ≡ decimalText n → ⊥
 unfolding nameAt
 listed-no-decimal a n l h same =
-    clash (ap (allDigits 10) (sym (printed-at a) ∙ same) ∙ decimal-prints n (omega arith) .digits)
-    (has-no-digits (names table) (nameAt a) names-no-digits (name-among table a l))
+    clash (ap (allDigits 10) (sym (printed-at a) ∙ same) ∙ decimal-prints n (omega arith) .digits) (named-worded a l)
 
 one-decimal : (a b : ℕ) → a < 2 ^ 64 → b < 2 ^ 64 → decimalText a ≡ decimalText b → a ≡ b
 one-decimal a b h k same =
@@ -134,7 +104,7 @@ one-decimal a b h k same =
 
 listed-differ : (a b : ℕ) → listed a ≡ true → listed b ≡ true → printed a ≡ printed b → a ≡ b
 unfolding nameAt
-listed-differ a b h k same = one-named table a b names-once h k (sym (printed-at a) ∙ same ∙ printed-at b)
+listed-differ a b h k same = one-named a b h k (sym (printed-at a) ∙ same ∙ printed-at b)
 
 -- ---- document 01's ranges
 

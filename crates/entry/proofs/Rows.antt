@@ -1,6 +1,7 @@
 -- The event table: what is decided of a code that is none of the single ones is what a gap says; the event of a row leads back to the row's code and name;
 -- the rows are in number order, so each byte has one. Each is said of any rows, by induction, and comes to the table by a computed test. Assumes nothing.
 use Prim.Native.Nat.{ℕ, _+_, _≤_, _<_}
+use Prim.Native.String.{String}
 use mathlib.Core.Path.{_≡_, refl, sym, ap, _∙_}
 use mathlib.Core.Logic.{_⊎_, inl, inr}
 use mathlib.Core.Bool.{Bool, true, false, cond, not, _&&_}
@@ -17,7 +18,7 @@ use Rattle.text.proofs.Texts.{both-left, both-right, same-true}
 use Rattle.entry.specs.declared.codes.Decision.{Decision}
 use Rattle.entry.specs.declared.events.Event.{Event}
 use Rattle.entry.specs.declared.events.Event.the-variants.{ErrConn, ErrLink, ErrAddr, ErrAdp, HpAck, ErrEnum, ErrNua, ErrLen, ErrHec, ErrFc, ErrPlug, ErrLock, DpBw, RopCmplt, PopCmplt, PcieWake, DpConChange, DptxDiscovery, LinkRecovery, AsymLink, Unknown}
-use Rattle.entry.specs.Codes.{Row, code, gap, table, rowIn, eventIn, nameIn, InOrder, end, next-code, next-gap, gapFirst, rowsIn, LaidOut}
+use Rattle.entry.specs.Codes.{Row, code, gap, table, holds, rowIn, eventIn, nameIn, InOrder, end, next-code, next-gap, gapFirst, rowsIn, LaidOut}
 use Rattle.entry.specs.Event.{codeOf, eventOf, nameAt, nameOf, padded}
 use Rattle.entry.specs.Names.{printed}
 
@@ -32,9 +33,16 @@ pub gap-says : (r : Row) (n : ℕ) → named r ≡ false → (eventIn r n ≡ Un
 gap-says (code c e name) n h = absurd (clash refl h)
 gap-says (gap low high) n h = (refl, refl)
 
--- so where a code is in a gap, what is decided of an unknown one is what the table says
-pub gap-decided : (n : ℕ) → named (rowIn table n) ≡ false → (d : Decision) → (d .event ≡ Unknown n) × (d .name ≡ padded (decimalText n))
-    → (d .event ≡ eventOf n) × (d .name ≡ padded (nameAt n))
+-- what is decided of a code is what its row says, where the row names it and where it is a gap
+abbrev Decided : Decision → Event → List ℕ → Type 0
+Decided d e name = (d .event ≡ e) × (d .name ≡ padded name)
+
+pub named-decided : {n c : ℕ} {e : Event} {name : String} → n ≡ c → rowIn table c ≡ code c e name → (d : Decision) → Decided d e (bytes name)
+    → Decided d (eventOf n) (nameAt n)
+unfolding eventOf nameAt
+named-decided same row d is = rw (same, row) is
+
+pub gap-decided : (n : ℕ) → named (rowIn table n) ≡ false → (d : Decision) → Decided d (Unknown n) (decimalText n) → Decided d (eventOf n) (nameAt n)
 unfolding eventOf nameAt
 gap-decided n h d is =
     let says = gap-says (rowIn table n) n h in
@@ -76,6 +84,21 @@ gap-behind told (gap low high ∷ rs) n h =
 pub gap-behind-singles : (n : ℕ) → NoneOf (Unit {0}) (singles table) n → named (rowIn table n) ≡ false
 gap-behind-singles n h = gap-behind (Unit {0}) table n h .1
 
+-- ---- what a test over rows says of the one that holds a code
+
+abbrev pub every : (Row → Bool) → List Row → Bool
+every p [] = true
+every p (r ∷ rs) = p r && every p rs
+
+pub every-found : (p : Row → Bool) (P : Row → Type 0) (n : ℕ) → ((r : Row) → p r ≡ true → holds r n ≡ true → P r) → P (gap n n)
+    → (rs : List Row) → every p rs ≡ true → P (rowIn rs n)
+every-found p P n one none [] t = none
+every-found p P n one none (r ∷ rs) t = go (holds r n) refl (every-found p P n one none rs (both-right (p r) _ t))
+  where
+    go : (b : Bool) → holds r n ≡ b → P (rowIn rs n) → P (cond b r (rowIn rs n))
+    go true h q = one r (both-left _ _ t) h
+    go false h q = q
+
 -- ---- the way back
 
 -- the row's event has the row's code and prints the row's name
@@ -83,39 +106,27 @@ abbrev leads-back : Row → Bool
 leads-back (code c e name) = eqb (codeOf e) c && sameText (nameOf e) (bytes name)
 leads-back (gap low high) = true
 
-abbrev all-lead-back : List Row → Bool
-all-lead-back [] = true
-all-lead-back (r ∷ rs) = leads-back r && all-lead-back rs
-
-table-leads-back : all-lead-back table ≡ true
+table-leads-back : every leads-back table ≡ true
 unfolding table nameOf nameAt sameText between
 table-leads-back = refl
 
-abbrev Leads : Row → ℕ → Type 0
-Leads r n = (codeOf (eventIn r n) ≡ n) × (nameOf (eventIn r n) ≡ nameIn r n)
+abbrev Leads : ℕ → Row → Type 0
+Leads n r = (codeOf (eventIn r n) ≡ n) × (nameOf (eventIn r n) ≡ nameIn r n)
 
-row-leads : (rs : List Row) (n : ℕ) → all-lead-back rs ≡ true → Leads (rowIn rs n) n
+row-leads : (n : ℕ) (r : Row) → leads-back r ≡ true → holds r n ≡ true → Leads n r
 unfolding nameOf
-row-leads [] n t = (refl, refl)
-row-leads (code c e name ∷ rs) n t =
-    go (eqb n c) refl (row-leads rs n (both-right (leads-back (code c e name)) _ t))
-  where
-    own : leads-back (code c e name) ≡ true
-    own = both-left _ (all-lead-back rs) t
+row-leads n (code c e name) t h =
+    (eqb-true (codeOf e) c (both-left _ _ t) ∙ sym (eqb-true n c h), same-true (nameOf e) (bytes name) (both-right (eqb (codeOf e) c) _ t))
+row-leads n (gap low high) t h = (refl, refl)
 
-    go : (b : Bool) → eqb n c ≡ b → Leads (rowIn rs n) n → Leads (cond b (code c e name) (rowIn rs n)) n
-    go true h r = (eqb-true (codeOf e) c (both-left _ _ own) ∙ sym (eqb-true n c h), same-true (nameOf e) (bytes name) (both-right (eqb (codeOf e) c) _ own))
-    go false h r = r
-row-leads (gap low high ∷ rs) n t = go (between low high n) (row-leads rs n t)
-  where
-    go : (b : Bool) → Leads (rowIn rs n) n → Leads (cond b (gap low high) (rowIn rs n)) n
-    go true r = (refl, refl)
-    go false r = r
+code-leads : (n : ℕ) → Leads n (rowIn table n)
+unfolding nameOf
+code-leads n = every-found leads-back (Leads n) n (row-leads n) (refl, refl) table table-leads-back
 
 -- the event of a code has that code
 pub event-code : (n : ℕ) → codeOf (eventOf n) ≡ n
 unfolding eventOf
-event-code n = row-leads table n table-leads-back .0
+event-code n = code-leads n .0
 
 -- so two codes with one event are one code
 pub one-code : (a b : ℕ) → eventOf a ≡ eventOf b → a ≡ b
@@ -149,7 +160,7 @@ event-in-row (Unknown n) = inr refl
 -- what a code prints is the name in its row
 pub printed-at : (n : ℕ) → printed n ≡ nameAt n
 unfolding eventOf nameAt
-printed-at n = row-leads table n table-leads-back .1
+printed-at n = code-leads n .1
 
 -- ---- number order
 

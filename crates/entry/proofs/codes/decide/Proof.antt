@@ -1,7 +1,7 @@
 -- `codes::decide` meets its contract: a single arm computes at its code what its row says, and behind them no row's code is left. Assumes nothing.
-use Rattle.entry.specs.Event.{eventOf, nameAt}
+use mathlib.Core.Path.{refl}
 use Rattle.entry.specs.Codes.{table}
-use Rattle.entry.proofs.Rows.{gap-decided, gap-behind-singles}
+use Rattle.entry.proofs.Rows.{named-decided, gap-decided, gap-behind-singles}
 use Rattle.text.specs.Class.{between}
 use borrow.Author.Needs.{needs}
 use Rattle.entry.proofs.codes.decide.Statement.{statement}
@@ -143,92 +143,92 @@ unnamed-requires-5 : tie.Need-unnamed-requires-5
 unnamed-requires-5 c κs = search needs
 
 returns : tie.Need-returns
-unfolding eventOf nameAt table between
-returns c = rw (c .before .before .match .keys1) (c .named .ensures)
+unfolding table between
+returns c = named-decided (c .before .before .match .keys1) refl _ (c .named .ensures)
 
 returns-2 : tie.Need-returns-2
-unfolding eventOf nameAt table between
-returns-2 c = rw (c .before .before .match .keys2) (c .named2 .ensures)
+unfolding table between
+returns-2 c = named-decided (c .before .before .match .keys2) refl _ (c .named2 .ensures)
 
 returns-3 : tie.Need-returns-3
-unfolding eventOf nameAt table between
-returns-3 c = rw (c .before .before .match .keys3) (c .named3 .ensures)
+unfolding table between
+returns-3 c = named-decided (c .before .before .match .keys3) refl _ (c .named3 .ensures)
 
 returns-4 : tie.Need-returns-4
 unfolding table between
 returns-4 c = gap-decided (c .before .before .args .code) (rw (c .before .match .keys4)) _ (c .unnamed .ensures)
 
 returns-5 : tie.Need-returns-5
-unfolding eventOf nameAt table between
-returns-5 c = rw (c .before .before .match .keys5) (c .named4 .ensures)
+unfolding table between
+returns-5 c = named-decided (c .before .before .match .keys5) refl _ (c .named4 .ensures)
 
 returns-6 : tie.Need-returns-6
-unfolding eventOf nameAt table between
-returns-6 c = rw (c .before .before .match .keys6) (c .named5 .ensures)
+unfolding table between
+returns-6 c = named-decided (c .before .before .match .keys6) refl _ (c .named5 .ensures)
 
 returns-7 : tie.Need-returns-7
-unfolding eventOf nameAt table between
-returns-7 c = rw (c .before .before .match .keys7) (c .named6 .ensures)
+unfolding table between
+returns-7 c = named-decided (c .before .before .match .keys7) refl _ (c .named6 .ensures)
 
 returns-8 : tie.Need-returns-8
-unfolding eventOf nameAt table between
-returns-8 c = rw (c .before .before .match .keys8) (c .named7 .ensures)
+unfolding table between
+returns-8 c = named-decided (c .before .before .match .keys8) refl _ (c .named7 .ensures)
 
 returns-9 : tie.Need-returns-9
 unfolding table between
 returns-9 c = gap-decided (c .before .before .args .code) (rw (c .before .match .keys9)) _ (c .unnamed2 .ensures)
 
 returns-10 : tie.Need-returns-10
-unfolding eventOf nameAt table between
-returns-10 c = rw (c .before .before .match .keys10) (c .named8 .ensures)
+unfolding table between
+returns-10 c = named-decided (c .before .before .match .keys10) refl _ (c .named8 .ensures)
 
 returns-11 : tie.Need-returns-11
-unfolding eventOf nameAt table between
-returns-11 c = rw (c .before .before .match .keys11) (c .named9 .ensures)
+unfolding table between
+returns-11 c = named-decided (c .before .before .match .keys11) refl _ (c .named9 .ensures)
 
 returns-12 : tie.Need-returns-12
-unfolding eventOf nameAt table between
-returns-12 c = rw (c .before .before .match .keys12) (c .named10 .ensures)
+unfolding table between
+returns-12 c = named-decided (c .before .before .match .keys12) refl _ (c .named10 .ensures)
 
 returns-13 : tie.Need-returns-13
-unfolding eventOf nameAt table between
-returns-13 c = rw (c .before .before .match .keys13) (c .named11 .ensures)
+unfolding table between
+returns-13 c = named-decided (c .before .before .match .keys13) refl _ (c .named11 .ensures)
 
 returns-14 : tie.Need-returns-14
-unfolding eventOf nameAt table between
-returns-14 c = rw (c .before .before .match .keys14) (c .named12 .ensures)
+unfolding table between
+returns-14 c = named-decided (c .before .before .match .keys14) refl _ (c .named12 .ensures)
 
 returns-15 : tie.Need-returns-15
-unfolding eventOf nameAt table between
-returns-15 c = rw (c .before .before .match .keys15) (c .named13 .ensures)
+unfolding table between
+returns-15 c = named-decided (c .before .before .match .keys15) refl _ (c .named13 .ensures)
 
 returns-16 : tie.Need-returns-16
-unfolding eventOf nameAt table between
-returns-16 c = rw (c .before .before .match .keys16) (c .named14 .ensures)
+unfolding table between
+returns-16 c = named-decided (c .before .before .match .keys16) refl _ (c .named14 .ensures)
 
 returns-17 : tie.Need-returns-17
-unfolding eventOf nameAt table between
-returns-17 c = rw (c .before .before .match .keys17) (c .named15 .ensures)
+unfolding table between
+returns-17 c = named-decided (c .before .before .match .keys17) refl _ (c .named15 .ensures)
 
 returns-18 : tie.Need-returns-18
-unfolding eventOf nameAt table between
-returns-18 c = rw (c .before .before .match .keys18) (c .named16 .ensures)
+unfolding table between
+returns-18 c = named-decided (c .before .before .match .keys18) refl _ (c .named16 .ensures)
 
 returns-19 : tie.Need-returns-19
-unfolding eventOf nameAt table between
-returns-19 c = rw (c .before .before .match .keys19) (c .named17 .ensures)
+unfolding table between
+returns-19 c = named-decided (c .before .before .match .keys19) refl _ (c .named17 .ensures)
 
 returns-20 : tie.Need-returns-20
-unfolding eventOf nameAt table between
-returns-20 c = rw (c .before .before .match .keys20) (c .named18 .ensures)
+unfolding table between
+returns-20 c = named-decided (c .before .before .match .keys20) refl _ (c .named18 .ensures)
 
 returns-21 : tie.Need-returns-21
-unfolding eventOf nameAt table between
-returns-21 c = rw (c .before .before .match .keys21) (c .named19 .ensures)
+unfolding table between
+returns-21 c = named-decided (c .before .before .match .keys21) refl _ (c .named19 .ensures)
 
 returns-22 : tie.Need-returns-22
-unfolding eventOf nameAt table between
-returns-22 c = rw (c .before .before .match .keys22) (c .named20 .ensures)
+unfolding table between
+returns-22 c = named-decided (c .before .before .match .keys22) refl _ (c .named20 .ensures)
 
 returns-23 : tie.Need-returns-23
 unfolding table

@@ -1,5 +1,5 @@
--- The digits of a code, as the code computes them, are those of the code in decimal: one, two or three, by what a decimal of one digit is and what one
--- of more is. Assumes nothing.
+-- The digits of a code, as `decimal` computes them, are those of the code in decimal: one, two or three, by what a decimal of one digit is and what one of
+-- more is. Assumes nothing.
 use Prim.Native.Nat.{ℕ, _+_, _/_, _%_, _^_, _≤_, _<_}
 use mathlib.Core.Path.{_≡_, sym}
 use mathlib.Core.List.{[], _∷_}

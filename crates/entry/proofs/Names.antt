@@ -77,66 +77,66 @@ named-worded n = every-found worded (Worded n) n (row-worded n) (λ x. absurd (c
 
 -- ---- codes
 
--- the row of a code names it
-abbrev listed : ℕ → Bool
-listed n = named (rowIn table n)
+-- does the row of a code name it?
+abbrev in-row : ℕ → Bool
+in-row n = named (rowIn table n)
 
-named-listed : (n : ℕ) → Named n → listed n ≡ true
+named-in-row : (n : ℕ) → Named n → in-row n ≡ true
 unfolding eventOf
-named-listed n known = go (listed n) refl
+named-in-row n known = go (in-row n) refl
   where
-    go : (b : Bool) → listed n ≡ b → b ≡ true
+    go : (b : Bool) → in-row n ≡ b → b ≡ true
     go true e = refl
     go false e = absurd (known (gap-says (rowIn table n) n e .0))
 
-unlisted-decimal : (n : ℕ) → listed n ≡ false → printed n ≡ decimalText n
+gap-decimal : (n : ℕ) → in-row n ≡ false → printed n ≡ decimalText n
 unfolding nameAt
-unlisted-decimal n e = printed-at n ∙ gap-says (rowIn table n) n e .1
+gap-decimal n e = printed-at n ∙ gap-says (rowIn table n) n e .1
 
-listed-no-decimal : (a n : ℕ) → listed a ≡ true → n < 2 ^ 64 → printed a ≡ decimalText n → ⊥
+row-no-decimal : (a n : ℕ) → in-row a ≡ true → n < 2 ^ 64 → printed a ≡ decimalText n → ⊥
 unfolding nameAt
-listed-no-decimal a n l h same =
+row-no-decimal a n l h same =
     clash (ap (allDigits 10) (sym (printed-at a) ∙ same) ∙ decimal-prints n (omega arith) .digits) (named-worded a l)
 
 one-decimal : (a b : ℕ) → a < 2 ^ 64 → b < 2 ^ 64 → decimalText a ≡ decimalText b → a ≡ b
 one-decimal a b h k same =
     sym (decimal-prints a (omega arith) .reads) ∙ ap (value 10 0) same ∙ decimal-prints b (omega arith) .reads
 
-listed-differ : (a b : ℕ) → listed a ≡ true → listed b ≡ true → printed a ≡ printed b → a ≡ b
+rows-differ : (a b : ℕ) → in-row a ≡ true → in-row b ≡ true → printed a ≡ printed b → a ≡ b
 unfolding nameAt
-listed-differ a b h k same = one-named a b h k (sym (printed-at a) ∙ same ∙ printed-at b)
+rows-differ a b h k same = one-named a b h k (sym (printed-at a) ∙ same ∙ printed-at b)
 
 -- ---- document 01's ranges
 
 agree : ℕ → Bool
-agree n = same (listed n) (hasName n)
+agree n = same (in-row n) (hasName n)
 
 all-agree : all agree 256 0 ≡ true
 unfolding all agree same between table
 all-agree = refl
 
-listed-by-ranges : (n : ℕ) → n < 256 → listed n ≡ hasName n
+rows-by-ranges : (n : ℕ) → n < 256 → in-row n ≡ hasName n
 unfolding agree
-listed-by-ranges n h = same-is _ _ (all-at agree 256 0 all-agree n (omega arith) (omega arith))
+rows-by-ranges n h = same-is _ _ (all-at agree 256 0 all-agree n (omega arith) (omega arith))
 
 these-named : (n : ℕ) → n < 256 → hasName n ≡ true → Named n
 unfolding nameOf
-these-named n h k e = listed-no-decimal n n (listed-by-ranges n h ∙ k) (omega arith) (ap nameOf e)
+these-named n h k e = row-no-decimal n n (rows-by-ranges n h ∙ k) (omega arith) (ap nameOf e)
 
 others-unknown : (n : ℕ) → n < 256 → hasName n ≡ false → eventOf n ≡ Unknown n
 unfolding eventOf
-others-unknown n h k = gap-says (rowIn table n) n (listed-by-ranges n h ∙ k) .0
+others-unknown n h k = gap-says (rowIn table n) n (rows-by-ranges n h ∙ k) .0
 
 -- ---- all codes
 
 tells : (a b : ℕ) → a < 256 → b < 256 → printed a ≡ printed b → a ≡ b
-tells a b h k same = go (listed a) (listed b) refl refl
+tells a b h k same = go (in-row a) (in-row b) refl refl
   where
-    go : (x y : Bool) → listed a ≡ x → listed b ≡ y → a ≡ b
-    go true true p q = listed-differ a b p q same
-    go true false p q = absurd (listed-no-decimal a b p (omega arith) (same ∙ unlisted-decimal b q))
-    go false true p q = absurd (listed-no-decimal b a q (omega arith) (sym same ∙ unlisted-decimal a p))
-    go false false p q = one-decimal a b (omega arith) (omega arith) (sym (unlisted-decimal a p) ∙ same ∙ unlisted-decimal b q)
+    go : (x y : Bool) → in-row a ≡ x → in-row b ≡ y → a ≡ b
+    go true true p q = rows-differ a b p q same
+    go true false p q = absurd (row-no-decimal a b p (omega arith) (same ∙ gap-decimal b q))
+    go false true p q = absurd (row-no-decimal b a q (omega arith) (sym same ∙ gap-decimal a p))
+    go false false p q = one-decimal a b (omega arith) (omega arith) (sym (gap-decimal a p) ∙ same ∙ gap-decimal b q)
 
 one-padded : (s t : List ℕ) → padded s ≡ padded t → s ≡ t
 one-padded s t same = sym (name-start s refl) ∙ ap (λ (n : Name). take (n .len) (n .bytes)) same ∙ name-start t refl
@@ -149,8 +149,8 @@ names-tell-codes =
       dp-con-change = refl;
       these-are-named = these-named;
       others-are-unknown = others-unknown;
-      names-differ = λ a b m n. listed-differ a b (named-listed a m) (named-listed b n);
-      no-decimal = λ a n m. listed-no-decimal a n (named-listed a m);
+      names-differ = λ a b m n. rows-differ a b (named-in-row a m) (named-in-row b n);
+      no-decimal = λ a n m. row-no-decimal a n (named-in-row a m);
       name-tells-code = tells;
       padded-tells-code = λ a b h k same. tells a b h k (one-padded (printed a) (printed b) same);
     }

@@ -1,5 +1,6 @@
--- The event table: what is decided of a code that is none of the single ones is what a gap says; the event of a row leads back to the row's code and name;
--- the rows are in number order, so each byte has one. Each is said of any rows, by induction, and comes to the table by a computed test. Assumes nothing.
+-- The event table: a code that is none of the single ones is in a gap; the event of a row leads back to the row's code and name; the rows are in number
+-- order, so each byte has one. Said of any rows by induction, and of the table by a computed test where one is needed; that each event has its row, by the
+-- enum's cases. Assumes nothing.
 use Prim.Native.Nat.{ℕ, _+_, _≤_, _<_}
 use Prim.Native.String.{String}
 use mathlib.Core.Path.{_≡_, refl, sym, ap, _∙_}
@@ -33,10 +34,11 @@ pub gap-says : (r : Row) (n : ℕ) → named r ≡ false → (eventIn r n ≡ Un
 gap-says (code c e name) n h = absurd (clash refl h)
 gap-says (gap low high) n h = (refl, refl)
 
--- what is decided of a code is what its row says, where the row names it and where it is a gap
+-- a decision has this event, and this name with zeros behind it
 abbrev Decided : Decision → Event → List ℕ → Type 0
 Decided d e name = (d .event ≡ e) × (d .name ≡ padded name)
 
+-- what is decided of a code is what its row says, where the row names it and where it is a gap
 pub named-decided : {n c : ℕ} {e : Event} {name : String} → n ≡ c → rowIn table c ≡ code c e name → (d : Decision) → Decided d e (bytes name)
     → Decided d (eventOf n) (nameAt n)
 unfolding eventOf nameAt

@@ -51,7 +51,7 @@ abbrev pub holds : Row → ℕ → Bool
 holds (code c e name) n = eqb n c
 holds (gap low high) n = between low high n
 
--- the row of a table that holds a code; behind the table there are gaps only
+-- the first row of a table that holds a code; a code that no row holds is a gap by itself
 abbrev pub rowIn : List Row → ℕ → Row
 rowIn [] n = gap n n
 rowIn (r ∷ rs) n = cond (holds r n) r (rowIn rs n)
@@ -72,7 +72,7 @@ gapFirst [] = false
 gapFirst (code c e name ∷ rs) = false
 gapFirst (gap low high ∷ rs) = true
 
--- rows in number order, from a code up to another: each begins where the one before it ends, and no gap stands behind a gap
+-- rows in number order, from a code up to another without it: each begins right behind the last code of the one before, and no gap stands behind a gap
 pub data InOrder : ℕ → List Row → ℕ → Type 0 where
   end : {n : ℕ} → InOrder n [] n
   next-code : {n m : ℕ} {e : Event} {name : String} {rs : List Row} → InOrder (n + 1) rs m → InOrder n (code n e name ∷ rs) m
@@ -83,7 +83,7 @@ abbrev pub rowsIn : List Row → ℕ → List Row
 rowsIn [] n = []
 rowsIn (r ∷ rs) n = cond (holds r n) (r ∷ rowsIn rs n) (rowsIn rs n)
 
--- the table can be checked with a ruler: its rows are in number order from 0 to 255, each gap one of them, and each byte is in one row and no other
+-- the table can be checked with a ruler: its rows are in number order from 0 to 255, each gap one of them, so each byte is in one row and no other
 pub record LaidOut : Type 0 where
   pub in-order : InOrder 0 table 256
   pub one-row : (n : ℕ) → n < 256 → rowsIn table n ≡ rowIn table n ∷ []

@@ -16,7 +16,7 @@ eventOf code = eventIn (rowIn table code) code
 unfoldable pub nameAt : ℕ → List ℕ
 nameAt code = nameIn (rowIn table code) code
 
--- the way back: a named event leads to the code of its row, an unknown one to the code that it keeps
+-- the way back: what is made of an event by its code, `inRow` of the code of its row, `kept` of the code that an unknown one keeps
 abbrev pub byCode : {A : Type 0} → (ℕ → A) → (ℕ → A) → Event → A
 byCode inRow kept ErrConn = inRow 0
 byCode inRow kept ErrLink = inRow 1

@@ -1,4 +1,5 @@
--- `codes::decide` meets its contract: a single arm computes at its code what its row says, and behind them no row's code is left. Assumes nothing.
+-- `codes::decide` meets its contract: a single arm says what the row of its code says, by computation, and behind them no code is left that has a name, so
+-- the ranges are gaps. Assumes nothing.
 use mathlib.Core.Path.{refl}
 use Rattle.entry.specs.Codes.{table}
 use Rattle.entry.proofs.Rows.{named-decided, gap-decided, gap-behind-singles}

@@ -1,4 +1,5 @@
--- `events::name_of` meets its contract: each arm asks for the name in the row of the code that the definition gives the event. Assumes nothing.
+-- `events::name_of` meets its contract: an arm asks for the name in the row of the code that the definition gives the event, the last one for the code in
+-- decimal. Assumes nothing.
 use Rattle.entry.specs.Event.{nameOf}
 use borrow.Author.Needs.{needs}
 use Rattle.entry.proofs.events.name_of.Statement.{statement}

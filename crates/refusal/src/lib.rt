@@ -70,3 +70,9 @@ pub const BAD_ENTRY: u8 = 37;
 pub const TABLE_SIZE: u8 = 50;
 
 pub const BROKEN_TABLE: u8 = 51;
+
+pub const NO_STREAM: u8 = 53;
+
+pub const CUT_RECORD: u8 = 54;
+
+pub const LONG_RECORD: u8 = 55;

@@ -101,3 +101,11 @@ pub record LineEnds (s : List ℕ) (from : ℕ) (e : LineEnd) : Type 0 where
 -- the end's answer by what is kept
 unfoldable pub endUnit : Framing → List ℕ → UnitModule.Unit
 endUnit f text = cond (eqb (length text) 0) U.Open (cond (isRecord f text) (cond (isLong text) U.Long U.Cut) (U.Text (length text)))
+
+-- how many bytes of a unit stand in the buffer to be read
+unfoldable pub textLength : UnitModule.Unit → ℕ
+textLength (U.Text n) = n
+textLength U.Long = 0
+textLength U.Cut = 0
+textLength U.Open = 0
+textLength U.Alien = 0

@@ -4,3 +4,5 @@ pub mod Steps
 pub mod Records
 pub mod FedAgain
 pub mod Whole
+pub mod States
+pub mod EachUnit

@@ -114,7 +114,7 @@ pub record EntryOf (pieces : Pieces) (u slots : List ℕ) (e : Entry) (rest′ s
 -- What is promised of each unit, given 256 slots: demand 3.
 pub record EachUnit (pieces : Pieces) : Type 0 where
   -- A unit is accepted exactly when it belongs to the line grammar of the choice or to the record grammar.
-  pub accepted : (u : List ℕ) → Bytes u → IsUnit u → (room : ℕ) → 256 ≤ room
+  pub accepted : (u : List ℕ) → Bytes u → (room : ℕ) → 256 ≤ room
       → ((e : Entry) × (answerOf pieces u room ≡ is e)) ↔ ((v : EntryValue) × Belongs pieces u v)
   -- What it says is what its grammar says: one value, or none of a unit that is refused.
   pub says : (u : List ℕ) → Bytes u → (v : EntryValue) → Belongs pieces u v → saidOf pieces (u ∷ []) ≡ v ∷ []

@@ -20,6 +20,7 @@ use Rattle.entry.proofs.Parts.{part-in}
 use Rattle.scan.specs.declared.Pieces.{Pieces}
 use Rattle.scan.specs.declared.Answer.the-variants as Read
 use Rattle.scan.specs.Parse.{parseOf, slotsBy}
+use Rattle.scan.specs.Line.{Line}
 use Rattle.scan.proofs.Theorems.{line-entry-is, line-number-exactly, past-table}
 use Rattle.record.specs.Conditions.{Framed, Refuses, Breaks, breaks, few-slots, unframed, runs-past, wrong-tag, wrong-body, lacks-tag}
 use Rattle.record.specs.Grammar.{IsRecord}
@@ -27,6 +28,7 @@ use Rattle.record.specs.Reading.{readOf}
 use Rattle.record.proofs.Records.{record-refused-exactly}
 use Rattle.intake.specs.Intake.{Belongs, startsA1, takenOf, takenDwords}
 use Rattle.intake.specs.Demand3.{ReadCall}
+use Rattle.intake.specs.Demand3Packets.{packetFor}
 use Rattle.intake.proofs.Demand3.{line-has-a-record, record-is-the-writers}
 use Rattle.intake.proofs.Slots.{with-more-slots}
 use Rattle.units.specs.declared.Framing.the-variants.{Both}
@@ -162,6 +164,17 @@ module _ (pieces : Pieces) where
       all v (Belongs.line a) = let f = line-accepted pieces u v a in (f .0, more-slots u b room h (f .0) (f .1))
       all v (Belongs.a-record r) = let f = record-accepted pieces u v r in (f .0, more-slots u b room h (f .0) (f .1))
 
+-- ---- a line and its record
+
+-- the entry of a unit says what the unit says
+entry-says : (pieces : Pieces) (u slots : List ℕ) (e : Entry) (rest′ slots′ : List ℕ) (v : EntryValue) → Belongs pieces u v → EntryOf pieces u slots e rest′ slots′ → valueOf e rest′ slots′ ≡ v
+entry-says pieces u slots e rest′ slots′ v b x = let same : valueOf e rest′ slots′ ∷ [] ≡ v ∷ [] = sym (x .says) ∙ said-one pieces u v b in cc
+
+line-and-record : (pieces : Pieces) (u t : List ℕ) (v : EntryValue) → Line pieces u v → IsRecord t v → (slots : List ℕ) (e : Entry) (rest′ slots′ : List ℕ) → EntryOf pieces u slots e rest′ slots′ → (any : Pieces) (other : List ℕ) (f : Entry) (rest″ slots″ : List ℕ) → EntryOf any t other f rest″ slots″ → (valueOf e rest′ slots′ ≡ valueOf f rest″ slots″) × ((book : List ℕ) → packetFor (valueOf e rest′ slots′) book ≡ packetFor (valueOf f rest″ slots″) book)
+line-and-record pieces u t v a r slots e rest′ slots′ x any other f rest″ slots″ y =
+    let same : valueOf e rest′ slots′ ≡ valueOf f rest″ slots″ = entry-says pieces u slots e rest′ slots′ v (Belongs.line a) x ∙ sym (entry-says any t other f rest″ slots″ v (Belongs.a-record r) y) in
+    (same, λ book. ap (λ (w : EntryValue). packetFor w book) same)
+
 -- ---- 30
 
 -- a record of the length that it says has its frame
@@ -203,5 +216,6 @@ each-unit pieces =
       accepted = accepted pieces;
       says = λ u b v x. said-one pieces u v x;
       entry-of = call-entry pieces;
+      line-and-record = line-and-record pieces;
       never-30 = never-30 pieces;
     }

@@ -14,9 +14,11 @@ use Rattle.entry.specs.declared.Entry.{Entry}
 use Rattle.entry.specs.Entry.{EntryValue, valueOf}
 use Rattle.scan.specs.declared.Pieces.{Pieces}
 use Rattle.scan.specs.declared.Answer.the-variants as Read
-use Rattle.record.specs.Grammar.{recordBytes}
+use Rattle.scan.specs.Line.{Line}
+use Rattle.record.specs.Grammar.{recordBytes, IsRecord}
 use Rattle.intake.specs.Intake.{Belongs}
 use Rattle.intake.specs.Demand3.{ReadCall}
+use Rattle.intake.specs.Demand3Packets.{packetFor}
 use Rattle.units.specs.declared.Framing.the-variants.{Both}
 use Rattle.units.specs.declared.State.{State}
 use Rattle.units.specs.Units.{Units, Whole, Open}
@@ -122,6 +124,11 @@ pub record EachUnit (pieces : Pieces) : Type 0 where
   pub entry-of : (room : ℕ) (taken rest : List ℕ) (answers : List (Told Entry)) (st : State) → Calls pieces room taken answers rest st
       → 256 ≤ room → (part slots rest′ slots′ : List ℕ) (r : Fed) (e : Entry) → Bytes part → length slots ≡ room → FeedDone pieces part rest slots st rest′ slots′ r
       → r .answer ≡ A.Entry e → (u : List ℕ) × (Whole Both u × Bytes u × EntryOf pieces u slots e rest′ slots′)
+  -- A line and its record, fed in whatever streams and by whatever choice the record is, give one entry, and with one book one packet or one number.
+  pub line-and-record : (u t : List ℕ) (v : EntryValue) → Line pieces u v → IsRecord t v
+      → (slots : List ℕ) (e : Entry) (rest′ slots′ : List ℕ) → EntryOf pieces u slots e rest′ slots′
+      → (any : Pieces) (other : List ℕ) (f : Entry) (rest″ slots″ : List ℕ) → EntryOf any t other f rest″ slots″
+      → (valueOf e rest′ slots′ ≡ valueOf f rest″ slots″) × ((book : List ℕ) → packetFor (valueOf e rest′ slots′) book ≡ packetFor (valueOf f rest″ slots″) book)
   -- Number 30 is no unit's.
   pub never-30 : (u : List ℕ) → Bytes u → IsUnit u → (room : ℕ) → answerOf pieces u room ≡ refused 30 → ⊥
 

@@ -209,13 +209,13 @@ static size_t add_longest(void) {
     return w.bytes;
 }
 
-/* Short streams by letters: l and r are the line and its record, b a line with a bad piece, the letters behind a backslash are bytes. */
+/* Short streams by letters: l and r are the line and its record, b a line with a bad piece, o the same without its newline; all else is a byte. */
 static void make(const char *bytes, size_t n) {
     length = 0;
     for (size_t i = 0; i < n; i++)
         if (bytes[i] == 'l') add(LINE, sizeof LINE - 1);
         else if (bytes[i] == 'r') add_record();
-        else if (bytes[i] == 'b') add(HEAD "data=[1, zz]\n", sizeof HEAD + 12);
+        else if (bytes[i] == 'b' || bytes[i] == 'o') add(HEAD "data=[1, zz]\n", sizeof HEAD + 11 + (bytes[i] == 'b'));
         else add(bytes + i, 1);
 }
 
@@ -235,7 +235,8 @@ static const struct { const char *bytes; size_t n, lent; const char *numbers[CHO
     /* and an overlong one */
     SHORT("\xa1\xff\xff", "55"), SHORT("\xa1\x69\x14", "55"), SHORT("\xa1\x69\x14\n\n", "55"), SHORT("r\xa1\x00\xff\xa1\x00\x00", "0 55"),
     /* the choice is of lines alone, and few slots are one answer */
-    {"lbrbl", 5, SLOTS, {"0 18 0 18 0", "0 0 0 0 0"}}, {"lrbl\n", 5, 1, {"17 35 18 17 1", "17 35 0 17 1"}}, {"lr", 2, 0, {"17 35", "17 35"}}};
+    {"lbrbl", 5, SLOTS, {"0 18 0 18 0", "0 0 0 0 0"}}, {"lrbl\n", 5, 1, {"17 35 18 17 1", "17 35 0 17 1"}}, {"lr", 2, 0, {"17 35", "17 35"}},
+    {"lo", 2, SLOTS, {"0 18", "0 0"}}};
 
 /* Every cut and two, bytes one by one, and empty parts. */
 static void short_streams(void) {

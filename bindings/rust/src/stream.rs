@@ -82,15 +82,12 @@ impl Stream {
     }
 
     pub(crate) fn take(&mut self, feed: Feed, part: &mut &[u8]) -> Told<RawEntry> {
+        // 53 cannot come of this, nor of the end: the buffer has its size, and buffer and state are as the last call left them, since nobody else
+        // writes to them. Were it to come, it would be told as any refusal.
         let fed = feed(self.state, part, &mut self.rest, &mut self.slots);
         self.state = fed.state;
-        let at = fed.at;
-        let told = fed.told();
-        // 53 cannot come: the buffer has its size, and buffer and state are as the last call left them, since nobody else writes them. Were it to come,
-        // it would be told and the part be gone, so that a loop over it ends.
-        let left = if told_53(&told) { None } else { part.get(at..) };
-        *part = left.unwrap_or_default();
-        told
+        *part = part.get(fed.at..).unwrap_or_default();
+        fed.told()
     }
 
     pub(crate) fn end(&mut self, finish: Finish) -> Told<RawEntry> {
@@ -106,10 +103,6 @@ impl Stream {
             Err(number) => Some(Err(Refusal::from_number(number))),
         }
     }
-}
-
-fn told_53(told: &Told<RawEntry>) -> bool {
-    matches!(told, Err(number) if *number == Refusal::NoStream.number())
 }
 
 impl Default for Stream {
@@ -132,21 +125,27 @@ impl fmt::Debug for Stream {
 mod alien {
     use super::*;
 
-    /// A state that safe code cannot make is told as what it is, changes nothing, and no loop over it goes on for ever.
+    fn is_alien(stream: &Stream) -> bool {
+        let state = RawStream { held: 9, passed: 1 };
+        stream.state == state && stream.rest == [b'x'; REST] && stream.slots == [7; MOST_DWORDS]
+    }
+
+    /// A state that safe code cannot make is told as what it is, and nothing changes.
     #[test]
     fn a_state_that_no_stream_leaves_is_53() {
-        let mut stream = Stream::new();
-        stream.state.passed = 1;
-        stream.slots = [7; MOST_DWORDS];
+        let mut stream = Stream {
+            state: RawStream { held: 9, passed: 1 },
+            rest: [b'x'; REST],
+            slots: [7; MOST_DWORDS],
+        };
         for feed in [Stream::feed, Stream::feed_lenient] {
             let mut part = &b"x\ny\n"[..];
             assert_eq!(feed(&mut stream, &mut part), Some(Err(Refusal::NoStream)));
-            assert!(part.is_empty());
+            assert!(part == b"x\ny\n" && is_alien(&stream));
         }
         for finish in [Stream::finish, Stream::finish_lenient] {
             assert_eq!(finish(&mut stream), Some(Err(Refusal::NoStream)));
+            assert!(is_alien(&stream));
         }
-        assert_eq!((stream.state.held, stream.state.passed), (0, 1));
-        assert!(stream.rest == [0; REST] && stream.slots == [7; MOST_DWORDS]);
     }
 }

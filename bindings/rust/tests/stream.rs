@@ -31,8 +31,11 @@ fn feed(stream: &mut Stream, lenient: bool, part: &[u8], list: &mut Vec<Said>) {
     } else {
         Stream::feed
     };
+    let mut before = left.len();
     while let Some(unit) = call(stream, &mut left) {
         list.push(said(unit));
+        assert!(left.len() < before, "no byte was taken");
+        before = left.len();
     }
     assert!(left.is_empty());
 }
@@ -295,7 +298,7 @@ mod reader {
             StreamReader::next_unit
         };
         let (mut list, mut errors) = (Vec::new(), 0);
-        loop {
+        while list.len() < 100 {
             match next(&mut units) {
                 Ok(Some(unit)) => list.push(said(unit)),
                 Ok(None) => break,
@@ -350,6 +353,13 @@ mod reader {
             }
         }
         assert_eq!(read(script([]), false), (vec![], 0));
+    }
+
+    #[test]
+    fn the_end_of_the_input_ends_a_line() {
+        let open = || script([Step::Gives(BAD.trim_end().as_bytes().to_vec())]);
+        assert_eq!(read(open(), false), (vec![Err(18)], 0));
+        assert_eq!(read(open(), true), (vec![Ok(record(BAD))], 0));
     }
 
     #[test]

@@ -83,7 +83,7 @@ impl Stream {
 
     pub(crate) fn take(&mut self, feed: Feed, part: &mut &[u8]) -> Told<RawEntry> {
         // 53 cannot come of this, nor of the end: the buffer has its size, and buffer and state are as the last call left them, since nobody else
-        // writes to them. Were it to come, it would be told as any refusal.
+        // writes to them; what calls leave is good (proved). Were it to come, it would be told as any refusal.
         let fed = feed(self.state, part, &mut self.rest, &mut self.slots);
         self.state = fed.state;
         *part = part.get(fed.at..).unwrap_or_default();

@@ -121,6 +121,10 @@ fn lines_and_records_in_any_cut() {
     ];
     says(&bytes, false, &expected);
     says(&bytes, true, &expected);
+    // The records of its entries, fed again, say the same and nothing else.
+    let entries: Vec<Said> = expected.into_iter().filter(Result::is_ok).collect();
+    let again: Vec<u8> = entries.iter().flatten().flatten().copied().collect();
+    says(&again, false, &entries);
 }
 
 #[test]

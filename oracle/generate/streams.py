@@ -48,6 +48,16 @@ def many_dwords_line(seed):
     return ended(lines.CLASSES[seed.pick(("dwords", "bad among many"))](seed))
 
 
+def faulty_line(seed):
+    """A header without one of its parts, or a key missing or unreadable."""
+    return ended(parts.line(seed, seed.pick(lines.FAULTY_HEADS)) if seed.one_in(2) else lines.missing(seed))
+
+
+def bad_piece_line(seed):
+    """Read by lenient alone."""
+    return ended(lines.bad_piece(seed))
+
+
 def marked_line(seed):
     """A1 inside, but not first, and behind it what would be a length."""
     text = bytearray(ended(parts.line(seed)))
@@ -149,7 +159,7 @@ def bad_data_record(seed):
     return field(MARK, b"".join(field(tag, body) for tag, body in listed))
 
 
-LINES = (kernel_line, any_line, any_line, idle_line, marked_line, spelling_line)
+LINES = (kernel_line, kernel_line, any_line, any_line, idle_line, faulty_line, bad_piece_line, marked_line, spelling_line)
 RECORDS = (good_record, good_record, record_of_line, damaged_record, record_with_newlines, bad_data_record)
 
 
@@ -232,8 +242,9 @@ def cut_record(source):
 
 
 def cut_line(source):
+    """The end cuts a line anywhere, or takes its newline alone."""
     last = source.unit(LINES)
-    return source.units(LINES + RECORDS, 0, 2) + last[:source.within(1, len(last))]
+    return source.units(LINES + RECORDS, 0, 2) + last[:source.pick((source.within(1, len(last)), len(last) - 1))]
 
 
 # Bytes that decide where a unit ends.

@@ -265,8 +265,8 @@ def begun_and_lost(source):
     return lost[source.within(1, 4):] + source.units(LINES + RECORDS, 1, 3)
 
 
-CLASSES = (kernel, only_lines, only_records, both, newline_behind, false_lengths, with_long_line, with_long_record, with_longest_record, with_many_dwords,
-           cut_record, cut_line, tiny, any_bytes, begun_and_lost)
+CLASSES = (kernel, only_lines, only_records, both, newline_behind, false_lengths, with_long_line, with_long_record, with_longest_record,
+           with_many_dwords, cut_record, cut_line, tiny, any_bytes, begun_and_lost)
 # Of the long ones few are made: of so many rounds one has them.
 ROUNDS = {with_long_line: 3, with_long_record: 3, with_longest_record: 40, with_many_dwords: 3}
 

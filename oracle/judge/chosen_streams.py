@@ -39,8 +39,8 @@ GOOD_RECORDS = [
     SMALLEST, framed(listed(FULL)), write_record(PLAIN | {"task": b"a\nb\n#", "data": spelled(GOOD + b"\n" + A1 + b"\0\0\n")})]
 # 30 is not among them: what starts with A1 is as long as it says, or it is 54.
 REFUSED_RECORDS = [
-    of_any(3), of_any(4), of_any(5), of_any(9, b"\1\1\0"), framed([(1, b"a")]), framed([(1, b"a"), (0x14, b"")]), with_body(PLAIN, 3, b"\xe8\3"), without(PLAIN, 2), without(PLAIN, 0x13),
-    of_any(12, b"\n"), of_any(20, A1), framed(listed(PLAIN)[:-1] + [(0x13, b"\0\0\0")])]
+    of_any(3), of_any(4), of_any(5), of_any(9, b"\1\1\0"), framed([(1, b"a")]), framed([(1, b"a"), (0x14, b"")]), with_body(PLAIN, 3, b"\xe8\3"),
+    without(PLAIN, 2), without(PLAIN, 0x13), of_any(12, b"\n"), of_any(20, A1), framed(listed(PLAIN)[:-1] + [(0x13, b"\0\0\0")])]
 
 
 def large_units():

@@ -151,7 +151,8 @@ static int probe_size(const fed *f, const uint8_t *part, size_t size) {
     return holds(&is, &must);
 }
 
-/* One call: up to the end of the unit, if the part goes so far. A call that ends no unit may have another choice and other slots than the one that does. */
+/* One call: up to the end of the unit, if the part goes so far. A call that ends no unit may have another choice and other slots than the one that
+ * does. */
 static int feed_once(fed *f, const uint8_t *part, size_t to) {
     const unit *u = unit_of(f);
     int ends = u && u->ended && u->end <= to;
@@ -184,8 +185,9 @@ static int finish(fed *f) {
     now.place = f->place;
     for (int again = 0; again < 2; again++) {
         int open = unit_of(f) != NULL;
+        size_t count = open ? f->s->slots : some_slots[below(6)];
         if (!below(4) && !probe_size(f, lend_part(f->s->bytes, 0), 0)) return 0;
-        ck_stream_answer is = finishers[open ? f->s->strict : below(2)](f->state, rest.is + GUARD, CK_REST, lent_slots(), open ? f->s->slots : below(300));
+        ck_stream_answer is = finishers[open ? f->s->strict : below(2)](f->state, rest.is + GUARD, CK_REST, lent_slots(), count);
         ck_stream_answer must = open ? end_unit(f) : nothing;
         if (!holds(&is, &must)) return 0;
     }

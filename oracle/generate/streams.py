@@ -178,7 +178,8 @@ class Source(Seed):
         known = self.known.setdefault(make, [])
         if len(known) >= 64 and not self.one_in(4):
             return self.pick(known)
-        known.append(make(self))
+        # No unit is empty, though a line or a damaged record may be.
+        known.append(make(self) or b"\n")
         if len(known) > 4096:
             del known[:1024]
         return known[-1]
@@ -289,6 +290,16 @@ def all_short(length):
     """Every stream of up to so many letters."""
     for size in range(length + 1):
         yield from (b"".join(letters) for letters in product(LETTERS, repeat=size))
+
+
+def all_ends(source):
+    """Every start of a few streams of both kinds; of long units those that end around a bound."""
+    for _ in range(4):
+        stream = good_record(source)[:200] + b"\n" + kernel_line(source)[:200] + stated(source, 40) + b"#\n" + overlong_record(source)[:9]
+        yield from (stream[:end] for end in range(len(stream) + 1))
+    bounds = (4096, LONGEST_RECORD, REST, MOST_STATED)
+    for unit in (b"#" * 9000, b"x" * 9000, largest_record(source), stated(source, 5228), stated(source, 5229), longest_stated(source)):
+        yield from (unit[:bound + near] for bound in bounds for near in range(-3, 4) if bound + near <= len(unit))
 
 
 # Cuts: which, a number, and a seed for what is left to chance

@@ -137,7 +137,7 @@ class Seen:
 
 
 def all_cases(judge, seen, seed, count, short):
-    """All short streams by every cut; then so many generated ones, and states beside them."""
+    """All short streams by every cut, all states near a bound, every end of some streams; then so many generated ones, and states beside them."""
     source = Source(seed + 1)
     for number, data in enumerate(generator.all_short(short)):
         seen.classes["all short"] += 1
@@ -145,6 +145,10 @@ def all_cases(judge, seen, seed, count, short):
     for state in generator.all_states():
         seen.classes["all states"] += 1
         yield judge.state(source, "all states", *state)
+    for number, data in enumerate(generator.all_ends(source)):
+        seen.classes["all ends"] += 1
+        cuts = (generator.SINGLE, generator.BYTES) if len(data) < 1000 else (generator.AROUND, generator.CHANCE)
+        yield judge.stream("all ends", data, 256, number % 2 == 0, [Cut(way, 60, number) for way in cuts])
     states = generator.states(seed + 2)
     for number, (name, data) in enumerate(islice(generator.generate(seed), count)):
         seen.classes[name] += 1

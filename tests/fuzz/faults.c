@@ -231,8 +231,8 @@ static void put_refused(ck_stream_answer *a, ck_stream state, uint32_t *slots, s
     if (is("a slot after a refused unit") && count) slots[0] ^= 1;
     if (is("a refused unit stays open")) a->state = state;
     if (is("an entry with a refused unit")) a->entry.kind = 1;
-    if (is("54 for 55") && a->number == 55) a->number = 54;
-    if (is("30 for 54") && a->number == 54) a->number = CK_NO_RECORD;
+    if (is("54 for 55") && a->number == CK_LONG_RECORD) a->number = CK_CUT_RECORD;
+    if (is("30 for 54") && a->number == CK_CUT_RECORD) a->number = CK_NO_RECORD;
 }
 
 /* What memory and state a call of a part could get wrong. */
@@ -257,7 +257,7 @@ ck_stream_answer __wrap_ck_stream_feed(FEED) {
                                                count + is("slots for a stream more than lent"));
     int guarded = second();
     if (is("ck_stream_feed")) a.entry.seq ^= 1;
-    if (a.number == 53) {
+    if (a.number == CK_NO_STREAM) {
         if (is("a byte after 53") && rest_len) rest[rest_len - 1] ^= 1;
         if (is("a slot after 53") && count) slots[0] ^= 1;
         if (is("53 changes the state")) a.state = (ck_stream){0, 0};
@@ -276,7 +276,7 @@ ck_stream_answer __wrap_ck_stream_finish(END);
 ck_stream_answer __wrap_ck_stream_finish(END) {
     ck_stream_answer a = __real_ck_stream_finish(state, rest, rest_len, slots, count);
     if (is("ck_stream_finish")) a.entry.seq ^= 1;
-    if (a.number && a.number != 53) put_refused(&a, state, slots, count);
+    if (a.number && a.number != CK_NO_STREAM) put_refused(&a, state, slots, count);
     if (is("the end answers nothing")) a.ended = 0;
     if (is("the end changes the buffer") && state.held && rest_len) poke((uint8_t *)(uintptr_t)rest);
     return a;

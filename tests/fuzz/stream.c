@@ -4,7 +4,7 @@
 
 const unsigned used_parts = 1 << CHOICES | 1 << TEXT | IS_STREAM;
 
-enum { LINE_KEPT = MOST_TEXT + 1, SIZES_AT = 21, MOST_FED = 600, CUT_SHORT = 54, LONG_RECORD = 55, NO_STATE = 53 };
+enum { LINE_KEPT = MOST_TEXT + 1, SIZES_AT = 21, MOST_FED = 600 };
 
 /* ---- a stream by its words */
 
@@ -51,7 +51,7 @@ static void expect(told *to, unit u, part s, int strict, size_t count) {
         .offset = CK_NONE, .code = CK_NONE, .len = CK_NONE, .port = CK_NONE, .config = CK_NONE, .seq = CK_NONE, .unplug = CK_NONE};
     size_t len = u.end - u.start, kept = block_count;
     const uint8_t *at = s.at + u.start;
-    uint8_t number = *at != 0xa1 ? (len <= MOST_TEXT ? 0 : *at == '#' ? CK_IDLE : CK_LONG_LINE) : u.overlong ? LONG_RECORD : u.ended ? 0 : CUT_SHORT;
+    uint8_t number = *at != 0xa1 ? (len <= MOST_TEXT ? 0 : *at == '#' ? CK_IDLE : CK_LONG_LINE) : u.overlong ? CK_LONG_RECORD : u.ended ? 0 : CK_CUT_RECORD;
     if (number) {
         to->number = number, to->entry = blank;
         return;
@@ -199,12 +199,12 @@ static void try_state(part first, ck_stream state, size_t size, int strict, size
         held *rest = f.rests + way, *slots = f.slots + way;
         left[way] = size == CK_REST && is_left(state, rest->is.at);
         fed_nothing[way] = feeds[strict](state, lend(first.at, 0), 0, rest->is.at, size, words_of(slots->is), count);
-        must(fed_nothing[way].number == (left[way] ? 0 : NO_STATE), "53 is another size, or a state that no stream leaves");
+        must(fed_nothing[way].number == (left[way] ? 0 : CK_NO_STREAM), "53 is another size, or a state that no stream leaves");
         must(same_state(fed_nothing[way].state, state), "nothing changes a state");
         must(!fed_nothing[way].ended && !fed_nothing[way].at && is_blank(&fed_nothing[way].entry), "and answers no unit");
         must(as_it_must(rest) && as_it_must(slots), "and changes nothing");
         ended[way] = finishes[strict](state, rest->is.at, size, words_of(slots->is), count);
-        must((ended[way].number == NO_STATE) == !left[way], "the end refuses what a part refuses");
+        must((ended[way].number == CK_NO_STREAM) == !left[way], "the end refuses what a part refuses");
         must(as_it_must(rest) && (left[way] || as_it_must(slots)), "and changes no byte of the buffer");
     }
     tally(fed_nothing[0].number);

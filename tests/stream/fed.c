@@ -144,8 +144,8 @@ static int probe_size(const fed *f, const uint8_t *part, size_t size) {
     static const size_t sizes[7] = {0, 1, 4097, 5227, CK_REST - 1, CK_REST + 1, CK_REST + GUARD};
     size_t rest_len = sizes[below(7)], count = some_slots[below(6)];
     ck_stream_answer must = nothing, is;
-    must.number = 53, must.state = f->state;
-    counted.numbers[53]++;
+    must.number = CK_NO_STREAM, must.state = f->state;
+    counted.numbers[CK_NO_STREAM]++;
     if (below(2)) is = feeders[below(2)](f->state, part, size, rest.is + GUARD, rest_len, lent_slots(), count);
     else is = finishers[below(2)](f->state, rest.is + GUARD, rest_len, lent_slots(), count);
     return holds(&is, &must);
@@ -213,7 +213,7 @@ void feed_stream(const stream *s, const size_t *ends, size_t parts, size_t from,
 
 void hold_state(const char *name, int left, ck_stream state, size_t rest_len, const uint8_t *part, size_t part_len, size_t count) {
     ck_stream_answer must = nothing;
-    must.number = left ? 0 : 53, must.state = state;
+    must.number = left ? CK_OK : CK_NO_STREAM, must.state = state;
     now.name = name, now.way = left ? "a state that is left" : "a state that no stream leaves", now.s = NULL, now.place = state.held;
     counted.states++;
     /* Two feeds of nothing; then, where the state is refused, two of a part and two ends. */

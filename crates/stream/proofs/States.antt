@@ -27,7 +27,7 @@ use Rattle.units.specs.declared.Framing.the-variants.{Both}
 use Rattle.units.specs.declared.State.{State}
 use Rattle.units.specs.Units.{stated, Whole, Rest, Sofar}
 use Rattle.units.specs.Kept.{isLong, stood, Keeps, Leaves, isKept}
-use Rattle.units.proofs.Streams.{rest-left, never-whole}
+use Rattle.units.proofs.Streams.{rest-left, never-whole, ends-one, goes-on as sofar-goes}
 use Rattle.units.proofs.States.{keeps-kept, kept-some}
 use Rattle.units.proofs.Calls.{ends-before}
 use Rattle.stream.specs.declared.Answer.{Answer}
@@ -38,7 +38,7 @@ use Rattle.stream.specs.Answers.{answerTold, answerOf}
 use Rattle.stream.specs.Feeding.{empty, stateOf, Given, Answered, FedOn, FeedDone, FinishDone, endOf}
 use Rattle.stream.specs.Streams.{Calls, StatesLeft}
 use Rattle.stream.proofs.Steps.{front-is, one-told}
-use Rattle.stream.proofs.Whole.{Stands, stands}
+use Rattle.stream.proofs.Whole.{Stands, stands, wants-keeps, ends-keeps}
 
 -- ---- the test and the streams
 
@@ -196,15 +196,48 @@ module _ (pieces : Pieces) where
       go false q = x .alien q .2
       go true q = let u = kept-some Both rest (st .held) (st .passed) q in by (x .fed q (u .0) (u .1 .0) (u .1 .1) .answered)
 
+  refused-slots-end : (rest slots : List ℕ) (st : State) (slots′ : List ℕ) (r : Finished) (k : ℕ) → FinishDone pieces rest slots st slots′ r → r .answer ≡ A.Refused k → slots′ ≡ slots
+  refused-slots-end rest slots st slots′ r k x e = go (isKept Both rest (st .held) (st .passed)) refl
+    where
+      go : (b : Bool) → isKept Both rest (st .held) (st .passed) ≡ b → slots′ ≡ slots
+      go false q = x .alien q .1
+      go true q = let u = kept-some Both rest (st .held) (st .passed) q in given-refused (x .ended q (u .0) (u .1 .0) (u .1 .1) .1) e
+
+  -- ---- from call to call
+
+  goes-on : (s rest : List ℕ) (st : State) → Bytes s → Leaves Both s rest (st .held) (st .passed) → (part slots rest′ slots′ : List ℕ) (r : Fed) → FeedDone pieces part rest slots st rest′ slots′ r → Leaves Both (s ++ take (r .at) part) rest′ (r .state .held) (r .state .passed)
+  goes-on s rest st b x part slots rest′ slots′ r done = go (f .answered)
+    where
+      f : FedOn pieces (x .since) part rest slots rest′ slots′ r
+      f = done .fed (keeps-kept Both (x .since) rest (st .held) (st .passed) (rest-left Both (x .so-far)) (sofar-bytes b (x .so-far) 1) (x .keeps)) (x .since) (rest-left Both (x .so-far)) (x .keeps)
+
+      go : Answered pieces (x .since ++ take (r .at) part) part slots slots′ r → Leaves Both (s ++ take (r .at) part) rest′ (r .state .held) (r .state .passed)
+      go (Answered.wants o at e g) =
+          record {
+            units = x .units;
+            since = x .since ++ take (r .at) part;
+            so-far = sofar-goes Both (take (r .at) part) (x .so-far) o;
+            keeps = wants-keeps (x .since ++ take (r .at) part) rest rest′ (r .state) (x .keeps .size) o e (f .buffer);
+          }
+      go (Answered.ends w e g) =
+          record {
+            units = x .units ++ ((x .since ++ take (r .at) part) ∷ []);
+            since = [];
+            so-far = ends-one Both (take (r .at) part) (x .so-far) w;
+            keeps = ends-keeps (x .since ++ take (r .at) part) rest rest′ (r .state) (x .keeps .size) w e (f .buffer);
+          }
+
 -- THE STATES THAT A STREAM LEAVES
 pub states-left : (pieces : Pieces) → StatesLeft pieces
 states-left pieces =
     record {
-      reached = λ room taken rest answers st c. let x = stands pieces room c in record { units = x .units; since = x .since; so-far = x .so-far; keeps = x .keeps };
+      reached = λ room taken rest answers values st c. let x = stands pieces room c in record { units = x .units; since = x .since; so-far = x .so-far; keeps = x .keeps };
+      goes-on = goes-on pieces;
       test-exactly = test-exactly;
       feed-53 = feed-53 pieces;
       finish-53 = finish-53 pieces;
       one-feed = one-feed pieces;
       one-finish = one-finish pieces;
       refused-slots = refused-slots pieces;
+      refused-slots-end = refused-slots-end pieces;
     }

@@ -7,3 +7,4 @@ pub mod Entries
 pub mod Whole
 pub mod States
 pub mod EachUnit
+pub mod Worked

@@ -1,6 +1,6 @@
 -- The first 65,539 bytes tell what a text is: a record's two-byte length reaches no further than 65,538 bytes, so a longer text is neither record nor line,
 -- and its number goes by its first byte. Assumes nothing.
-use Prim.Native.Nat.{ℕ, _≤_}
+use Prim.Native.Nat.{ℕ, _≤_, _<_}
 use mathlib.Core.Path.{_≡_, refl, sym, ap, _∙_}
 use mathlib.Core.Bool.{Bool, true, false, cond}
 use mathlib.Core.List.{List}
@@ -32,6 +32,21 @@ longNumber b = cond (eqb b 0xA1) 30 (cond (eqb b 35) 1 2)
 abbrev neither : ℕ → T.Told Grammar
 neither k = T.refused k
 
+-- a text of more than 4,096 bytes is no line, and its number goes by its first byte, whatever is lent
+pub overlong-line : (pieces : Pieces) (t : List ℕ) (room : ℕ) → 4096 < length t → parseOf pieces t room ≡ T.refused (cond (eqb (getD t 0 0) 35) 1 2)
+unfolding parseOf withFrame frameOf idle
+overlong-line pieces t room long = go (eqb (getD t 0 0) 35) refl
+  where
+    some : eqb (length t) 0 ≡ false
+    some = ne-eqb (length t) 0 (λ z. omega (arith, z, long))
+
+    more : eqb (length t) 1 ≡ false
+    more = ne-eqb (length t) 1 (λ z. omega (arith, z, long))
+
+    go : (b : Bool) → eqb (getD t 0 0) 35 ≡ b → parseOf pieces t room ≡ T.refused (cond b 1 2)
+    go true e = rw (some, e)
+    go false e = rw (some, more, e, lt-ltb 4096 (length t) long)
+
 module _ (pieces : Pieces) (t : List ℕ) (bytes : Bytes t) (long : 65539 ≤ length t) where
   -- no two-byte length is that of the rest
   long-unframed : framed t ≡ false
@@ -48,18 +63,7 @@ module _ (pieces : Pieces) (t : List ℕ) (bytes : Bytes t) (long : 65539 ≤ le
   long-record = rw (← not-framed t long-unframed)
 
   pub long-line : parseOf pieces t 256 ≡ T.refused (cond (eqb (getD t 0 0) 35) 1 2)
-  unfolding parseOf withFrame frameOf idle
-  long-line = go (eqb (getD t 0 0) 35) refl
-    where
-      some : eqb (length t) 0 ≡ false
-      some = ne-eqb (length t) 0 (λ z. omega (arith, z, long))
-
-      more : eqb (length t) 1 ≡ false
-      more = ne-eqb (length t) 1 (λ z. omega (arith, z, long))
-
-      go : (b : Bool) → eqb (getD t 0 0) 35 ≡ b → parseOf pieces t 256 ≡ T.refused (cond b 1 2)
-      go true e = rw (some, e)
-      go false e = rw (some, more, e, lt-ltb 4096 (length t) (omega (arith, long)))
+  long-line = overlong-line pieces t 256 (omega (arith, long))
 
   -- a text of 65,539 bytes or more is neither
   pub long-is-neither : whatOf pieces t ≡ T.refused (longNumber (getD t 0 0))

@@ -15,7 +15,7 @@ ghost use mathlib.Core.Path.{_≡_};
 ghost use Prim.Native.Nat.{_≤_};
 ghost use lib.ListN.{length};
 ghost use Rattle.units.specs.Feeding.{textLength};
-ghost use Rattle.stream.specs.Feeding.{UnitRead, TextRead, FeedDone, FinishDone, afterEnd};
+ghost use Rattle.stream.specs.Feeding.{empty, UnitRead, TextRead, FeedDone, FinishDone, afterEnd};
 
 // The entry of a unit, the number that refuses it or the call, or that no unit ended.
 pub enum Answer {
@@ -39,7 +39,7 @@ pub struct Finished {
 
 // A stream that has not begun.
 pub fn begun() -> State
-    ensures { λ r. ⌜ (r .held ≡ 0) × (r .passed ≡ 0) ⌝ }
+    ensures { λ r. ⌜ r ≡ empty ⌝ }
 {
     State { held: 0, passed: 0 }
 }
@@ -49,10 +49,12 @@ pub fn feed(state: State, pieces: Pieces, part: &[u8], rest: &mut [u8], slots: &
     ensures { λ r. ⌜ FeedDone pieces (now (part .entry)) (now (rest .entry)) (now (slots .entry)) state (now (rest .exit)) (now (slots .exit)) r ⌝ }
 {
     let fed = units::feed(Framing::Both, state, part, 0, rest);
-    let answer = read_unit(fed.unit, pieces, rest, slots);
+    let unit = fed.unit;
+    let state = fed.state;
+    let answer = read_unit(unit, pieces, rest, slots);
     Fed {
         at: fed.at,
-        state: fed.state,
+        state: state,
         answer: answer,
     }
 }

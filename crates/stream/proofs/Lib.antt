@@ -1,0 +1,3 @@
+-- The laws of a stream's answers.
+pub mod Reading
+pub mod Steps

@@ -27,10 +27,11 @@ module _ (f : Framing) where
   count-one u r e w (Sofar.begun x (Rest.some o)) = absurd (no-open f x u r o w e)
   count-one {v = v} u r e w (Sofar.behind x y {us = us} q z more) = let b = one-first-unit f x u y r q w (sym z ∙ e) in (us, (omega arith, subst (λ (l : List ℕ). Sofar f l us v) (b .1) more))
 
-  count-none : {s v : List ℕ} {us : List (List ℕ)} → Rest f s → Sofar f s us v → length us ≡ 0
-  count-none r (Sofar.begun x q) = refl
-  count-none (Rest.none n) (Sofar.behind x y q z more) = absurd (let h = whole-some f x q in omega (arith, h, ap length (sym z ∙ n), length-append x y))
-  count-none {s} (Rest.some o) (Sofar.behind x y q z more) = absurd (no-open f s x y o q z)
+  -- none has ended of a stream that is one open unit
+  pub none-ended : {s v : List ℕ} {us : List (List ℕ)} → Rest f s → Sofar f s us v → us ≡ []
+  none-ended r (Sofar.begun x q) = refl
+  none-ended (Rest.none n) (Sofar.behind x y q z more) = absurd (let h = whole-some f x q in omega (arith, h, ap length (sym z ∙ n), length-append x y))
+  none-ended {s} (Rest.some o) (Sofar.behind x y q z more) = absurd (no-open f s x y o q z)
 
   -- so many units end before a place, whatever is behind it
   pub record Counted (s : List ℕ) (n at : ℕ) : Type 0 where
@@ -60,13 +61,13 @@ module _ (f : Framing) where
       pub counting-stops : e .whole ≡ false → (us : List (List ℕ)) (v : List ℕ) → Sofar f s us v → n ≡ length us
       counting-stops q us v so =
           let a = x .counts us v so in
-          omega (arith, a .1 .0, count-none (Rest.some (y .open-is q)) (a .1 .1))
+          omega (arith, a .1 .0, ap length (none-ended (Rest.some (y .open-is q)) (a .1 .1)))
 
     pub counting-ends : length s ≤ at → (us : List (List ℕ)) (v : List ℕ) → Sofar f s us v → n ≡ length us
     counting-ends h us v so =
         let a = x .counts us v so in
         let z : at ≡ length s = omega (arith, x .within) in
-        omega (arith, a .1 .0, count-none (Rest.none (ap (λ (k : ℕ). drop k s) z ∙ drop-length s)) (a .1 .1))
+        omega (arith, a .1 .0, ap length (none-ended (Rest.none (ap (λ (k : ℕ). drop k s) z ∙ drop-length s)) (a .1 .1)))
 
   -- ---- where a unit ends
 

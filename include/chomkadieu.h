@@ -1,5 +1,5 @@
 /* Chomkadieu: USB4 trace lines and records as entries, entries as records, packets described by a book of fields, requests matched to their
- * responses, and why a hex number of a line was unreadable.
+ * responses, streams fed in parts, and why a hex number of a line was unreadable.
  *
  * Build the archive with `rt staticlib capi` (target/staticlib/libcapi.a, x86-64 Linux) and link it; of its surroundings it asks for memcpy and
  * memset alone.
@@ -60,7 +60,10 @@ enum {
     CK_SHORT_BUFFER = 36,     /* the lent buffer is too short for the record */
     CK_BAD_ENTRY = 37,        /* the entry is out of the record's ranges, or its parts lie outside what is lent */
     CK_TABLE_SIZE = 50,       /* the table of requests has no slot, or more than 64 */
-    CK_BROKEN_TABLE = 51      /* the waiting slots do not carry the ranks 1 to their number once each, or one of them has a route with its top bit set, or neither reads nor writes */
+    CK_BROKEN_TABLE = 51,     /* the waiting slots do not carry the ranks 1 to their number once each, or one of them has a route with its top bit set, or neither reads nor writes */
+    CK_NO_STREAM = 53,        /* the rest buffer is not of 8,192 bytes, or no stream leaves the kept state */
+    CK_CUT_RECORD = 54,       /* the stream ends inside a record */
+    CK_LONG_RECORD = 55       /* the record says that it has more than 5,227 bytes */
 };
 
 /* What an optional field says if it is absent, and a question if it has no answer. */
@@ -452,6 +455,54 @@ ck_count_answer ck_pending_waiting(const ck_slot *slots, size_t count);
 
 /* Where the k-th oldest of those that wait lies, for k from 1 to their number. Numbers 50, 51. */
 ck_place_answer ck_pending_oldest(const ck_slot *slots, size_t count, uint32_t k);
+
+/* ---- a stream fed in parts
+ *
+ * Uploads come in parts that cut lines and records. A unit that starts with byte A1 is a record of the length that it says; any other is a line and
+ * runs to its newline, which belongs to it, or to the stream's end. Feed the parts in their order. What is open between two calls is kept in a buffer
+ * of CK_REST bytes, which the caller lends each time as it was left, and in a ck_stream. However the stream is cut, also into empty parts, the answers
+ * are the same: those of its units, one by one. A line of more than 4,096 bytes is one answer, 1 if it starts with `#`, else 2, and a record that says more
+ * than CK_MOST_BYTES bytes is one, 55; what follows is read on. Where the end cuts another record the answer is 54.
+ *
+ *     ck_stream state = { 0, 0 };
+ *     for each part: for (size_t at = 0; at < length; at += answer.at, state = answer.state)
+ *         answer = ck_stream_feed(state, part + at, length - at, rest, CK_REST, slots, CK_MOST_DWORDS);
+ *     answer = ck_stream_finish(state, rest, CK_REST, slots, CK_MOST_DWORDS);
+ */
+
+/* The rest buffer has this size and no other. */
+enum { CK_REST = 8192 };
+
+/* What is kept of a stream between two calls, beside the rest buffer: zeros before the first call and after the last. Any bits are taken; 53 if no
+ * stream leaves them. */
+typedef struct ck_stream {
+    size_t held;           /* how many bytes of the open unit stand in the rest buffer, from its first */
+    size_t passed;         /* how many more of it were passed over */
+} ck_stream;
+
+/* What a call answers. */
+typedef struct ck_stream_answer {
+    uint8_t number;        /* 0; or the number that refuses the unit; or 53, and nothing has changed */
+    uint8_t ended;         /* 1 if a unit was answered, by its entry or its number; 0 if none has ended */
+    size_t at;             /* how many bytes of the part were taken */
+    ck_stream state;       /* for the next call */
+    ck_entry entry;        /* the entry, its task and function in the rest buffer; or a blank one */
+} ck_stream_answer;
+
+/* Takes bytes of the part up to the end of the next unit and answers it, its dwords in the first slots; or takes them all, and no unit ended. The unit
+ * stands in the rest buffer from its first byte: of a line 4,097 bytes at most, of a record that is 55 three; behind them the buffer is as found. A unit
+ * that is refused leaves the slots as found. A bad piece of a line's data refuses it: 18. Numbers 1 to 9, 11 to 18, 31 to 35, 53, 55. */
+ck_stream_answer ck_stream_feed(ck_stream state, const uint8_t *part, size_t part_len, uint8_t *rest, size_t rest_len, uint32_t *slots, size_t count);
+
+/* The same, but bad pieces are left out. Numbers 1 to 9, 11 to 17, 31 to 35, 53, 55. */
+ck_stream_answer ck_stream_feed_lenient(ck_stream state, const uint8_t *part, size_t part_len, uint8_t *rest, size_t rest_len, uint32_t *slots,
+                                        size_t count);
+
+/* The stream's end: answers the open unit, if there is one, and gives back a stream that has not begun. Numbers 1 to 9, 11 to 18, 53 to 55. */
+ck_stream_answer ck_stream_finish(ck_stream state, const uint8_t *rest, size_t rest_len, uint32_t *slots, size_t count);
+
+/* The same, but bad pieces are left out. Numbers 1 to 9, 11 to 17, 53 to 55. */
+ck_stream_answer ck_stream_finish_lenient(ck_stream state, const uint8_t *rest, size_t rest_len, uint32_t *slots, size_t count);
 
 /* ---- why a hex number was unreadable
  *

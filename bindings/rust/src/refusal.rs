@@ -82,6 +82,9 @@ refusals! {
     BadEntry = 37, "the entry is out of the record's ranges, or its parts lie outside what is lent";
     TableSize = 50, "the table of requests has no slot, or more than 64";
     BrokenTable = 51, "the waiting slots do not carry the ranks 1 to their number once each, or one of them has a route with its top bit set, or neither reads nor writes";
+    NoStream = 53, "the rest buffer is not of 8,192 bytes, or no stream leaves the kept state";
+    CutRecord = 54, "the stream ends inside a record";
+    LongRecord = 55, "the record says that it has more than 5,227 bytes";
 }
 
 impl Error for Refusal {}

@@ -5,3 +5,4 @@ pub mod EventNames
 pub mod OneAnswer
 pub mod HexTexts
 pub mod OneHex
+pub mod StreamAnswers

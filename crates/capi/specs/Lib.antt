@@ -4,3 +4,4 @@ pub mod Packets
 pub mod Told
 pub mod Requests
 pub mod Hexes
+pub mod Streams

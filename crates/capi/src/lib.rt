@@ -10,6 +10,7 @@
 //     fields                                   what the book says of a field; names
 //     hexes                                    why a hex number was unreadable
 //     requests                                 the table of requests
+//     streams                                  a stream fed in parts
 //     told                                     the answers as plain structs
 pub mod asked;
 pub mod described;
@@ -17,6 +18,7 @@ pub mod fields;
 pub mod hexes;
 pub mod packets;
 pub mod requests;
+pub mod streams;
 pub mod told;
 
 use book::Checked;
@@ -250,7 +252,7 @@ fn written_of(written: Written) -> WriteAnswer
 }
 
 // Stands where there is no entry: zeros, and no optional field.
-fn blank_entry() -> Flat
+pub fn blank_entry() -> Flat
     ensures { λ r. ⌜ r ≡ blankEntry ⌝ }
 {
     Flat {

@@ -29,7 +29,7 @@ bytes-more : (x : ℕ) (l : List ℕ) → x < 256 → Bytes l → Bytes (x ∷ l
 bytes-more x l h b zero = h
 bytes-more x l h b (suc i) = b i
 
-bytes-join : (a b : List ℕ) → Bytes a → Bytes b → Bytes (a ++ b)
+pub bytes-join : (a b : List ℕ) → Bytes a → Bytes b → Bytes (a ++ b)
 bytes-join [] b h k = k
 bytes-join (x ∷ a) b h k = bytes-more x (a ++ b) (h 0) (bytes-join a b (λ i. h (suc i)) k)
 

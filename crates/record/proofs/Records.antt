@@ -49,7 +49,7 @@ module _ (ds slots : List ℕ) where
   over-part = sym (part-in (over ds slots) 0 (length ds) (omega (arith, over-length))) ∙ take-append-seam ds (drop (length ds) slots)
 
 -- an entry that is read is the one of the text's fields
-entry-answered : (t : List ℕ) (n : ℕ) (e : Entry) → readOf t n ≡ T.is e → (refusalOf t ≡ 0) × (dwordCount t ≤ n) × (entryOf t ≡ e)
+pub entry-answered : (t : List ℕ) (n : ℕ) (e : Entry) → readOf t n ≡ T.is e → (refusalOf t ≡ 0) × (dwordCount t ≤ n) × (entryOf t ≡ e)
 unfolding readOf
 entry-answered t n e h =
     let w = value-behind (refusalOf t) (cond (leb (dwordCount t) n) (T.is (entryOf t)) (T.refused 35)) h in

@@ -40,7 +40,7 @@ module _ (f : Framing) where
   -- ---- no second answer
 
   -- of two places up to which a unit was read the first cannot be a unit's end and the second lie behind it
-  ends-before : (u s : List ℕ) (from a b : ℕ) → Rest f u → from ≤ a → a < b → b ≤ length s → Whole f (u ++ between s from a) → (Rest f (u ++ between s from b) → ⊥) × (Whole f (u ++ between s from b) → ⊥)
+  pub ends-before : (u s : List ℕ) (from a b : ℕ) → Rest f u → from ≤ a → a < b → b ≤ length s → Whole f (u ++ between s from a) → (Rest f (u ++ between s from b) → ⊥) × (Whole f (u ++ between s from b) → ⊥)
   ends-before u s from a b r up less within w = (not-open, not-whole)
     where
       on : u ++ between s from b ≡ (u ++ between s from a) ++ between s a b

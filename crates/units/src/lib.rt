@@ -32,6 +32,7 @@ pub enum Framing {
 }
 
 // How many bytes of the open unit stand in the buffer, and how many more of it were passed over.
+#[repr(C)]
 pub struct State {
     pub held: usize,
     pub passed: usize,

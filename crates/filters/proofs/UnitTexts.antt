@@ -31,7 +31,7 @@ use Rattle.filters.specs.declared.Counts.{Counts}
 use Rattle.filters.specs.declared.Run.{Run}
 use Rattle.filters.specs.declared.row.Seen.{Seen}
 use Rattle.filters.specs.declared.row.Seen.the-variants as S
-use Rattle.filters.specs.Texts.{seenBy, seenText, rowOf, recordBy, toldBy, lineTold, cutTold}
+use Rattle.filters.specs.Texts.{seenBy, seenLine, rowOf, recordBy, toldBy, lineTold, cutTold}
 use Rattle.filters.specs.Filter.{oneMore, counted, outBy, tellBy, lastOut, lastTold}
 use Rattle.filters.specs.Rows.{RowPut, Told, Recorded, RecordPut}
 use Rattle.filters.specs.Calls.{CutPut, LastPut}
@@ -39,12 +39,12 @@ use Rattle.filters.proofs.Parts.{put-none}
 
 -- what a row says, from the answer of a reader
 module _ {k : ℕ} (enough : k ≡ 256) where
-  pub text-entry : (u : List ℕ) {r : Scan.Answer} {e : Entry} → ScanParse.answerTold r ≡ parseOf Lenient u k → r ≡ SA.Entry e → S.Entry (e .kind) (e .dwords) ≡ seenText u
-  unfolding seenText seenBy
+  pub text-entry : (u : List ℕ) {r : Scan.Answer} {e : Entry} → ScanParse.answerTold r ≡ parseOf Lenient u k → r ≡ SA.Entry e → S.Entry (e .kind) (e .dwords) ≡ seenLine Lenient u
+  unfolding seenLine seenBy
   text-entry u a q = rw (← enough, ← a, q)
 
-  pub text-refused : (u : List ℕ) {r : Scan.Answer} {n : ℕ} → ScanParse.answerTold r ≡ parseOf Lenient u k → r ≡ SA.Refused n → S.Refused n ≡ seenText u
-  unfolding seenText seenBy
+  pub text-refused : (u : List ℕ) {r : Scan.Answer} {n : ℕ} → ScanParse.answerTold r ≡ parseOf Lenient u k → r ≡ SA.Refused n → S.Refused n ≡ seenLine Lenient u
+  unfolding seenLine seenBy
   text-refused u a q = rw (← enough, ← a, q)
 
   module _ (pieces : Pieces) (cut : Unit) (rest : List ℕ) {r : Answer} (a : answerTold r ≡ unitTold pieces cut rest k) where
@@ -72,8 +72,8 @@ seen-none q = rw q
 
 -- a line that was cut off
 module _ {cut : Unit} (rest : List ℕ) where
-  pub line-text : {n : ℕ} → cut ≡ U.Text n → {seen : Seen} → seen ≡ seenText (take n rest) → seen ≡ seenBy (lineTold cut rest)
-  unfolding lineTold seenText
+  pub line-text : {n : ℕ} → cut ≡ U.Text n → {seen : Seen} → seen ≡ seenLine Lenient (take n rest) → seen ≡ seenBy (lineTold cut rest)
+  unfolding lineTold seenLine
   line-text q e = e ∙ rw q
 
   pub line-fits : {n : ℕ} → cut ≡ U.Text n → textLength cut ≤ length rest → n ≤ length rest

@@ -4,8 +4,10 @@ use mathlib.Core.List.{List, []}
 use lib.ListN.{take}
 use Rattle.text.specs.Told.{Told, is, absent, refused}
 use Rattle.entry.specs.declared.Entry.{Entry}
+use Rattle.scan.specs.declared.Pieces.{Pieces}
 use Rattle.scan.specs.declared.Pieces.the-variants.{Lenient}
 use Rattle.scan.specs.Parse.{parseOf}
+use Rattle.record.specs.Reading.{readOf}
 use Rattle.listing_rows.specs.Rows.{refusedRow, entryRow}
 use Rattle.units.specs.declared.Framing.{Framing}
 use Rattle.units.specs.declared.Framing.the-variants as Framed
@@ -44,6 +46,13 @@ seenBy (refused k) = S.Refused k
 unfoldable pub seenOf : Filter → List ℕ → Seen
 seenOf f u = seenBy (answerBy f u)
 
+-- what a row says of a line by a choice, and of a record
+unfoldable pub seenLine : Pieces → List ℕ → Seen
+seenLine pieces u = seenBy (parseOf pieces u 256)
+
+unfoldable pub seenRecord : List ℕ → Seen
+seenRecord u = seenBy (readOf u 256)
+
 -- the n-th row
 unfoldable pub rowOf : ℕ → Seen → List ℕ
 rowOf n (S.Entry kind dwords) = entryRow n kind dwords
@@ -75,9 +84,6 @@ lineTold U.Long rest = absent
 lineTold U.Cut rest = absent
 lineTold U.Open rest = absent
 lineTold U.Alien rest = absent
-
-unfoldable pub seenText : List ℕ → Seen
-seenText u = seenBy (parseOf Lenient u 256)
 
 unfoldable pub cutTold : Filter → Unit → List ℕ → Told Entry
 cutTold F.Listing cut rest = lineTold cut rest

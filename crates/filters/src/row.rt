@@ -11,9 +11,10 @@ use units::Unit;
 ghost use mathlib.Core.Path.{_≡_};
 ghost use Prim.Native.Nat.{_+_, _≤_};
 ghost use lib.ListN.{length};
+ghost use Rattle.scan.specs.declared.Pieces.the-variants.{Lenient};
 ghost use Rattle.units.specs.Feeding.{textLength};
 ghost use Rattle.stream.specs.Feeding.{unitTold};
-ghost use Rattle.filters.specs.Texts.{seenBy, seenText, lineTold};
+ghost use Rattle.filters.specs.Texts.{seenBy, seenLine, lineTold};
 ghost use Rattle.filters.specs.Filter.{oneMore, counted};
 ghost use Rattle.filters.specs.Rows.{RowPut};
 
@@ -39,7 +40,7 @@ pub fn see_line(cut: Unit, unit: &[u8]) -> Seen
 }
 
 fn see_text(line: &[u8]) -> Seen
-    ensures { λ r. ⌜ r ≡ seenText (now (line .entry)) ⌝ }
+    ensures { λ r. ⌜ r ≡ seenLine Lenient (now (line .entry)) ⌝ }
 {
     let mut slots = [0u32; 256];
     match parse(line, Pieces::Lenient, &mut slots) {

@@ -175,7 +175,7 @@ module _ (f : Filter) where
         go (Next.wants e n so k) = rw e (omega arith)
         go (Next.ends e w so k) = rw e (omega (arith, text-kept (framingOf f) (first-u .0 ++ between s (run .from) (fed .at)), whole-fits (framingOf f) (first-u .0 ++ between s (run .from) (fed .at)) w, k .size))
 
-    still : isKept (framingOf f) unit₁ (fed .state .held) (fed .state .passed) ≡ true
+    pub still : isKept (framingOf f) unit₁ (fed .state .held) (fed .state .passed) ≡ true
     still = go (step (first-u .0) (first-u .1 .0) (first-u .1 .1))
       where
         go : Next (framingOf f) (first-u .0) [] (first-u .0) (between s (run .from) (fed .at)) s unit₁ fed → isKept (framingOf f) unit₁ (fed .state .held) (fed .state .passed) ≡ true

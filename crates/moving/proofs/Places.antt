@@ -22,7 +22,8 @@ use Rattle.filters.specs.declared.Filter.{Filter}
 use Rattle.filters.specs.declared.Filter.the-variants as F
 use Rattle.filters.specs.declared.Run.{Run}
 use Rattle.filters.specs.Bounds.{Room, Within, Goes}
-use Rattle.filters.specs.Calls.{Took}
+use Rattle.filters.specs.Texts.{framingOf}
+use Rattle.filters.specs.Calls.{Took, Finished}
 use Rattle.filters.proofs.Turns.{turn-fits, still, end-fits}
 use Rattle.channel.specs.declared.writing.Wrote.{Wrote}
 use Rattle.channel.specs.Moving.{Written}
@@ -62,8 +63,8 @@ pub ready : {f : Framing} {unit : List ℕ} {part out told : ℕ} {s r : State} 
 ready h m = record { from = omega (arith, m .from); ending = m .ending }
 
 -- a state with the same two numbers keeps the same unit
-pub kept-at : {f : Framing} {unit : List ℕ} {a b c d : ℕ} → c ≡ a → d ≡ b → isKept f unit a b ≡ true → isKept f unit c d ≡ true
-kept-at e g h = rw (e, g) h
+pub kept-at : (f : Framing) (unit : List ℕ) {a b c d : ℕ} → c ≡ a → d ≡ b → isKept f unit a b ≡ true → isKept f unit c d ≡ true
+kept-at f unit e g h = rw (e, g) h
 
 -- a stream that has not begun
 pub begun-kept : (f : Framing) (unit : List ℕ) → length unit ≡ 8192 → isKept f unit 0 0 ≡ true
@@ -71,7 +72,7 @@ begun-kept f unit size = keeps-kept f [] unit 0 0 (Rest.none refl) (omega arith)
 
 -- a state whose places are another's
 pub shut-fits : {f : Framing} {unit : List ℕ} {out told errno : ℕ} {s r : State} → Shut errno s r → Fits f unit out told s → Fits f unit out told r
-shut-fits a x = record { kept = kept-at (a .held) (a .passed) (x .kept); at = omega (arith, a .at, x .at); told-at = omega (arith, a .told-at, x .told-at) }
+shut-fits {f} {unit} a x = record { kept = kept-at f unit (a .held) (a .passed) (x .kept); at = omega (arith, a .at, x .at); told-at = omega (arith, a .told-at, x .told-at) }
 
 -- with room enough it fits
 pub ending-fits : {f : Framing} {unit : List ℕ} {out told : ℕ} {s : State} → Ending f unit out told s → Fits f unit out told s
@@ -79,7 +80,7 @@ ending-fits x = record { kept = x .kept; at = omega (arith, x .at); told-at = om
 
 -- ---- a filter's call
 
-module _ {f : Filter} {unit : List ℕ} {out told : ℕ} {s : State} {run : Run} (x : Ending (framingOf f) unit out told s) (a : Runs s run) where
+module _ (f : Filter) {unit : List ℕ} {out told : ℕ} {s : State} {run : Run} (x : Ending (framingOf f) unit out told s) (a : Runs s run) where
   pub run-kept : isKept (framingOf f) unit (run .state .held) (run .state .passed) ≡ true
   run-kept = rw (a .held, a .passed) at (x .kept)
 
@@ -87,14 +88,21 @@ module _ {f : Filter} {unit : List ℕ} {out told : ℕ} {s : State} {run : Run}
   run-room = record { at = omega (arith, a .at, x .at); told-at = omega (arith, a .told-at, x .told-at) }
 
 -- what a filter took is what the state took
-pub filter-went : {f : Filter} {l unit out told unit′ out′ told′ : List ℕ} {s r : State} {run run′ : Run} → Ready (framingOf f) (length l) unit (length out) (length told) s → Runs s run → Took f l unit out told run unit′ out′ told′ run′ → Within (length l) (length out) (length told) run run′ → Goes (length l) (length out) (length told) run run′ → Runs r run′ → Went (framingOf f) (length l) unit′ (length out) (length told) s r
-filter-went k a t w g b =
+pub filter-went : (f : Filter) {l unit out told unit′ out′ told′ : List ℕ} {s r : State} {run run′ : Run} → Ready (framingOf f) (length l) unit (length out) (length told) s → Runs s run → Took f l unit out told run unit′ out′ told′ run′ → Within (length l) (length out) (length told) run run′ → Goes (length l) (length out) (length told) run run′ → Runs r run′ → Went (framingOf f) (length l) unit′ (length out) (length told) s r
+filter-went f k a t w g b =
     let on = g (omega (arith, a .from, k .from)) (omega (arith, a .at, k .ending .at)) (omega (arith, a .told-at, k .ending .told-at)) in
     record {
       up = omega (arith, a .from, b .from);
       within = omega (arith, w .from-within, b .from);
       fits = record { kept = rw (b .held, b .passed) (t .kept); at = omega (arith, w .at-within, b .at); told-at = omega (arith, w .told-within, b .told-at) };
     }
+
+-- what the end put out lies in the buffers
+pub finish-within : (f : Filter) {unit out told out′ told′ : List ℕ} {run r : Run} → isKept (framingOf f) unit (run .state .held) (run .state .passed) ≡ true → Finished f unit out told run out′ told′ r → (r .at ≤ length out) × (r .told ≤ length told)
+finish-within f {unit} {run = run} kept x =
+    let u = kept-some (framingOf f) unit (run .state .held) (run .state .passed) kept in
+    let e = x (u .0) (u .1 .0) (u .1 .1) in
+    (omega (arith, e .put .place, e .put .fits), omega (arith, e .tells .place, e .tells .fits))
 
 -- ---- what is shown
 
@@ -119,7 +127,7 @@ ended-fits unit held passed kept cut d = end-fits (F.Unpack Strict) unit (runOf 
 
 -- what was shown leaves what is open as it was
 pub shown-fits : {f : Framing} {unit : List ℕ} {out told : ℕ} {s r : State} → isKept f unit (s .held) (s .passed) ≡ true → s .told ≤ told → Shown out s r → Fits f unit out told r
-shown-fits k h x = record { kept = kept-at (x .held) (x .passed) k; at = x .at; told-at = omega (arith, x .told-at, h) }
+shown-fits {f} {unit} k h x = record { kept = kept-at f unit (x .held) (x .passed) k; at = x .at; told-at = omega (arith, x .told-at, h) }
 
 -- what was written of a front, by the front's length
 pub written-front : (l : List ℕ) (at : ℕ) {w : Wrote} → at ≤ length l → Written (length (take at l)) w → Written at w

@@ -98,20 +98,20 @@ fn say_of_packet(out: &mut [u8], sink: Sink, number: u8) -> Sink {
 
 fn say_of_record(out: &mut [u8], sink: Sink, number: u8) -> Sink {
     match number {
-        31 => say(out, sink, b"a field of the record runs past its end"),
+        31 => say(out, sink, b"a field of the record runs past the end"),
         32 => say(
             out,
             sink,
             b"a tag of the record is unknown, repeated or not ascending",
         ),
-        33 => say(out, sink, b"the record lacks a required tag"),
-        34 => say(
+        33 => say(out, sink, b"a required tag of the record is missing"),
+        34 => say(out, sink, b"the body of a record's field breaks its rule"),
+        54 => say(out, sink, b"the stream ends inside a record"),
+        55 => say(
             out,
             sink,
-            b"a field of the record has a wrong length, number or text",
+            b"the record says that it has more than 5,227 bytes",
         ),
-        54 => say(out, sink, b"the end of the input cuts the record"),
-        55 => say(out, sink, b"the record says more than 5,227 bytes"),
         _ => say(out, sink, b"refused"),
     }
 }

@@ -7,7 +7,7 @@
  * Every call takes any input. It keeps no memory, makes none, and writes only what is lent to it for writing. A slice is a pointer and the
  * number of its elements; the pointer is valid for that many, also for none (not NULL), and what is lent for writing overlaps nothing else that
  * is lent. Slots, places, codes and bytes are written from the first on, as many as the answer says, and no others
- * (ck_packet_all says where its places stand).
+ * (ck_packet_all says where its places stand, ck_stream_feed what is written of its buffer).
  * Within that, each call is proved to answer as said here: the contracts stand in crates/capi/src, their definitions in
  * crates/capi/specs and crates/c_entry/specs/Flat.antt.
  */
@@ -21,8 +21,9 @@
 extern "C" {
 #endif
 
-/* A number of 0 is success. All others say why there is no answer, and then all that was lent is as it was found. Of several the first is told;
- * 18 comes after 15 and before 16. 10 stands for nothing: no call answers it. */
+/* A number of 0 is success. All others say why there is no answer, and then all that was lent is as it was found; only a stream's rest buffer has the
+ * refused unit in it (ck_stream_feed). Of several the first is told; 18 comes after 15 and before 16, 55 before 54. 10 stands for nothing: no call answers
+ * it. */
 enum {
     CK_OK = 0,
     CK_IDLE = 1,              /* the line is empty, a newline alone, or a comment */
@@ -62,7 +63,7 @@ enum {
     CK_TABLE_SIZE = 50,       /* the table of requests has no slot, or more than 64 */
     CK_BROKEN_TABLE = 51,     /* the waiting slots do not carry the ranks 1 to their number once each, or one of them has a route with its top bit set, or neither reads nor writes */
     CK_NO_STREAM = 53,        /* the rest buffer is not of 8,192 bytes, or no stream leaves the kept state */
-    CK_CUT_RECORD = 54,       /* the stream ends inside a record */
+    CK_CUT_RECORD = 54,       /* the stream ends inside a record that is not 55 */
     CK_LONG_RECORD = 55       /* the record says that it has more than 5,227 bytes */
 };
 
@@ -464,10 +465,14 @@ ck_place_answer ck_pending_oldest(const ck_slot *slots, size_t count, uint32_t k
  * are the same: those of its units, one by one. A line of more than 4,096 bytes is one answer, 1 if it starts with `#`, else 2, and a record that says more
  * than CK_MOST_BYTES bytes is one, 55; what follows is read on. Where the end cuts another record the answer is 54.
  *
- *     ck_stream state = { 0, 0 };
- *     for each part: for (size_t at = 0; at < length; at += answer.at, state = answer.state)
- *         answer = ck_stream_feed(state, part + at, length - at, rest, CK_REST, slots, CK_MOST_DWORDS);
- *     answer = ck_stream_finish(state, rest, CK_REST, slots, CK_MOST_DWORDS);
+ *     ck_stream_answer a = { 0 };
+ *     for each part: for (size_t at = 0; at < length && a.number != CK_NO_STREAM; at += a.at) {
+ *         a = ck_stream_feed(a.state, part + at, length - at, rest, CK_REST, slots, CK_MOST_DWORDS);
+ *         if (a.ended) take the entry, or the number
+ *     }
+ *     a = ck_stream_finish(a.state, rest, CK_REST, slots, CK_MOST_DWORDS), and once more if (a.ended)
+ *
+ * 53 takes nothing, so a loop over a part must end with it. ck_record_write takes the rest buffer as the entry's text.
  */
 
 /* The rest buffer has this size and no other. */
@@ -477,7 +482,7 @@ enum { CK_REST = 8192 };
  * stream leaves them. */
 typedef struct ck_stream {
     size_t held;           /* how many bytes of the open unit stand in the rest buffer, from its first */
-    size_t passed;         /* how many more of it were passed over */
+    size_t passed;         /* of a record that is 55, how many bytes behind its third were passed over; else 0 */
 } ck_stream;
 
 /* What a call answers. */

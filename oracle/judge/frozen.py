@@ -1,4 +1,4 @@
-"""The frozen sample: chosen lines, books, packets, records, histories and reasons with their answers, made again from a seed."""
+"""The frozen sample: chosen lines, books, packets, records, histories, reasons and streams with their answers, made again from a seed."""
 
 import struct
 from collections import Counter
@@ -9,11 +9,11 @@ from generate import short
 from generate.broken import RULES
 from generate.seed import Seed, frame
 from generate.tree import encoded
-from judge import chosen, chosen_books, chosen_reasons, chosen_records
+from judge import chosen, chosen_books, chosen_reasons, chosen_records, chosen_streams
 from judge.differ import group, line_frame
 from judge.lines import CODE_38, beyond, by_rust, strictly
 from judge.tally import ask
-from reading import book as book_reading, line as line_reading, packet as packet_reading, pending, reasons, record as record_reading
+from reading import book as book_reading, line as line_reading, packet as packet_reading, pending, reasons, record as record_reading, stream
 
 SEED = 2024
 SLOTS = 256
@@ -324,3 +324,13 @@ def freeze_reasons(origin):
     answers = [reasons.answer(line) for line in cases]
     origin["the reading"] = len(answers)
     return {"reasons.bin": b"".join(map(frame, cases)), "reasons.txt": text(answers)}, answers
+
+
+# Streams
+
+def freeze_stream(origin):
+    """The Rust takes no stream, so the reading answers all: the units of each stream, and each state."""
+    cases = list(chosen_streams.frames())
+    answers = [stream.answer(data) for data in cases]
+    origin["the reading"] = len(answers)
+    return {"stream.bin": b"".join(map(frame, cases)), "stream.txt": text(answers)}, answers

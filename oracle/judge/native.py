@@ -61,6 +61,14 @@ class HexAnswer(ctypes.Structure):
         ("at", ctypes.c_size_t), ("len", ctypes.c_size_t)]
 
 
+class State(ctypes.Structure):
+    _fields_ = [("held", ctypes.c_size_t), ("passed", ctypes.c_size_t)]
+
+
+class StreamAnswer(ctypes.Structure):
+    _fields_ = [("number", ctypes.c_uint8), ("ended", ctypes.c_uint8), ("at", ctypes.c_size_t), ("state", State), ("entry", Entry)]
+
+
 class Lent:
     """Memory for writing between two guards, all of it marked."""
 

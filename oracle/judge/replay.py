@@ -1,6 +1,6 @@
-"""Replays the frozen sample: python3 replay.py FOLDER_OF_READING FROZEN lines|packets|records|histories|reasons
+"""Replays the frozen sample: python3 replay.py FOLDER_OF_READING FROZEN lines|packets|records|histories|reasons|stream
 
-Prints how many answers differ, of lines, of packets and books, of records, of histories, or of reasons. A crash counts as another answer.
+Prints how many answers differ, of lines, of packets and books, of records, of histories, of reasons, or of streams. A crash counts as another answer.
 """
 
 import os
@@ -115,7 +115,19 @@ def replay_reasons(folder):
     return differing(cases, reason_answers(folder), reasons.answer)
 
 
-REPLAYS = {"lines": replay_lines, "packets": replay_packets, "records": replay_records, "histories": replay_histories, "reasons": replay_reasons}
+def stream_answers(folder):
+    """The rows of each stream, of which the last says what is kept; and of each state, which has one."""
+    return in_groups(answers(folder, "stream.txt"), lambda row: row.startswith(("kept ", "state ")))
+
+
+def replay_stream(folder):
+    from reading import stream
+    cases = [(data,) for data in frames(load(folder, "stream.bin"))]
+    return differing(cases, stream_answers(folder), stream.answer)
+
+
+REPLAYS = {"lines": replay_lines, "packets": replay_packets, "records": replay_records, "histories": replay_histories, "reasons": replay_reasons,
+           "stream": replay_stream}
 
 
 def main():

@@ -449,6 +449,7 @@ int main(int count, char **words) {
     every_field(book, book_len);
     every_piece(book, book_len);
     every_request();
+    every_stream();
     every_reason();
     printf("%u passed, %u failed\n", passed, failed);
     return failed != 0;

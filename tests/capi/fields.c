@@ -90,9 +90,30 @@ static void hex_texts(void) {
     see(none.number == CK_NO_COLON && none.what == CK_HEX_ABSENT && none.value == 0 && none.bad == 0 && none.at == 0 && none.len == 0, "and of its refusal");
 }
 
+/* A line's entry, an overlong record on its way, and a state that is none. */
+static void streams(void) {
+    static uint8_t rest[CK_REST];
+    uint32_t slots[16];
+    static const uint8_t record[] = "\xa1\xff\xff 1234567";
+    ck_stream none = {0, 0}, alien = {5, 6};
+    ck_stream_answer open = ck_stream_feed(none, (const uint8_t *)LINE, sizeof LINE - 1, rest, CK_REST, slots, 16);
+    see(open.number == CK_OK && open.ended == 0 && open.at == sizeof LINE - 1 && open.state.held == open.at && open.state.passed == 0 &&
+            open.entry.task_len == 0 && open.entry.offset == CK_NONE,
+        "each field of an open line's ck_stream_answer");
+    ck_stream_answer a = ck_stream_feed(open.state, (const uint8_t *)"\nx", 2, rest, CK_REST, slots, 16);
+    see(a.number == CK_OK && a.ended == 1 && a.at == 1 && a.state.held == 0 && a.state.passed == 0 && is_line_entry(a.entry), "and of its entry's");
+    a = ck_stream_feed(none, record, sizeof record - 1, rest, CK_REST, slots, 16);
+    see(a.number == CK_OK && a.ended == 0 && a.at == 11 && a.state.held == 3 && a.state.passed == 8, "each field of ck_stream");
+    a = ck_stream_finish(a.state, rest, CK_REST, slots, 16);
+    see(a.number == CK_LONG_RECORD && a.ended == 1 && a.at == 0 && a.state.held == 0 && a.state.passed == 0, "and at the end");
+    a = ck_stream_feed(alien, record, sizeof record - 1, rest, CK_REST, slots, 16);
+    see(a.number == CK_NO_STREAM && a.ended == 0 && a.at == 0 && a.state.held == 5 && a.state.passed == 6 && a.entry.unplug == CK_NONE, "and of 53");
+}
+
 void every_field(const uint8_t *book, size_t book_len) {
     entries();
     packets(book, book_len);
     answers(book, book_len);
+    streams();
     hex_texts();
 }

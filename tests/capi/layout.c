@@ -116,6 +116,18 @@ static void table_rows(void) {
     FIELD(ck_place_answer, place);
 }
 
+static void stream_rows(void) {
+    STRUCT(ck_stream);
+    FIELD(ck_stream, held);
+    FIELD(ck_stream, passed);
+    STRUCT(ck_stream_answer);
+    FIELD(ck_stream_answer, number);
+    FIELD(ck_stream_answer, ended);
+    FIELD(ck_stream_answer, at);
+    FIELD(ck_stream_answer, state);
+    FIELD(ck_stream_answer, entry);
+}
+
 static void hex_rows(void) {
     STRUCT(ck_hex_answer);
     FIELD(ck_hex_answer, number);
@@ -134,6 +146,7 @@ void every_offset(const char *path) {
     entry_rows();
     packet_rows();
     table_rows();
+    stream_rows();
     hex_rows();
     int same = size == used && !memcmp(rows, promised, used);
     see(same, "each field lies where layout.txt says");

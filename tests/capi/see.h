@@ -17,6 +17,9 @@ void every_piece(const uint8_t *book, size_t book_len);
 /* pending.c: the table of requests. */
 void every_request(void);
 
+/* stream.c: a stream fed in parts. */
+void every_stream(void);
+
 /* hexes.c: why a hex number was unreadable. */
 void every_reason(void);
 

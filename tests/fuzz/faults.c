@@ -212,3 +212,81 @@ ck_entry_answer __wrap_ck_parse(const uint8_t *line, size_t len, uint32_t *slots
     if (is("the guard behind") && guarded) poke(slots + count);
     return a;
 }
+
+/* ---- streams */
+
+#define FEED ck_stream state, const uint8_t *part, size_t part_len, uint8_t *rest, size_t rest_len, uint32_t *slots, size_t count
+#define END ck_stream state, const uint8_t *rest, size_t rest_len, uint32_t *slots, size_t count
+
+ck_stream_answer __real_ck_stream_feed_lenient(FEED);
+ck_stream_answer __wrap_ck_stream_feed_lenient(FEED);
+ck_stream_answer __wrap_ck_stream_feed_lenient(FEED) {
+    ck_stream_answer a = __real_ck_stream_feed_lenient(state, part, part_len, rest, rest_len, slots, count);
+    if (is("ck_stream_feed_lenient")) a.entry.seq ^= 1;
+    return a;
+}
+
+/* A refused unit: its answer, its slots, and what comes behind it. */
+static void put_refused(ck_stream_answer *a, ck_stream state, uint32_t *slots, size_t count) {
+    if (is("a slot after a refused unit") && count) slots[0] ^= 1;
+    if (is("a refused unit stays open")) a->state = state;
+    if (is("an entry with a refused unit")) a->entry.kind = 1;
+    if (is("54 for 55") && a->number == CK_LONG_RECORD) a->number = CK_CUT_RECORD;
+    if (is("30 for 54") && a->number == CK_CUT_RECORD) a->number = CK_NO_RECORD;
+}
+
+/* What memory and state a call of a part could get wrong. */
+static void put_stray(ck_stream_answer *a, ck_stream before, const uint8_t *part, uint8_t *rest) {
+    if (is("a byte behind what is kept") && a->state.held && a->state.held < CK_REST) rest[a->state.held] ^= 1;
+    if (is("a byte that is kept") && a->state.held) rest[a->state.held - 1] ^= 1;
+    if (is("the buffer is cleared behind a unit") && a->ended) rest[0] = 0;
+    if (is("one byte of a line is kept too few") && a->state.held == 4097) a->state.held--;
+    if (is("what passed is forgotten")) a->state.passed = 0;
+    if (is("a newline behind a record is taken with it") && a->ended && rest[0] == 0xa1 && part[a->at - 1] != '\n') a->at++;
+    if (is("an answer that hangs on the cut") && a->ended && before.held == 2) a->number ^= 1;
+    if (is("a unit is answered one call late") && a->ended && a->at == 1) a->ended = 0;
+}
+
+ck_stream_answer __real_ck_stream_feed(FEED);
+ck_stream_answer __wrap_ck_stream_feed(FEED);
+ck_stream_answer __wrap_ck_stream_feed(FEED) {
+    ck_stream before = state;
+    size_t told = is("another size let through") ? CK_REST : rest_len;
+    if (is("a state that no stream leaves let through") && state.held > CK_MOST_BYTES) state = (ck_stream){0, 0};
+    ck_stream_answer a = __real_ck_stream_feed(state, part, part_len + is("part longer than lent"), rest, told, slots,
+                                               count + is("slots for a stream more than lent"));
+    int guarded = second();
+    if (is("ck_stream_feed")) a.entry.seq ^= 1;
+    if (a.number == CK_NO_STREAM) {
+        if (is("a byte after 53") && rest_len) rest[rest_len - 1] ^= 1;
+        if (is("a slot after 53") && count) slots[0] ^= 1;
+        if (is("53 changes the state")) a.state = (ck_stream){0, 0};
+        return a;
+    }
+    if (a.number) put_refused(&a, state, slots, count);
+    put_stray(&a, before, part, rest);
+    if (is("the guard before the buffer") && guarded) poke(rest - 1);
+    if (is("the guard behind the buffer") && guarded) poke(rest + rest_len);
+    if (is("what the buffer held") && !a.ended && a.state.held < CK_REST) a.entry.pid ^= rest[CK_REST - 1];
+    return a;
+}
+
+ck_stream_answer __real_ck_stream_finish(END);
+ck_stream_answer __wrap_ck_stream_finish(END);
+ck_stream_answer __wrap_ck_stream_finish(END) {
+    ck_stream_answer a = __real_ck_stream_finish(state, rest, rest_len, slots, count);
+    if (is("ck_stream_finish")) a.entry.seq ^= 1;
+    if (a.number && a.number != CK_NO_STREAM) put_refused(&a, state, slots, count);
+    if (is("the end answers nothing")) a.ended = 0;
+    if (is("the end changes the buffer") && state.held && rest_len) poke((uint8_t *)(uintptr_t)rest);
+    return a;
+}
+
+ck_stream_answer __real_ck_stream_finish_lenient(END);
+ck_stream_answer __wrap_ck_stream_finish_lenient(END);
+ck_stream_answer __wrap_ck_stream_finish_lenient(END) {
+    ck_stream_answer a = __real_ck_stream_finish_lenient(state, rest, rest_len, slots, count);
+    if (is("ck_stream_finish_lenient")) a.entry.seq ^= 1;
+    if (is("the end reads strictly")) a = __real_ck_stream_finish(state, rest, rest_len, slots, count);
+    return a;
+}

@@ -17,7 +17,8 @@ typedef struct part {
     size_t len;
 } part;
 
-/* Which parts a target reads, as bits; each target says it, and shape.c changes no others. */
+/* Which parts a target reads, as bits; each target says it, and shape.c changes no others. IS_STREAM says that the text is a stream of units. */
+enum { IS_STREAM = 1 << PARTS };
 extern const unsigned used_parts;
 
 static inline size_t word_at(const uint8_t *at) { return at[0] + 256u * at[1]; }
@@ -120,7 +121,7 @@ static inline int done(void) {
 
 /* ---- memory that is lent for writing: filled with marks, once in a block of exactly the size, once between guards with other marks */
 
-enum { GUARD = 64, MOST_LENT = 8192, EXACT = 0, GUARDED = 1, WAYS = 2 };
+enum { GUARD = 64, MOST_LENT = CK_REST + GUARD, EXACT = 0, GUARDED = 1, WAYS = 2 };
 
 typedef struct room {
     uint8_t *base, *at;

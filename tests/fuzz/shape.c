@@ -1,12 +1,17 @@
-/* How inputs are changed: part by part, and books and records field by field with the lengths around a change made right, so that many of them are
- * accepted. */
+/* How inputs are changed: part by part, books and records field by field with the lengths around a change made right, so that many of them are
+ * accepted, and streams unit by unit. */
 #include "fuzz.h"
 
 size_t LLVMFuzzerMutate(uint8_t *data, size_t size, size_t most);
 
-enum { MOST_NODES = 8192, MOST_PART = 66000, DEEPEST = 5, LEAF = -1, TOP = -1 };
+enum { MOST_NODES = 8192, MOST_PART = 66000, MOST_STREAM = 12000, DEEPEST = 5, LEAF = -1, TOP = -1 };
 
-static const size_t most_of[PARTS] = {128, 300, 1040, 1040, 5300, MOST_PART};
+static int is_stream(void) { return (used_parts & IS_STREAM) != 0; }
+
+static size_t most_of(int part) {
+    static const size_t most[PARTS] = {128, 300, 1040, 1040, 5300, MOST_PART};
+    return part == TEXT && is_stream() ? MOST_STREAM : most[part];
+}
 
 static struct {
     uint8_t bytes[MOST_PART];
@@ -66,7 +71,7 @@ static int pick_node(uint8_t tag, uint8_t other) {
 /* Puts bytes, which lie elsewhere, in place of a stretch, and makes the lengths of all fields around it right. */
 static void splice(int part, size_t from, size_t to, const uint8_t *with, size_t len, int around) {
     uint8_t *bytes = now[part].bytes;
-    if (now[part].len - (to - from) + len > most_of[part]) return;
+    if (now[part].len - (to - from) + len > most_of(part)) return;
     memmove(bytes + from + len, bytes + to, now[part].len - to);
     if (len) memcpy(bytes + from, with, len);
     now[part].len += len - (to - from);
@@ -273,9 +278,80 @@ static void change_record(void) {
     }
 }
 
+/* ---- changes of a stream */
+
+/* Where the unit at a place of the stream ends. */
+static size_t unit_end(size_t at) {
+    const uint8_t *from = now[TEXT].bytes + at;
+    size_t left = now[TEXT].len - at, size = left;
+    const uint8_t *newline = memchr(from, '\n', left);
+    if (*from != 0xa1 && newline) size = (size_t)(newline - from) + 1;
+    if (*from == 0xa1 && left >= 3) size = 3 + word_at(from + 1);
+    return at + (size < left ? size : left);
+}
+
+/* A good line, one with a bad piece, an empty one, a comment, no entry; now and then one around the longest. */
+static size_t make_line(uint8_t *to) {
+    static const char *const lines[] = {
+        "a-1 [002] 1.2: f: type=t size=3 domain=0 route=0 data=[1]\n", "a-1 [002] 1.2: f: type=t size=3 domain=0 route=0 data=[1, z]\n", "\n", "#\n",
+        "x\n"};
+    const char *line = lines[below(5)];
+    size_t len = strlen(line);
+    memcpy(to, line, len);
+    if (below(8)) return len;
+    len = 4090 + below(12);
+    memset(to, 'x', len);
+    to[0] = below(2) ? '#' : 'x', to[len - 1] = '\n';
+    return len;
+}
+
+/* A good record, or one that says a length around the bounds. */
+static size_t make_record(uint8_t *to) {
+    size_t len = 0;
+    if (below(3)) {
+        for (uint8_t tag = 1; tag <= 19; tag++)
+            if (tag < 12 || tag == 19 || below(2)) len += make_field(to + 3 + len, tag);
+        return framed(to, 0xa1, len);
+    }
+    static const uint16_t bounds[4] = {0, 5227 - 3, 8192, 65535};
+    uint16_t says = (uint16_t)(bounds[below(4)] + below(5) - 2);
+    len = says < 6000 ? says : below(20);
+    memset(to + 3, below(2) ? '\n' : 'x', len);
+    framed(to, 0xa1, says);
+    return 3 + len;
+}
+
+/* Other bytes for a unit; a record mostly says its length again. */
+static void change_unit(size_t from, size_t to) {
+    size_t len = to - from;
+    memcpy(scratch, now[TEXT].bytes + from, len);
+    len = LLVMFuzzerMutate(scratch, len, len + 40);
+    if (len >= 3 && scratch[0] == 0xa1 && below(8)) framed(scratch, 0xa1, len - 3);
+    splice(TEXT, from, to, scratch, len, TOP);
+}
+
+static void change_stream(void) {
+    size_t from = 0, to = 0, place = now[TEXT].len ? below((uint32_t)now[TEXT].len) : 0, len;
+    while (to < now[TEXT].len && (to = unit_end(from)) <= place) from = to;
+    switch (below(6)) {
+    case 0: splice(TEXT, from, to, NULL, 0, TOP); break;
+    case 1:
+    case 2:
+        len = below(2) ? make_line(scratch) : make_record(scratch);
+        splice(TEXT, from, below(4) ? from : to, scratch, len, TOP);
+        break;
+    case 3:
+        len = to - from;
+        memcpy(scratch, now[TEXT].bytes + from, len);
+        splice(TEXT, to, to, scratch, len, TOP);
+        break;
+    default: change_unit(from, to);
+    }
+}
+
 /* ---- changes of one part */
 
-static void change_bytes(int part) { now[part].len = LLVMFuzzerMutate(now[part].bytes, now[part].len, most_of[part]); }
+static void change_bytes(int part) { now[part].len = LLVMFuzzerMutate(now[part].bytes, now[part].len, most_of(part)); }
 
 /* A UUID of the book among the dwords, where its `UUID` fields may stand. */
 static void put_uuid(void) {
@@ -290,7 +366,7 @@ static void put_uuid(void) {
 static void put_name(void) {
     int n = pick_node(4, 7);
     size_t skip = n != TOP && nodes[n].tag == 7 ? 7 : 3;
-    if (n == TOP || nodes[n].end - nodes[n].at - 3 > most_of[NAME] || nodes[n].end - nodes[n].at < skip || !below(4)) {
+    if (n == TOP || nodes[n].end - nodes[n].at - 3 > most_of(NAME) || nodes[n].end - nodes[n].at < skip || !below(4)) {
         now[NAME].len = make_name(now[NAME].bytes);
         return;
     }
@@ -307,7 +383,7 @@ static void put_place(void) {
     for (size_t i = 0; i < 4; i++) now[PLACES].bytes[at + i] = (uint8_t)(nodes[n].at >> 8 * i);
 }
 
-static int is_record(void) { return now[TEXT].len && now[TEXT].bytes[0] == 0xa1; }
+static int is_record(void) { return !is_stream() && now[TEXT].len && now[TEXT].bytes[0] == 0xa1; }
 
 static void change(int part) {
     int by_book = (part == DWORDS || part == NAME || part == PLACES) && used_parts >> BOOK & 1 && below(2);
@@ -316,6 +392,7 @@ static void change(int part) {
     else if (by_book && part == NAME) put_name();
     else if (by_book) put_place();
     else if (part == BOOK && below(4)) change_book();
+    else if (part == TEXT && is_stream() && below(4)) change_stream();
     else if (is_record() && part == TEXT && below(8)) change_record();
     else change_bytes(part);
     if (part == TEXT && is_record() && below(8)) set_frame();
@@ -324,7 +401,7 @@ static void change(int part) {
 /* ---- an input and its parts */
 
 static void take(int which, part p) {
-    now[which].len = p.len < most_of[which] ? p.len : most_of[which];
+    now[which].len = p.len < most_of(which) ? p.len : most_of(which);
     if (p.len) memcpy(now[which].bytes, p.at, now[which].len);
 }
 

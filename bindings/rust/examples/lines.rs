@@ -2,7 +2,9 @@
 //! `cargo run --example lines lenient < samples/desk.txt`, pieces of `data` that are no dwords are left out and do not refuse their line.
 use chomkadieu::{Entry, MOST_DWORDS};
 use std::env;
-use std::io::{self, BufRead, Write};
+use std::io::{self, BufRead};
+
+mod rows;
 
 fn main() -> io::Result<()> {
     let lenient = env::args().nth(1).is_some_and(|word| word == "lenient");
@@ -16,37 +18,8 @@ fn main() -> io::Result<()> {
         } else {
             Entry::parse(&line, &mut slots)
         };
-        match entry {
-            Ok(entry) => show(&mut out, &entry)?,
-            Err(refusal) => writeln!(out, "refused {}: {refusal}", refusal.number())?,
-        }
+        rows::row(&mut out, entry)?;
         line.clear();
     }
     Ok(())
-}
-
-fn show(out: &mut impl Write, entry: &Entry) -> io::Result<()> {
-    let time = entry.timestamp();
-    write!(
-        out,
-        "{} {}-{} cpu {} ",
-        time.seconds,
-        entry.task(),
-        entry.pid(),
-        entry.cpu()
-    )?;
-    write!(
-        out,
-        "{}: {}, route {:x}",
-        entry.function(),
-        entry.pdf(),
-        entry.route()
-    )?;
-    if let Some(event) = entry.event() {
-        write!(out, ", event {event}")?;
-    }
-    if let Some(adapter) = entry.adapter_num() {
-        write!(out, ", adapter {adapter}")?;
-    }
-    writeln!(out, ", data {:08x?}", entry.data())
 }

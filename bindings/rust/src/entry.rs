@@ -60,12 +60,16 @@ impl<'t, 's> Entry<'t, 's> {
 
     fn by(reader: Reader, text: &'t [u8], slots: &'s mut [u32]) -> Result<Self, Refusal> {
         let raw = reader(text, slots).map_err(Refusal::from_number)?;
-        let slots: &'s [u32] = slots;
-        Ok(Self {
+        Ok(Self::over(raw, text, slots))
+    }
+
+    /// The entry that a call read from the text, its dwords in the first of the slots.
+    pub(crate) fn over(raw: RawEntry, text: &'t [u8], slots: &'s [u32]) -> Self {
+        Self {
             raw,
             text,
             data: slots.get(..raw.dwords).unwrap_or_default(),
-        })
+        }
     }
 
     /// The entry's record into the first bytes of the buffer, and how many bytes it has. A refusal leaves the buffer as it was.

@@ -1,5 +1,5 @@
-//! Trace lines of USB4 control packets, and the records made of them, as entries; requests matched to their responses; why a hex number
-//! was unreadable.
+//! Trace lines of USB4 control packets, and the records made of them, as entries; requests matched to their responses; streams
+//! fed in parts; why a hex number was unreadable.
 //!
 //! The work is done by proved code behind C calls (`include/chomkadieu.h`); this crate is the thin, safe side of it. Nothing is copied and
 //! nothing allocated: an [`Entry`] borrows the text that it was read from and the slots that its dwords went to. Names follow the `trace`
@@ -18,8 +18,14 @@
 //!
 //! Readings are strict: a line with a piece of `data` that is no hex number of 32 bits is refused ([`Refusal::BadPiece`]). Whoever asks for lenient
 //! ([`Entry::parse_lenient`], [`Entry::read_lenient`], [`what_lenient`]) has such pieces left out, as tbtools does it. Records are read alike.
+//!
+//! What comes in parts, as from a pipe or a socket, goes to a [`Stream`]. With the feature `std`, which is off by default, `StreamReader` does that over
+//! any `std::io::Read`; nothing else here needs it.
 #![no_std]
 #![deny(missing_docs)]
+
+#[cfg(feature = "std")]
+extern crate std;
 
 mod book;
 mod entry;
@@ -29,7 +35,10 @@ mod packet;
 mod pdf;
 mod pending;
 mod raw;
+#[cfg(feature = "std")]
+mod reader;
 mod refusal;
+mod stream;
 mod what;
 
 pub use book::Book;
@@ -40,7 +49,10 @@ pub use packet::{ControlPacket, Field, Range, Source};
 pub use pdf::Pdf;
 pub use pending::{OldestFirst, Pending, Report};
 pub use raw::{Four, Slot};
+#[cfg(feature = "std")]
+pub use reader::StreamReader;
 pub use refusal::Refusal;
+pub use stream::{Stream, Unit};
 pub use what::{What, what, what_lenient};
 
 /// No line or record has more dwords: with as many slots, none is refused for want of slots.

@@ -169,6 +169,24 @@ pub struct PlaceAnswer {
     place: usize,
 }
 
+/// `ck_stream`.
+#[derive(Clone, Copy, Debug, Default, PartialEq, Eq)]
+#[repr(C)]
+pub struct RawStream {
+    pub held: usize,
+    pub passed: usize,
+}
+
+/// `ck_stream_answer`.
+#[repr(C)]
+pub struct StreamAnswer {
+    number: u8,
+    ended: u8,
+    pub at: usize,
+    pub state: RawStream,
+    entry: RawEntry,
+}
+
 /// `ck_hex_answer`.
 #[repr(C)]
 pub struct HexAnswer {
@@ -241,6 +259,10 @@ calls! {
     ck_pending_step(entry: RawEntry, [mut slots: Slot]) -> StepAnswer;
     ck_pending_waiting([slots: Slot]) -> CountAnswer;
     ck_pending_oldest([slots: Slot], k: u32) -> PlaceAnswer;
+    ck_stream_feed(state: RawStream, [part: u8], [mut rest: u8], [mut slots: u32]) -> StreamAnswer;
+    ck_stream_feed_lenient(state: RawStream, [part: u8], [mut rest: u8], [mut slots: u32]) -> StreamAnswer;
+    ck_stream_finish(state: RawStream, [rest: u8], [mut slots: u32]) -> StreamAnswer;
+    ck_stream_finish_lenient(state: RawStream, [rest: u8], [mut slots: u32]) -> StreamAnswer;
     ck_hex_key([line: u8], key: u8) -> HexAnswer;
     ck_hex_piece([line: u8], piece: usize) -> HexAnswer;
 }
@@ -473,6 +495,39 @@ pub fn pending_oldest(slots: &[Slot], k: u32) -> Told<usize> {
     told(answer.number, answer.present, answer.place)
 }
 
+impl StreamAnswer {
+    /// The entry of the unit that ended, none if no unit has, or the number.
+    pub fn told(self) -> Told<RawEntry> {
+        told(self.number, self.ended, self.entry)
+    }
+}
+
+pub fn stream_feed(
+    state: RawStream,
+    part: &[u8],
+    rest: &mut [u8],
+    slots: &mut [u32],
+) -> StreamAnswer {
+    ck_stream_feed(state, part, rest, slots)
+}
+
+pub fn stream_feed_lenient(
+    state: RawStream,
+    part: &[u8],
+    rest: &mut [u8],
+    slots: &mut [u32],
+) -> StreamAnswer {
+    ck_stream_feed_lenient(state, part, rest, slots)
+}
+
+pub fn stream_finish(state: RawStream, rest: &[u8], slots: &mut [u32]) -> StreamAnswer {
+    ck_stream_finish(state, rest, slots)
+}
+
+pub fn stream_finish_lenient(state: RawStream, rest: &[u8], slots: &mut [u32]) -> StreamAnswer {
+    ck_stream_finish_lenient(state, rest, slots)
+}
+
 pub fn hex_key(line: &[u8], key: u8) -> Told<HexAnswer> {
     hex(ck_hex_key(line, key))
 }
@@ -539,6 +594,8 @@ mod layout {
             ck_step_answer StepAnswer { number, report, place }
             ck_count_answer CountAnswer { number, count }
             ck_place_answer PlaceAnswer { number, present, place }
+            ck_stream RawStream { held, passed }
+            ck_stream_answer StreamAnswer { number, ended, at, state, entry }
             ck_hex_answer HexAnswer { number, what, value, bad, at, len }
         };
         let promised: String = include_str!("../../../tests/capi/layout.txt")

@@ -57,7 +57,9 @@ fn optional_fields_and_questions() {
     assert_eq!(Event::LinkRecovery.to_string(), "LINK_RECOVERY");
     assert_eq!(Event::Unknown(3).to_string(), "3");
     assert!((0..=255).all(|code| Event::from(code).code() == code));
-    let names: HashSet<_> = (0..=255).map(|code| Event::from(code).to_string()).collect();
+    let names: HashSet<_> = (0..=255)
+        .map(|code| Event::from(code).to_string())
+        .collect();
     assert_eq!(names.len(), 256);
 }
 
@@ -153,6 +155,7 @@ fn each_number_has_one_case_and_a_sentence_of_its_own() {
         .chain(20..=28)
         .chain(30..=37)
         .chain(50..=51)
+        .chain(53..=55)
         .collect();
     assert_eq!(numbers, expected);
     let sentences: std::collections::HashSet<String> = Refusal::ALL

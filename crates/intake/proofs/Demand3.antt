@@ -94,7 +94,7 @@ accepted-record pieces text slots e left first c =
 -- ---- its record
 
 -- an entry that says v is written as the record of v
-writes-record : (text : List ℕ) (e : Entry) (dwords : List ℕ) (v : EntryValue) → Says text e dwords v → Ranged v
+pub writes-record : (text : List ℕ) (e : Entry) (dwords : List ℕ) (v : EntryValue) → Says text e dwords v → Ranged v
     → (buffer : List ℕ) (answer : Written) (left : List ℕ) → WriteCall text e dwords buffer answer left → Wrote (recordBytes v) buffer answer left
 unfolding bytesOf
 writes-record text e dwords v s r buffer answer left c =

@@ -1,12 +1,12 @@
 -- No call answers 10: a line's number, a record's and a packet's each have a table of conditions, in which 10 applies to nothing, and every call that is given a text tells a number
--- of these tables, or 36 or 37 of the writer, or 50 or 51 of the table of requests. Assumes nothing.
+-- of these tables, or 36 or 37 of the writer, or 50 or 51 of the table of requests, or 53 to 55 of a stream. Assumes nothing.
 use Prim.Native.Nat.{ℕ}
 use mathlib.Core.Path.{_≡_, refl, sym, ap, _∙_}
 use mathlib.Core.Bool.{Bool, true, false, cond}
 use mathlib.Core.List.{List}
 use mathlib.Core.Logic.{inl, inr}
 use native.Mathlib.Omega.{arith}
-use lib.Dec.{leb}
+use lib.Dec.{leb, ltb}
 use lib.ListN.{length, getD}
 use Rattle.text.specs.Told as T
 use Rattle.text.specs.Told.{Told, numberIn, andThen}
@@ -65,6 +65,19 @@ use Rattle.capi.specs.declared.hexes.MaybeKey.{MaybeKey}
 use Rattle.capi.specs.declared.hexes.MaybeKey.the-variants as M
 use Rattle.capi.specs.Calls.{answerBy, whatBy, writtenBy, writeFor}
 use Rattle.capi.specs.Packets as C
+use Rattle.capi.specs.declared.streams.StreamAnswer.{StreamAnswer}
+use Rattle.capi.specs.Streams.{streamBy}
+use Rattle.units.specs.declared.Framing.the-variants.{Both}
+use Rattle.units.specs.declared.State.{State}
+use Rattle.units.specs.Units.{stated}
+use Rattle.units.specs.Kept.{isLong, isKept}
+use Rattle.stream.specs.declared.Answer as Stream
+use Rattle.stream.specs.declared.Answer.the-variants as St
+use Rattle.stream.specs.declared.Fed.{Fed}
+use Rattle.stream.specs.declared.Finished.{Finished}
+use Rattle.stream.specs.Answers.{answerOf, answerTold as streamTold}
+use Rattle.stream.specs.Feeding.{FeedDone, FinishDone}
+use Rattle.stream.proofs.States.{feed-unit, end-unit}
 use Rattle.capi.specs.Hexes.{hexBy, keyNumbered, otherKey, keyTold}
 use Rattle.retired.specs.Retired.{CallsNever, CallsForCNever, RowsNever, NoCallAnswers10}
 
@@ -114,6 +127,41 @@ taken-never pieces t b room = by (startsA1 t)
     by : (x : Bool) → Never (cond x (readOf t room) (Line.parseOf pieces t room))
     by true = record-never t b room
     by false = line-never pieces t room
+
+unit-never : (pieces : Pieces) (t : List ℕ) → Bytes t → (room : ℕ) → Never (answerOf pieces t room)
+unfolding answerOf
+unit-never pieces t b room = by (startsA1 t) (isLong t) (ltb (length t) (stated t))
+  where
+    by : (x y z : Bool) → Never (cond x (cond y (T.refused 55) (cond z (T.refused 54) (readOf t room))) (Line.parseOf pieces t room))
+    by true true z = other (T.refused 55) (λ n. omega arith)
+    by true false true = other (T.refused 54) (λ n. omega arith)
+    by true false false = record-never t b room
+    by false y z = line-never pieces t room
+
+-- a stream's call tells a unit's number, or 53
+alien-never : {a : Stream.Answer} → a ≡ St.Refused 53 → a ≡ St.Refused 10 → ⊥
+alien-never q e = let n : _≡_ {A = ℕ} 53 10 = cc in omega (arith, n)
+
+fed-never : (pieces : Pieces) (part rest : List ℕ) → Bytes part → Bytes rest → (slots : List ℕ) (st : State) (rest′ slots′ : List ℕ) (r : Fed) → FeedDone pieces part rest slots st rest′ slots′ r → r .answer ≡ St.Refused 10 → ⊥
+fed-never pieces part rest bp br slots st rest′ slots′ r x e = go (isKept Both rest (st .held) (st .passed)) refl
+  where
+    go : (b : Bool) → isKept Both rest (st .held) (st .passed) ≡ b → ⊥
+    go false q = alien-never (ap (λ (y : Fed). y .answer) (x .alien q .0)) e
+    go true q = let u = feed-unit pieces part rest slots st rest′ slots′ r bp br x q e in unit-never pieces (u .0) (u .1 .0) (length slots) (u .1 .1)
+
+ended-never : (pieces : Pieces) (rest : List ℕ) → Bytes rest → (slots : List ℕ) (st : State) (slots′ : List ℕ) (r : Finished) → FinishDone pieces rest slots st slots′ r → r .answer ≡ St.Refused 10 → ⊥
+ended-never pieces rest br slots st slots′ r x e = go (isKept Both rest (st .held) (st .passed)) refl
+  where
+    go : (b : Bool) → isKept Both rest (st .held) (st .passed) ≡ b → ⊥
+    go false q = alien-never (ap (λ (y : Finished). y .answer) (x .alien q .0)) e
+    go true q = let u = end-unit pieces rest slots st slots′ r br x q e in unit-never pieces (u .0) (u .1 .0) (length slots) (u .1 .1)
+
+-- as a plain struct
+stream-number : (at : ℕ) (st : State) (a : Stream.Answer) → (a ≡ St.Refused 10 → ⊥) → {r : StreamAnswer} → r ≡ streamBy at st (streamTold a) → r .number ≡ 10 → ⊥
+unfolding streamBy
+stream-number at st (St.Entry e) n c h = let z : _≡_ {A = ℕ} 0 10 = sym (ap (λ (y : StreamAnswer). y .number) c) ∙ h in omega (arith, z)
+stream-number at st (St.Refused k) n c h = let z : k ≡ 10 = sym (ap (λ (y : StreamAnswer). y .number) c) ∙ h in n (ap St.Refused z)
+stream-number at st St.Nothing n c h = let z : _≡_ {A = ℕ} 0 10 = sym (ap (λ (y : StreamAnswer). y .number) c) ∙ h in omega (arith, z)
 
 packet-never : (kind : ℕ) (s : List ℕ) → Bytes s → (ds : List ℕ) (room : ℕ) → Never (Packets.parseOf kind s ds room)
 unfolding Packets.parseOf Condition
@@ -273,6 +321,8 @@ calls-never =
       read = λ pieces t b slots left r c e. taken-never pieces t b (length slots) (sym (c .answer) ∙ ap Line.answerTold e);
       packet = λ pieces t b s d slots slots-left places places-left r c e. text-packet-never pieces t b s d (length slots) (length places) (sym (c .answer) ∙ ap Packets.answerTold e);
       what-is = λ pieces t b r c e. what-never pieces t b (sym c ∙ ap whatTold e);
+      stream-feed = fed-never;
+      stream-finish = ended-never;
     }
 
 calls-for-c-never : CallsForCNever
@@ -286,6 +336,8 @@ calls-for-c-never =
       ck-read = λ pieces t b slots left r c e. entry-struct-never (takenOf pieces t (length slots)) (taken-never pieces t b (length slots)) (c .is) e;
       ck-read-packet = λ pieces t b s d slots slots-left places places-left r c e. struct-never C.textBy (λ a. a .packet .number) packet-number (packetTaken pieces t s (length slots) (length places)) (text-packet-never pieces t b s d (length slots) (length places)) (c .is) e;
       ck-what = λ pieces t b r c e. struct-never whatBy (λ a. a .number) what-number (whatOf pieces t) (what-never pieces t b) c e;
+      ck-stream-feed = λ pieces part rest bp br slots st rest′ slots′ r c e. stream-number (c .fed .at) (c .fed .state) (c .fed .answer) (fed-never pieces part rest bp br slots st rest′ slots′ (c .fed) (c .done)) (c .is) e;
+      ck-stream-finish = λ pieces rest br slots st slots′ r c e. stream-number 0 (c .finished .state) (c .finished .answer) (ended-never pieces rest br slots st slots′ (c .finished) (c .done)) (c .is) e;
     }
 
 rows-never : RowsNever

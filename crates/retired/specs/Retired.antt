@@ -51,6 +51,13 @@ use Rattle.capi.specs.declared.hexes.HexAnswer.{HexAnswer}
 use Rattle.capi.specs.Calls.{Read, LineRead, EitherRead, whatBy, Wrote}
 use Rattle.capi.specs.Packets.{TextRead}
 use Rattle.capi.specs.Hexes.{hexBy, keyNumbered, keyTold}
+use Rattle.units.specs.declared.State.{State}
+use Rattle.stream.specs.declared.Answer.the-variants as St
+use Rattle.stream.specs.declared.Fed.{Fed}
+use Rattle.stream.specs.declared.Finished.{Finished}
+use Rattle.stream.specs.Feeding.{FeedDone, FinishDone}
+use Rattle.capi.specs.declared.streams.StreamAnswer.{StreamAnswer}
+use Rattle.capi.specs.Streams.{StreamFed, StreamEnded}
 
 -- The calls of the crates.
 pub record CallsNever : Type 0 where
@@ -77,6 +84,12 @@ pub record CallsNever : Type 0 where
       → PacketTaken pieces text book slots slots-left places places-left answer → answer ≡ P.Refused 10 → ⊥
   -- `what_is` of `intake`, strict and lenient.
   pub what-is : (pieces : Pieces) (text : List ℕ) → Bytes text → (answer : What) → whatTold answer ≡ whatOf pieces text → answer ≡ Is.Neither 10 → ⊥
+  -- `feed` of `stream`, whatever is kept; part and buffer are bytes, as all that is lent.
+  pub stream-feed : (pieces : Pieces) (part rest : List ℕ) → Bytes part → Bytes rest → (slots : List ℕ) (state : State) (rest-left slots-left : List ℕ) (answer : Fed)
+      → FeedDone pieces part rest slots state rest-left slots-left answer → answer .answer ≡ St.Refused 10 → ⊥
+  -- `finish` of `stream`.
+  pub stream-finish : (pieces : Pieces) (rest : List ℕ) → Bytes rest → (slots : List ℕ) (state : State) (slots-left : List ℕ) (answer : Finished)
+      → FinishDone pieces rest slots state slots-left answer → answer .answer ≡ St.Refused 10 → ⊥
 
 -- The calls for C. Their strict forms and their lenient ones are told apart by the choice.
 pub record CallsForCNever : Type 0 where
@@ -98,6 +111,12 @@ pub record CallsForCNever : Type 0 where
       → TextRead pieces text book slots slots-left places places-left answer → answer .packet .number ≡ 10 → ⊥
   -- `ck_what`, `ck_what_lenient`.
   pub ck-what : (pieces : Pieces) (text : List ℕ) → Bytes text → (answer : WhatAnswer) → answer ≡ whatBy (whatOf pieces text) → answer .number ≡ 10 → ⊥
+  -- `ck_stream_feed`, `ck_stream_feed_lenient`.
+  pub ck-stream-feed : (pieces : Pieces) (part rest : List ℕ) → Bytes part → Bytes rest → (slots : List ℕ) (state : State) (rest-left slots-left : List ℕ) (answer : StreamAnswer)
+      → StreamFed pieces part rest slots state rest-left slots-left answer → answer .number ≡ 10 → ⊥
+  -- `ck_stream_finish`, `ck_stream_finish_lenient`.
+  pub ck-stream-finish : (pieces : Pieces) (rest : List ℕ) → Bytes rest → (slots : List ℕ) (state : State) (slots-left : List ℕ) (answer : StreamAnswer)
+      → StreamEnded pieces rest slots state slots-left answer → answer .number ≡ 10 → ⊥
 
 -- What the programs' rows are made from.
 pub record RowsNever : Type 0 where

@@ -6,7 +6,7 @@ use mathlib.Core.Bool.{Bool, true, false, cond}
 use mathlib.Core.List.{List, [], _∷_, _++_, append-nil}
 use mathlib.Core.Logic.{_↔_}
 use native.Mathlib.Omega.{arith}
-use lib.Dec.{ltb}
+use lib.Dec.{ltb, eqb}
 use lib.ListN.{length, getD, take, drop, length-append, length-drop}
 use lib.Seq.{take-all, take-at, take-append-le, drop-append-le}
 use borrow.Author.Tests.{eqb-true, ltb-true, ltb-false, le-ltb, lt-ltb}
@@ -14,12 +14,14 @@ use Rattle.text.specs.Told as T
 use Rattle.text.proofs.Places.{clash}
 use Rattle.tlv.specs.Number.{Bytes}
 use Rattle.tlv.proofs.Fields.{found-field, field-is, two-bytes}
+use Rattle.tlv.proofs.Places.{bytes-take}
 use Rattle.entry.specs.declared.Entry.{Entry}
 use Rattle.entry.specs.Entry.{EntryValue, partOf, valueOf, Lies}
 use Rattle.entry.proofs.Parts.{part-in}
 use Rattle.scan.specs.declared.Pieces.{Pieces}
 use Rattle.scan.specs.declared.Answer.the-variants as Read
 use Rattle.scan.specs.Parse.{parseOf, slotsBy}
+use Rattle.scan.specs.Line.{Line}
 use Rattle.scan.proofs.Theorems.{line-entry-is, line-number-exactly, past-table}
 use Rattle.record.specs.Conditions.{Framed, Refuses, Breaks, breaks, few-slots, unframed, runs-past, wrong-tag, wrong-body, lacks-tag}
 use Rattle.record.specs.Grammar.{IsRecord}
@@ -27,140 +29,72 @@ use Rattle.record.specs.Reading.{readOf}
 use Rattle.record.proofs.Records.{record-refused-exactly}
 use Rattle.intake.specs.Intake.{Belongs, startsA1, takenOf, takenDwords}
 use Rattle.intake.specs.Demand3.{ReadCall}
+use Rattle.intake.specs.Demand3Packets.{packetFor}
 use Rattle.intake.proofs.Demand3.{line-has-a-record, record-is-the-writers}
-use Rattle.intake.proofs.Slots.{with-more-slots}
+use Rattle.intake.proofs.FirstBytes.{overlong-line}
+use Rattle.intake.proofs.Made.{bytes-join}
+use Rattle.intake.proofs.WhatItIs.{record-number-range}
 use Rattle.units.specs.declared.Framing.the-variants.{Both}
 use Rattle.units.specs.declared.State.{State}
-use Rattle.units.specs.Units.{marked, isRecord, stated, Whole, Open, Rest}
-use Rattle.units.specs.Kept.{isLong, keptText, stood}
-use Rattle.units.proofs.Streams.{rest-left}
+use Rattle.units.specs.Units.{marked, stated, Whole, Open, Rest, Sofar}
+use Rattle.units.specs.Kept.{isLong, Keeps, isKept}
+use Rattle.units.proofs.Streams.{rest-left, one-sofar}
 use Rattle.stream.specs.declared.Answer.{Answer}
 use Rattle.stream.specs.declared.Answer.the-variants as A
 use Rattle.stream.specs.declared.Fed.{Fed}
+use Rattle.stream.specs.declared.Finished.{Finished}
 use Rattle.stream.specs.Answers.{answerTold, answerOf, saidBy, saidOf}
-use Rattle.stream.specs.Feeding.{Given, Answered, FedOn, FeedDone}
+use Rattle.stream.specs.Feeding.{Given, Answered, FedOn, FeedDone, FinishDone, endOf}
 use Rattle.stream.specs.Streams.{Calls, IsUnit, EntryOf, EachUnit}
-use Rattle.stream.proofs.Records.{said-belongs, line-accepted, record-accepted, unit-says}
-use Rattle.stream.proofs.Whole.{Stands, stands, passes, w-bytes}
-
--- ---- an entry's answer is the intake's
-
-module _ (pieces : Pieces) (u : List ℕ) (room : ℕ) (e : Entry) (q : answerOf pieces u room ≡ T.is e) where
-  entry-taken : takenOf pieces u room ≡ T.is e
-  unfolding answerOf takenOf
-  entry-taken = go (startsA1 u) (isLong u) (ltb (length u) (stated u)) q
-    where
-      go : (a b d : Bool) → cond a (cond b (T.refused 55) (cond d (T.refused 54) (readOf u room))) (parseOf pieces u room) ≡ T.is e → cond a (readOf u room) (parseOf pieces u room) ≡ T.is e
-      go true true d h = absurd (let z : _≡_ {A = ℕ} 0 1 = cc in omega arith)
-      go true false true h = absurd (let z : _≡_ {A = ℕ} 0 1 = cc in omega arith)
-      go true false false h = h
-      go false b d h = h
-
-  -- and all of it is kept
-  entry-kept : keptText Both u ≡ u
-  unfolding answerOf keptText marked startsA1
-  entry-kept = go (startsA1 u) refl (isLong u) (ltb (length u) (stated u)) q
-    where
-      go : (a : Bool) → startsA1 u ≡ a → (b d : Bool) → cond a (cond b (T.refused 55) (cond d (T.refused 54) (readOf u room))) (parseOf pieces u room) ≡ T.is e → cond a (cond b (take 3 u) u) (take 4097 u) ≡ u
-      go true x true d h = absurd (let z : _≡_ {A = ℕ} 0 1 = cc in omega arith)
-      go true x false d h = refl
-      go false x b d h = take-all 4097 u (omega (arith, line-entry-is pieces u room h .short))
-
--- ---- what it says, with a buffer that goes on behind it
-
-part-front : (l back : List ℕ) (at n : ℕ) → at + n ≤ length l → partOf (l ++ back) at n ≡ partOf l at n
-part-front l back at n h =
-    sym (part-in (l ++ back) at n (omega (arith, h, length-append l back)))
-    ∙ ap (take n) (drop-append-le at l back (omega (arith, h)))
-    ∙ take-append-le n (drop at l) back (omega (arith, h, length-drop at l))
-    ∙ part-in l at n h
-
-value-front : (e : Entry) (l back slots : List ℕ) → Lies e l slots → valueOf e (l ++ back) slots ≡ valueOf e l slots
-unfolding valueOf
-value-front e l back slots lies = rw (part-front l back (e .«task_at») (e .«task_len») (lies .task), part-front l back (e .«function_at») (e .«function_len») (lies .function))
-
--- an entry that was read says what its text says
-module _ (pieces : Pieces) (u slots : List ℕ) (e : Entry) (left : List ℕ) (c : ReadCall pieces u slots (Read.Entry e) left) where
-  pub record Said : Type 0 where
-    pub value : EntryValue
-    pub belongs : Belongs pieces u value
-    pub lies : Lies e u left
-    pub is : valueOf e u left ≡ value
-
-  read-says : Said
-  read-says = go (startsA1 u) refl
-    where
-      go : (b : Bool) → startsA1 u ≡ b → Said
-      go false x = let h = line-has-a-record pieces u slots e left x c in record { value = h .0; belongs = Belongs.line (h .1); lies = h .2 .says .lies; is = h .2 .says .is }
-      go true x =
-          let h = record-is-the-writers pieces u slots e left x c in
-          record { value = h .0; belongs = Belongs.a-record (subst (λ (l : List ℕ). IsRecord l (h .0)) (h .1) (h .2 .is-record)); lies = h .2 .says .lies; is = h .2 .says .is }
-
-said-one : (pieces : Pieces) (u : List ℕ) (v : EntryValue) → Belongs pieces u v → saidOf pieces (u ∷ []) ≡ v ∷ []
-unfolding saidOf
-said-one pieces u v b = append-nil (saidBy u (answerOf pieces u 256)) ∙ unit-says pieces u v b
-
--- ---- an entry that a call answered
-
-module _ (pieces : Pieces) (u rest slots rest′ slots′ : List ℕ) (answer : Answer) (e : Entry) (bytes : Bytes u) (enough : 256 ≤ length slots) (buffer : rest′ ≡ stood Both u rest) (g : Given (answerOf pieces u (length slots)) (takenDwords u) slots slots′ answer) (is-entry : answer ≡ A.Entry e) where
-  told : answerOf pieces u (length slots) ≡ T.is e
-  told = sym (g .answer) ∙ ap answerTold is-entry
-
-  call : ReadCall pieces u slots (Read.Entry e) slots′
-  call = record { bytes = bytes; enough = enough; contract = record { answer = sym (entry-taken pieces u (length slots) e told); slots = g .slots-are ∙ ap (λ (t : T.Told Entry). slotsBy t (takenDwords u) slots) told } }
-
-  buffer-is : rest′ ≡ u ++ drop (length u) rest
-  unfolding stood
-  buffer-is = buffer ∙ ap (λ (l : List ℕ). l ++ drop (length l) rest) (entry-kept pieces u (length slots) e told)
-
-  pub entry-of : EntryOf pieces u slots e rest′ slots′
-  entry-of =
-      let s = read-says pieces u slots e slots′ call in
-      record {
-        stands = ap (take (length u)) buffer-is ∙ take-at u (drop (length u) rest) (length u) refl;
-        read = call;
-        says =
-            said-one pieces u (s .value) (s .belongs)
-            ∙ ap (λ (v : EntryValue). v ∷ []) (sym (ap (λ (l : List ℕ). valueOf e l slots′) buffer-is ∙ value-front e u (drop (length u) rest) slots′ (s .lies) ∙ s .is));
-      }
+use Rattle.stream.proofs.Entries.{said-one, entry-of, accepted}
+use Rattle.stream.proofs.Whole.{stands, passes, kept-stands}
 
 absent-entry : {a : Answer} {e : Entry} → answerTold a ≡ T.absent → a ≡ A.Entry e → ⊥
 absent-entry h q = let z : _≡_ {A = ℕ} 0 1 = cc in omega arith
 
-module _ (pieces : Pieces) where
-  call-entry : (room : ℕ) (taken rest : List ℕ) (answers : List (T.Told Entry)) (st : State) → Calls pieces room taken answers rest st → 256 ≤ room → (part slots rest′ slots′ : List ℕ) (r : Fed) (e : Entry) → Bytes part → length slots ≡ room → FeedDone pieces part rest slots st rest′ slots′ r → r .answer ≡ A.Entry e → (u : List ℕ) × (Whole Both u × Bytes u × EntryOf pieces u slots e rest′ slots′)
-  call-entry room taken rest answers st c enough part slots rest′ slots′ r e bp n done is-entry = by (stands pieces room c)
+-- ---- an entry that a call answered
+
+module _ (pieces : Pieces) (room : ℕ) (taken rest : List ℕ) (answers : List (T.Told Entry)) (values : List EntryValue) (st : State) (c : Calls pieces room taken answers values rest st) (us : List (List ℕ)) (since : List ℕ) (so : Sofar Both taken us since) (enough : 256 ≤ room) where
+  -- what is open is what the calls keep
+  open-is : Keeps Both since rest (st .held) (st .passed) × Bytes since
+  open-is =
+      let x = stands pieces room c in
+      let e : x .since ≡ since = one-sofar Both refl (x .so-far) so .1 in
+      (subst (λ (l : List ℕ). Keeps Both l rest (st .held) (st .passed)) e (x .keeps), subst Bytes e (x .bytes))
+
+  good : isKept Both rest (st .held) (st .passed) ≡ true
+  good = passes pieces room (stands pieces room c)
+
+  call-entry : (part slots rest′ slots′ : List ℕ) (r : Fed) (e : Entry) → Bytes part → length slots ≡ room → FeedDone pieces part rest slots st rest′ slots′ r → r .answer ≡ A.Entry e → Whole Both (since ++ take (r .at) part) × EntryOf pieces (since ++ take (r .at) part) slots e rest′ slots′
+  call-entry part slots rest′ slots′ r e bp n done is-entry = go on (on .answered)
     where
-      by : Stands pieces room taken answers rest st → (u : List ℕ) × (Whole Both u × Bytes u × EntryOf pieces u slots e rest′ slots′)
-      by x = go on (on .answered)
-        where
-          on : FedOn pieces (x .since) part rest slots rest′ slots′ r
-          on = done .fed (passes pieces room x) (x .since) (rest-left Both (x .so-far)) (x .keeps)
+      on : FedOn pieces since part rest slots rest′ slots′ r
+      on = done .fed good since (rest-left Both so) (open-is .0)
 
-          go : FedOn pieces (x .since) part rest slots rest′ slots′ r → Answered pieces (x .since ++ take (r .at) part) part slots slots′ r → (u : List ℕ) × (Whole Both u × Bytes u × EntryOf pieces u slots e rest′ slots′)
-          go f (Answered.wants o at s g) = absurd (absent-entry (g .answer) is-entry)
-          go f (Answered.ends w s g) =
-              let b = w-bytes pieces room x part slots rest′ slots′ r bp n done in
-              (x .since ++ take (r .at) part, (w, b, entry-of pieces (x .since ++ take (r .at) part) rest slots rest′ slots′ (r .answer) e b (omega (arith, enough, n)) (f .buffer) g is-entry))
+      go : FedOn pieces since part rest slots rest′ slots′ r → Answered pieces (since ++ take (r .at) part) part slots slots′ r → Whole Both (since ++ take (r .at) part) × EntryOf pieces (since ++ take (r .at) part) slots e rest′ slots′
+      go f (Answered.wants o at s g) = absurd (absent-entry (g .answer) is-entry)
+      go f (Answered.ends w s g) =
+          (w, entry-of pieces (since ++ take (r .at) part) rest slots rest′ slots′ (r .answer) e (bytes-join since (take (r .at) part) (open-is .1) (bytes-take part (r .at) bp)) (omega (arith, enough, n)) (f .buffer) g is-entry)
 
-  -- ---- accepted exactly
-
-  more-slots : (u : List ℕ) → Bytes u → (room : ℕ) → 256 ≤ room → (e : Entry) → answerOf pieces u 256 ≡ T.is e → answerOf pieces u room ≡ T.is e
-  unfolding answerOf takenOf
-  more-slots u b room h e q = go (startsA1 u) (isLong u) (ltb (length u) (stated u)) q (with-more-slots pieces u b room h)
+  end-entry : (slots slots′ : List ℕ) (r : Finished) (e : Entry) → length slots ≡ room → FinishDone pieces rest slots st slots′ r → r .answer ≡ A.Entry e → Open Both since × EntryOf pieces since slots e rest slots′
+  unfolding endOf
+  end-entry slots slots′ r e n done is-entry = go since (rest-left Both so) (open-is .0) (open-is .1) (done .ended good since (rest-left Both so) (open-is .0) .1)
     where
-      go : (x y z : Bool) → cond x (cond y (T.refused 55) (cond z (T.refused 54) (readOf u 256))) (parseOf pieces u 256) ≡ T.is e → cond x (readOf u room) (parseOf pieces u room) ≡ cond x (readOf u 256) (parseOf pieces u 256) → cond x (cond y (T.refused 55) (cond z (T.refused 54) (readOf u room))) (parseOf pieces u room) ≡ T.is e
-      go true true z q m = q
-      go true false true q m = q
-      go true false false q m = m ∙ q
-      go false y z q m = m ∙ q
+      go : (u : List ℕ) → Rest Both u → Keeps Both u rest (st .held) (st .passed) → Bytes u → Given (endOf pieces u (length slots)) (takenDwords u) slots slots′ (r .answer) → Open Both u × EntryOf pieces u slots e rest slots′
+      go [] o k b g = absurd (absent-entry (g .answer) is-entry)
+      go (x ∷ u) (Rest.none z) k b g = absurd (let m : length (x ∷ u) ≡ 0 = ap length z in omega (arith, m))
+      go (x ∷ u) (Rest.some o) k b g = (o, entry-of pieces (x ∷ u) rest slots rest slots′ (r .answer) e b (omega (arith, enough, n)) (kept-stands k) g is-entry)
 
-  accepted : (u : List ℕ) → Bytes u → (room : ℕ) → 256 ≤ room → ((e : Entry) × (answerOf pieces u room ≡ T.is e)) ↔ ((v : EntryValue) × Belongs pieces u v)
-  accepted u b room h = (λ x. (_, said-belongs pieces u b room (x .0) (x .1)), λ y. all (y .0) (y .1))
-    where
-      all : (v : EntryValue) → Belongs pieces u v → (e : Entry) × (answerOf pieces u room ≡ T.is e)
-      all v (Belongs.line a) = let f = line-accepted pieces u v a in (f .0, more-slots u b room h (f .0) (f .1))
-      all v (Belongs.a-record r) = let f = record-accepted pieces u v r in (f .0, more-slots u b room h (f .0) (f .1))
+-- ---- a line and its record
+
+-- the entry of a unit says what the unit says
+entry-says : (pieces : Pieces) (u slots : List ℕ) (e : Entry) (rest′ slots′ : List ℕ) (v : EntryValue) → Belongs pieces u v → EntryOf pieces u slots e rest′ slots′ → valueOf e rest′ slots′ ≡ v
+entry-says pieces u slots e rest′ slots′ v b x = let same : valueOf e rest′ slots′ ∷ [] ≡ v ∷ [] = sym (x .says) ∙ said-one pieces u v b in cc
+
+line-and-record : (pieces : Pieces) (u t : List ℕ) (v : EntryValue) → Line pieces u v → IsRecord t v → (slots : List ℕ) (e : Entry) (rest′ slots′ : List ℕ) → EntryOf pieces u slots e rest′ slots′ → (any : Pieces) (other : List ℕ) (f : Entry) (rest″ slots″ : List ℕ) → EntryOf any t other f rest″ slots″ → (valueOf e rest′ slots′ ≡ valueOf f rest″ slots″) × ((book : List ℕ) → packetFor (valueOf e rest′ slots′) book ≡ packetFor (valueOf f rest″ slots″) book)
+line-and-record pieces u t v a r slots e rest′ slots′ x any other f rest″ slots″ y =
+    let same : valueOf e rest′ slots′ ≡ valueOf f rest″ slots″ = entry-says pieces u slots e rest′ slots′ v (Belongs.line a) x ∙ sym (entry-says any t other f rest″ slots″ v (Belongs.a-record r) y) in
+    (same, λ book. ap (λ (w : EntryValue). packetFor w book) same)
 
 -- ---- 30
 
@@ -196,12 +130,35 @@ never-30 pieces u b w room q = go (startsA1 u) refl (isLong u) (ltb (length u) (
     go true x false false e h = breaks-30 u (stated-framed u b x (unit-length u w x e)) room (record-refused-exactly u b room 30 .0 h)
     go false x y z e h = past-table pieces u room 30 (omega arith) (line-number-exactly pieces u room 30 .0 h .holds)
 
+-- ---- the other numbers
+
+no-line-overlong : (pieces : Pieces) (u : List ℕ) → startsA1 u ≡ false → 4096 < length u → (room : ℕ) → answerOf pieces u room ≡ T.refused (cond (eqb (getD u 0 0) 35) 1 2)
+unfolding answerOf
+no-line-overlong pieces u x h room = rw x (overlong-line pieces u room h)
+
+never-54 : (pieces : Pieces) (u : List ℕ) → Bytes u → Whole Both u → (room : ℕ) → answerOf pieces u room ≡ T.refused 54 → ⊥
+unfolding answerOf startsA1 marked
+never-54 pieces u b (Whole.line n t e z l) room q = past-table pieces u room 54 (omega arith) (line-number-exactly pieces u room 54 .0 (rw t at q) .holds)
+never-54 pieces u b (Whole.a-record t e) room q = go (isLong u) (rw (t, le-ltb (length u) (stated u) (omega (arith, e))) at q)
+  where
+    by : Refuses u room 54 → ⊥
+    by (breaks x) = let r = record-number-range u 54 x in omega (arith, r .1)
+    by (few-slots h x) = omega (arith, h)
+
+    go : (y : Bool) → cond y (T.refused 55) (readOf u room) ≡ T.refused 54 → ⊥
+    go true h = let n : _≡_ {A = ℕ} 55 54 = cc in omega (arith, n)
+    go false h = by (record-refused-exactly u b room 54 .0 h)
+
 -- DEMAND 3 FOR EACH UNIT
 pub each-unit : (pieces : Pieces) → EachUnit pieces
 each-unit pieces =
     record {
       accepted = accepted pieces;
       says = λ u b v x. said-one pieces u v x;
-      entry-of = call-entry pieces;
+      entry-of = λ room taken rest answers values st c us since so h. call-entry pieces room taken rest answers values st c us since so h;
+      end-entry-of = λ room taken rest answers values st c us since so h. end-entry pieces room taken rest answers values st c us since so h;
+      line-and-record = line-and-record pieces;
+      overlong = no-line-overlong pieces;
+      never-54 = never-54 pieces;
       never-30 = never-30 pieces;
     }

@@ -27,7 +27,7 @@ use Rattle.units.specs.declared.Framing.the-variants.{Both}
 use Rattle.units.specs.declared.State.{State}
 use Rattle.units.specs.Units.{stated, Whole, Rest, Sofar}
 use Rattle.units.specs.Kept.{isLong, stood, Keeps, Leaves, isKept}
-use Rattle.units.proofs.Streams.{rest-left, never-whole}
+use Rattle.units.proofs.Streams.{rest-left, never-whole, ends-one, goes-on as sofar-goes}
 use Rattle.units.proofs.States.{keeps-kept, kept-some}
 use Rattle.units.proofs.Calls.{ends-before}
 use Rattle.stream.specs.declared.Answer.{Answer}
@@ -38,7 +38,7 @@ use Rattle.stream.specs.Answers.{answerTold, answerOf}
 use Rattle.stream.specs.Feeding.{empty, stateOf, Given, Answered, FedOn, FeedDone, FinishDone, endOf}
 use Rattle.stream.specs.Streams.{Calls, StatesLeft}
 use Rattle.stream.proofs.Steps.{front-is, one-told}
-use Rattle.stream.proofs.Whole.{Stands, stands}
+use Rattle.stream.proofs.Whole.{Stands, stands, wants-keeps, ends-keeps}
 
 -- ---- the test and the streams
 
@@ -81,39 +81,46 @@ unit-never-53 pieces u b room q = go (startsA1 u) (isLong u) (ltb (length u) (st
     go true false false h = by (record-refused-exactly u b room 53 .0 h)
     go false y z h = past-table pieces u room 53 (omega arith) (line-number-exactly pieces u room 53 .0 h .holds)
 
-end-never-53 : (pieces : Pieces) (u : List ℕ) → Bytes u → (room : ℕ) → endOf pieces u room ≡ T.refused 53 → ⊥
-unfolding endOf
-end-never-53 pieces [] b room q = let n : _≡_ {A = ℕ} 0 1 = cc in omega arith
-end-never-53 pieces (x ∷ u) b room q = unit-never-53 pieces (x ∷ u) b room q
-
-told-of : {a : Answer} {r : T.Told Entry} → answerTold a ≡ r → a ≡ A.Refused 53 → r ≡ T.refused 53
+told-of : {a : Answer} {r : T.Told Entry} {k : ℕ} → answerTold a ≡ r → a ≡ A.Refused k → r ≡ T.refused k
 told-of h e = sym h ∙ ap answerTold e
 
-absent-not : _≡_ {A = T.Told Entry} T.absent (T.refused 53) → ⊥
+absent-not : {k : ℕ} → _≡_ {A = T.Told Entry} T.absent (T.refused k) → ⊥
 absent-not h = let n : _≡_ {A = ℕ} 0 1 = cc in omega arith
 
 module _ (pieces : Pieces) where
+  -- a number that a call answers where the test passes is a unit's
+  pub feed-unit : (part rest slots : List ℕ) (st : State) (rest′ slots′ : List ℕ) (r : Fed) → Bytes part → Bytes rest → FeedDone pieces part rest slots st rest′ slots′ r → isKept Both rest (st .held) (st .passed) ≡ true → {k : ℕ} → r .answer ≡ A.Refused k → (u : List ℕ) × (Bytes u × (answerOf pieces u (length slots) ≡ T.refused k))
+  feed-unit part rest slots st rest′ slots′ r bp br x q {k} e =
+      let u = kept-some Both rest (st .held) (st .passed) q in
+      by (u .0) (kept-bytes rest br (st .held) (st .passed) q) (x .fed q (u .0) (u .1 .0) (u .1 .1) .answered)
+    where
+      by : (u : List ℕ) → Bytes u → Answered pieces (u ++ take (r .at) part) part slots slots′ r → (u : List ℕ) × (Bytes u × (answerOf pieces u (length slots) ≡ T.refused k))
+      by u b (Answered.wants o at s g) = absurd (absent-not (told-of (g .answer) e))
+      by u b (Answered.ends w s g) = (u ++ take (r .at) part, (bytes-join u (take (r .at) part) b (bytes-take part (r .at) bp), told-of (g .answer) e))
+
+  pub end-unit : (rest slots : List ℕ) (st : State) (slots′ : List ℕ) (r : Finished) → Bytes rest → FinishDone pieces rest slots st slots′ r → isKept Both rest (st .held) (st .passed) ≡ true → {k : ℕ} → r .answer ≡ A.Refused k → (u : List ℕ) × (Bytes u × (answerOf pieces u (length slots) ≡ T.refused k))
+  unfolding endOf
+  end-unit rest slots st slots′ r br x q {k} e =
+      let u = kept-some Both rest (st .held) (st .passed) q in
+      by (u .0) (kept-bytes rest br (st .held) (st .passed) q) (told-of (x .ended q (u .0) (u .1 .0) (u .1 .1) .1 .answer) e)
+    where
+      by : (u : List ℕ) → Bytes u → endOf pieces u (length slots) ≡ T.refused k → (u : List ℕ) × (Bytes u × (answerOf pieces u (length slots) ≡ T.refused k))
+      by [] b h = absurd (absent-not h)
+      by (c ∷ u) b h = (c ∷ u, (b, h))
+
   feed-53 : (part rest slots : List ℕ) (st : State) (rest′ slots′ : List ℕ) (r : Fed) → Bytes part → Bytes rest → FeedDone pieces part rest slots st rest′ slots′ r → (r .answer ≡ A.Refused 53) ↔ (isKept Both rest (st .held) (st .passed) ≡ false)
   feed-53 part rest slots st rest′ slots′ r bp br x = (λ e. go (isKept Both rest (st .held) (st .passed)) refl e, λ q. ap (λ (y : Fed). y .answer) (x .alien q .0))
     where
-      by : (u : List ℕ) → Bytes u → r .answer ≡ A.Refused 53 → Answered pieces (u ++ take (r .at) part) part slots slots′ r → ⊥
-      by u b e (Answered.wants o at s g) = absent-not (told-of (g .answer) e)
-      by u b e (Answered.ends w s g) = unit-never-53 pieces (u ++ take (r .at) part) (bytes-join u (take (r .at) part) b (bytes-take part (r .at) bp)) (length slots) (told-of (g .answer) e)
-
       go : (b : Bool) → isKept Both rest (st .held) (st .passed) ≡ b → r .answer ≡ A.Refused 53 → b ≡ false
       go false q e = refl
-      go true q e =
-          let u = kept-some Both rest (st .held) (st .passed) q in
-          absurd (by (u .0) (kept-bytes rest br (st .held) (st .passed) q) e (x .fed q (u .0) (u .1 .0) (u .1 .1) .answered))
+      go true q e = let u = feed-unit part rest slots st rest′ slots′ r bp br x q e in absurd (unit-never-53 pieces (u .0) (u .1 .0) (length slots) (u .1 .1))
 
   finish-53 : (rest slots : List ℕ) (st : State) (slots′ : List ℕ) (r : Finished) → Bytes rest → FinishDone pieces rest slots st slots′ r → (r .answer ≡ A.Refused 53) ↔ (isKept Both rest (st .held) (st .passed) ≡ false)
   finish-53 rest slots st slots′ r br x = (λ e. go (isKept Both rest (st .held) (st .passed)) refl e, λ q. ap (λ (y : Finished). y .answer) (x .alien q .0))
     where
       go : (b : Bool) → isKept Both rest (st .held) (st .passed) ≡ b → r .answer ≡ A.Refused 53 → b ≡ false
       go false q e = refl
-      go true q e =
-          let u = kept-some Both rest (st .held) (st .passed) q in
-          absurd (end-never-53 pieces (u .0) (kept-bytes rest br (st .held) (st .passed) q) (length slots) (told-of (x .ended q (u .0) (u .1 .0) (u .1 .1) .1 .answer) e))
+      go true q e = let u = end-unit rest slots st slots′ r br x q e in absurd (unit-never-53 pieces (u .0) (u .1 .0) (length slots) (u .1 .1))
 
   -- ---- no second answer
 
@@ -196,15 +203,48 @@ module _ (pieces : Pieces) where
       go false q = x .alien q .2
       go true q = let u = kept-some Both rest (st .held) (st .passed) q in by (x .fed q (u .0) (u .1 .0) (u .1 .1) .answered)
 
+  refused-slots-end : (rest slots : List ℕ) (st : State) (slots′ : List ℕ) (r : Finished) (k : ℕ) → FinishDone pieces rest slots st slots′ r → r .answer ≡ A.Refused k → slots′ ≡ slots
+  refused-slots-end rest slots st slots′ r k x e = go (isKept Both rest (st .held) (st .passed)) refl
+    where
+      go : (b : Bool) → isKept Both rest (st .held) (st .passed) ≡ b → slots′ ≡ slots
+      go false q = x .alien q .1
+      go true q = let u = kept-some Both rest (st .held) (st .passed) q in given-refused (x .ended q (u .0) (u .1 .0) (u .1 .1) .1) e
+
+  -- ---- from call to call
+
+  goes-on : (s rest : List ℕ) (st : State) → Bytes s → Leaves Both s rest (st .held) (st .passed) → (part slots rest′ slots′ : List ℕ) (r : Fed) → FeedDone pieces part rest slots st rest′ slots′ r → Leaves Both (s ++ take (r .at) part) rest′ (r .state .held) (r .state .passed)
+  goes-on s rest st b x part slots rest′ slots′ r done = go (f .answered)
+    where
+      f : FedOn pieces (x .since) part rest slots rest′ slots′ r
+      f = done .fed (keeps-kept Both (x .since) rest (st .held) (st .passed) (rest-left Both (x .so-far)) (sofar-bytes b (x .so-far) 1) (x .keeps)) (x .since) (rest-left Both (x .so-far)) (x .keeps)
+
+      go : Answered pieces (x .since ++ take (r .at) part) part slots slots′ r → Leaves Both (s ++ take (r .at) part) rest′ (r .state .held) (r .state .passed)
+      go (Answered.wants o at e g) =
+          record {
+            units = x .units;
+            since = x .since ++ take (r .at) part;
+            so-far = sofar-goes Both (take (r .at) part) (x .so-far) o;
+            keeps = wants-keeps (x .since ++ take (r .at) part) rest rest′ (r .state) (x .keeps .size) o e (f .buffer);
+          }
+      go (Answered.ends w e g) =
+          record {
+            units = x .units ++ ((x .since ++ take (r .at) part) ∷ []);
+            since = [];
+            so-far = ends-one Both (take (r .at) part) (x .so-far) w;
+            keeps = ends-keeps (x .since ++ take (r .at) part) rest rest′ (r .state) (x .keeps .size) w e (f .buffer);
+          }
+
 -- THE STATES THAT A STREAM LEAVES
 pub states-left : (pieces : Pieces) → StatesLeft pieces
 states-left pieces =
     record {
-      reached = λ room taken rest answers st c. let x = stands pieces room c in record { units = x .units; since = x .since; so-far = x .so-far; keeps = x .keeps };
+      reached = λ room taken rest answers values st c. let x = stands pieces room c in record { units = x .units; since = x .since; so-far = x .so-far; keeps = x .keeps };
+      goes-on = goes-on pieces;
       test-exactly = test-exactly;
       feed-53 = feed-53 pieces;
       finish-53 = finish-53 pieces;
       one-feed = one-feed pieces;
       one-finish = one-finish pieces;
       refused-slots = refused-slots pieces;
+      refused-slots-end = refused-slots-end pieces;
     }

@@ -2,3 +2,4 @@
 pub mod Answers
 pub mod Feeding
 pub mod Streams
+pub mod Worked

@@ -97,6 +97,20 @@ module _ (f : Framing) where
       let both = one-first-unit u v r q w x (sym z ∙ p ∙ e) in
       ap (λ (l : List ℕ). l ∷ us) (both .0) ∙ ap (λ (l : List (List ℕ)). v ∷ l) (one-units (both .1) y y′)
 
+  -- a stream that came so far has one list of units that have ended, and one rest
+  rest-not : (u v q : List ℕ) → Rest f u → Whole f v → u ≡ v ++ q → ⊥
+  rest-not u v q (Rest.none e) x h = nil-not v q (whole-some v x) (sym e ∙ h)
+  rest-not u v q (Rest.some o) x h = no-open u v q o x h
+
+  pub one-sofar : {s t u v : List ℕ} {us vs : List (List ℕ)} → s ≡ t → Sofar f s us u → Sofar f t vs v → (us ≡ vs) × (u ≡ v)
+  one-sofar p (Sofar.begun u r) (Sofar.begun v q) = (refl, p)
+  one-sofar p (Sofar.begun u r) (Sofar.behind v q w e more) = absurd (rest-not u v q r w (p ∙ e))
+  one-sofar p (Sofar.behind u r w e more) (Sofar.begun v q) = absurd (rest-not v u r q w (sym p ∙ e))
+  one-sofar p (Sofar.behind u r {us = us} w z y) (Sofar.behind v q {us = vs} x e y′) =
+      let both = one-first-unit u v r q w x (sym z ∙ p ∙ e) in
+      let rest = one-sofar (both .1) y y′ in
+      (ap (λ (l : List ℕ). l ∷ us) (both .0) ∙ ap (λ (l : List (List ℕ)). v ∷ l) (rest .0), rest .1)
+
   -- the end of the stream ends what is open
   closed : (u : List ℕ) → Rest f u → Units f u (closing u)
   unfolding closing

@@ -20,7 +20,8 @@ pub struct LineEnd {
     pub whole: bool,
 }
 
-// A record's first three bytes, and on. Asked for: that the unit is a record of which fewer are held, which `feed_on` has seen.
+// A record's first three bytes, and on. Asked for: that the unit is a record of which fewer than three are held, which
+// `feed_on` has seen.
 pub fn head_on(framing: Framing, part: &[u8], from: usize, rest: &mut [u8], held: usize) -> Fed
     requires { ⌜ (from ≤ length (now part)) × (length (now rest) ≡ 8192) × (held < 3) × (marked framing (firstOf (now part) from (now rest) held) ≡ true) ⌝ }
     ensures { λ r. ⌜ BodyFed framing (now (part .entry)) from (now (rest .entry)) held 0 (now (rest .exit)) r ⌝ }
@@ -64,7 +65,7 @@ pub fn body_on(
     ends(to, Unit::Text(now))
 }
 
-// A line up to its newline; 4,097 bytes of it are kept. Asked for: that the unit is a line of which no more are held.
+// A line up to its newline; 4,097 bytes of it are kept. Asked for: that the unit is a line of which at most 4,097 are held.
 pub fn line_on(framing: Framing, part: &[u8], from: usize, rest: &mut [u8], held: usize) -> Fed
     requires { ⌜ (from ≤ length (now part)) × (length (now rest) ≡ 8192) × (held ≤ 4097) × (marked framing (firstOf (now part) from (now rest) held) ≡ false) ⌝ }
     ensures { λ r. ⌜ FedFor framing (now (part .entry)) from (now (rest .entry)) held 0 (now (rest .exit)) r ⌝ }

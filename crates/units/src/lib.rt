@@ -31,14 +31,14 @@ pub enum Framing {
     Both,
 }
 
-// How many bytes of the open unit stand in the buffer, and how many more of it were passed over.
+// How many bytes of the open unit stand in the buffer; and of a record that says too much how many behind its third were passed over, else 0.
 #[repr(C)]
 pub struct State {
     pub held: usize,
     pub passed: usize,
 }
 
-// A unit with so many of its bytes in the buffer, a record that says too much, another that the end cuts; or that no unit ended, or that no
+// What ended: a unit with so many of its bytes in the buffer, to be read; a record that says too much; another that the end cuts; or nothing. Or no
 // stream leaves what was lent.
 pub enum Unit {
     Text(usize),
@@ -56,7 +56,7 @@ pub struct Fed {
 }
 
 // The part's bytes from a place on, up to the end of the open unit, else to the part's end. Asked for: a place in the part, or its end; `stream`
-// has the part's start.
+// gives 0.
 pub fn feed(framing: Framing, state: State, part: &[u8], from: usize, rest: &mut [u8]) -> Fed
     requires { ⌜ from ≤ length (now part) ⌝ }
     ensures { λ r. ⌜ FeedDone framing (now (part .entry)) from (now (rest .entry)) state (now (rest .exit)) r ⌝ }

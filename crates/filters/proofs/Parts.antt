@@ -1,26 +1,13 @@
--- Parts of a part, texts put one behind the other, and what is kept over units one after the other. Assumes nothing.
+-- Texts put one behind the other, and what is kept over units one after the other. Assumes nothing.
 use Prim.Native.Nat.{ℕ, _+_, _-_, _≤_, _<_}
 use mathlib.Core.Path.{_≡_, refl, sym, ap, _∙_}
 use mathlib.Core.List.{List, [], _∷_, _++_, append-assoc}
 use native.Mathlib.Omega.{arith}
 use lib.ListN.{length, take, drop}
-use lib.Seq.{take-add, drop-drop, take-at, drop-at, length-take-le, sets-eq}
+use lib.Seq.{take-at, drop-at, length-take-le, sets-eq}
 use Rattle.listing_rows.specs.Rows.{Put}
-use Rattle.framing.specs.Feeding.{between}
+use Rattle.units.specs.Feeding.{between}
 use Rattle.filters.specs.Filter.{after, texts}
-
-pub between-none : (s : List ℕ) (a : ℕ) → between s a a ≡ []
-unfolding between
-between-none s a = let e : a - a ≡ 0 = omega arith in rw e
-
-pub between-then : (s : List ℕ) (a b d : ℕ) → a ≤ b → b ≤ d → between s a d ≡ between s a b ++ between s b d
-unfolding between
-between-then s a b d h k =
-    let e : d - a ≡ (b - a) + (d - b) = omega arith in
-    let f : a + (b - a) ≡ b = omega arith in
-    ap (λ (n : ℕ). take n (drop a s)) e
-    ∙ take-add (b - a) (d - b) (drop a s)
-    ∙ ap (λ (l : List ℕ). take (b - a) (drop a s) ++ take (d - b) l) (drop-drop (b - a) a s ∙ ap (λ (n : ℕ). drop n s) f)
 
 -- what was put lies in the buffer between the two places
 pub put-between : {out s exit : List ℕ} {at r : ℕ} → Put out at s exit r → between exit at r ≡ s

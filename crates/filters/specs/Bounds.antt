@@ -2,16 +2,15 @@
 use Prim.Native.Nat.{ℕ, _+_, _≤_, _<_}
 use Rattle.filters.specs.declared.Run.{Run}
 
--- room for what a unit and the totals may put out: a record has at most 5,227 bytes, a row at most 160
+-- room for what a unit and the totals may put out: a record has at most 5,227 bytes, a row at most 75
 pub record Room (out told : ℕ) (run : Run) : Type 0 where
   pub at : run .at + 5400 ≤ out
   pub told-at : run .told + 400 ≤ told
 
 -- each place lies in what is lent
-pub record Within (part unit out told : ℕ) (run r : Run) : Type 0 where
+pub record Within (part out told : ℕ) (run r : Run) : Type 0 where
   pub up : run .from ≤ r .from
   pub from-within : r .from ≤ part
-  pub held-within : r .held ≤ unit
   pub at-within : r .at ≤ out
   pub told-within : r .told ≤ told
 

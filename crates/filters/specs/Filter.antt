@@ -1,62 +1,59 @@
 -- A filter, unit by unit: what each puts out by the counts before it, and the counts after it.
 use Prim.Native.Nat.{ℕ, min, _+_, _-_, _^_}
-use mathlib.Core.Bool.{Bool, true, cond}
 use mathlib.Core.List.{List, [], _∷_, _++_}
-use Rattle.listing_rows.specs.Rows.{totalsRow, stopRow}
-use Rattle.scan.specs.declared.Pieces.the-variants.{Lenient}
-use Rattle.intake.specs.Intake.{startsA1}
+use Rattle.text.specs.Told.{Told}
+use Rattle.entry.specs.declared.Entry.{Entry}
+use Rattle.listing_rows.specs.Rows.{totalsRow}
 use Rattle.filters.specs.declared.Filter.{Filter}
 use Rattle.filters.specs.declared.Filter.the-variants as F
 use Rattle.filters.specs.declared.Counts.{Counts}
 use Rattle.filters.specs.declared.row.Seen.{Seen}
 use Rattle.filters.specs.declared.row.Seen.the-variants as S
-use Rattle.filters.specs.Texts.{seenLine, seenRecord, rowOf, recordOf, toldBy}
+use Rattle.filters.specs.Texts.{answerBy, seenBy, rowOf, recordBy, toldBy}
 
 -- one more, in 64 bits
 unfoldable pub oneMore : ℕ → ℕ
 oneMore n = min (n + 1) (2 ^ 64 - 1)
 
-unfoldable pub moreBy : Seen → ℕ → ℕ
-moreBy (S.Entry kind dwords) n = oneMore n
-moreBy (S.Refused k) n = n
-
--- the counts with one unit more, as it is seen
+-- the counts with one unit more, as it is seen; where none ended they stay
 unfoldable pub counted : Counts → Seen → Counts
-counted c seen = record { units = oneMore (c .units); entries = moreBy seen (c .entries); stopped = c .stopped }
+counted c (S.Entry kind dwords) = record { units = oneMore (c .units); entries = oneMore (c .entries) }
+counted c (S.Refused k) = record { units = oneMore (c .units); entries = c .entries }
+counted c S.Nothing = c
 
--- the counts with the line at which packing stops
-unfoldable pub stoppedAt : Counts → Counts
-stoppedAt c = record { units = oneMore (c .units); entries = c .entries; stopped = true }
+-- what a unit puts out, by its answer
+unfoldable pub outBy : Filter → Counts → List ℕ → Told Entry → List ℕ
+outBy F.Listing c u told = rowOf (oneMore (c .units)) (seenBy told)
+outBy (F.Pack pieces) c u told = recordBy u told
+outBy (F.Unpack pieces) c u told = rowOf (oneMore (c .units)) (seenBy told)
 
--- what a unit puts out
+-- and what is told of it
+unfoldable pub tellBy : Filter → Counts → Told Entry → List ℕ
+tellBy F.Listing c told = []
+tellBy (F.Pack pieces) c told = toldBy (oneMore (c .units)) (seenBy told)
+tellBy (F.Unpack pieces) c told = []
+
 unfoldable pub outText : Filter → Counts → List ℕ → List ℕ
-outText F.Listing c u = rowOf (oneMore (c .units)) (seenLine Lenient u)
-outText (F.Pack pieces) c u = cond (c .stopped) [] (cond (startsA1 u) [] (recordOf pieces u))
-outText F.Unpack c u = rowOf (oneMore (c .units)) (seenRecord u)
+outText f c u = outBy f c u (answerBy f u)
 
--- what is told of it
 unfoldable pub toldText : Filter → Counts → List ℕ → List ℕ
-toldText F.Listing c u = []
-toldText (F.Pack pieces) c u = cond (c .stopped) [] (cond (startsA1 u) (stopRow (oneMore (c .units))) (toldBy (oneMore (c .units)) (seenLine pieces u)))
-toldText F.Unpack c u = []
+toldText f c u = tellBy f c (answerBy f u)
 
 -- the counts after it
 unfoldable pub nextCounts : Filter → Counts → List ℕ → Counts
-nextCounts F.Listing c u = counted c (seenLine Lenient u)
-nextCounts (F.Pack pieces) c u = cond (c .stopped) c (cond (startsA1 u) (stoppedAt c) (counted c (seenLine pieces u)))
-nextCounts F.Unpack c u = counted c (seenRecord u)
+nextCounts f c u = counted c (seenBy (answerBy f u))
 
 -- what the end puts out
 unfoldable pub lastOut : Filter → Counts → List ℕ
 lastOut F.Listing c = totalsRow (c .units) (c .entries)
 lastOut (F.Pack pieces) c = []
-lastOut F.Unpack c = totalsRow (c .units) (c .entries)
+lastOut (F.Unpack pieces) c = totalsRow (c .units) (c .entries)
 
 -- and what it tells
 unfoldable pub lastTold : Filter → Counts → List ℕ
 lastTold F.Listing c = []
-lastTold (F.Pack pieces) c = cond (c .stopped) [] (totalsRow (c .units) (c .entries))
-lastTold F.Unpack c = []
+lastTold (F.Pack pieces) c = totalsRow (c .units) (c .entries)
+lastTold (F.Unpack pieces) c = []
 
 module _ {S : Type 0} (next : S → List ℕ → S) where
   -- what is kept after units

@@ -6,88 +6,97 @@
 mod packing;
 mod row;
 
-use crate::packing::pack_line;
+use crate::packing::pack_unit;
 use crate::row::put_row;
 use crate::row::see_line;
-use crate::row::see_record;
-use framing::Framing;
-use framing::feed;
-use framing::units_in;
+use crate::row::see_unit;
 use listing_rows::put_totals;
 use scan::Pieces;
+use units::Framing;
+use units::State;
+use units::Unit;
+use units::feed_on;
+use units::units_in;
 ghost use mathlib.Core.Path.{_≡_};
-ghost use mathlib.Core.Bool.{false};
+ghost use mathlib.Core.Bool.{true};
 ghost use Prim.Native.Nat.{_+_, _≤_, _<_};
-ghost use lib.ListN.{length, take};
-ghost use Rattle.framing.specs.Feeding.{unitsIn};
+ghost use lib.ListN.{length};
+ghost use Rattle.units.specs.Kept.{isKept};
+ghost use Rattle.units.specs.Feeding.{textLength};
+ghost use Rattle.units.specs.Counting.{Ended};
 ghost use Rattle.filters.specs.Bounds.{Room, Within, Goes, Stops};
 ghost use Rattle.filters.specs.Texts.{framingOf, putFraming};
-ghost use Rattle.filters.specs.Calls.{UnitPut, LastPut, Took, Finished};
+ghost use Rattle.filters.specs.Calls.{CutPut, LastPut, Took, Finished};
 
-// The listing reads lines leniently, always; what is packed is read by a choice.
+// The listing reads lines leniently, always. What is packed, and what is listed of lines and records, is read by a choice.
 pub enum Filter {
     Listing,
     Pack(Pieces),
-    Unpack,
+    Unpack(Pieces),
 }
 
-// How many units there were, how many of them were entries, and whether a record came where lines are packed.
+// How many units there were, and how many of them were entries.
 pub struct Counts {
     pub units: u64,
     pub entries: u64,
-    pub stopped: bool,
 }
 
-// Where the part was left, how much of the open unit is held, where each output goes on, and the counts.
+// Where the part was left, what is kept of the open unit, where each output goes on, and the counts.
 pub struct Run {
     pub from: usize,
-    pub held: usize,
+    pub state: State,
     pub at: usize,
     pub told: usize,
     pub counts: Counts,
 }
 
 pub fn start() -> Counts
-    ensures { λ r. ⌜ (r .units ≡ 0) × (r .entries ≡ 0) × (r .stopped ≡ false) ⌝ }
+    ensures { λ r. ⌜ (r .units ≡ 0) × (r .entries ≡ 0) ⌝ }
 {
     Counts {
         units: 0,
         entries: 0,
-        stopped: false,
     }
 }
 
-// Which framing a filter's input has.
+// What a filter's input is made of.
 fn framing_of(filter: Filter) -> Framing
     ensures { λ r. ⌜ r ≡ framingOf filter ⌝ }
 {
     match filter {
         Filter::Listing => Framing::Lines,
-        Filter::Pack(_) => Framing::Lines,
-        Filter::Unpack => Framing::Records,
+        Filter::Pack(_) => Framing::Both,
+        Filter::Unpack(_) => Framing::Both,
     }
 }
 
 // How many rows, or records where those are put out, stand whole in what was put out.
 pub fn whole_in(filter: Filter, put: &[u8]) -> usize
-    ensures { λ r. ⌜ r ≡ unitsIn (putFraming filter) (now (put .entry)) ⌝ }
+    ensures { λ r. ⌜ Ended (putFraming filter) (now (put .entry)) r ⌝ }
 {
     match filter {
         Filter::Listing => units_in(Framing::Lines, put),
-        Filter::Pack(_) => units_in(Framing::Records, put),
-        Filter::Unpack => units_in(Framing::Lines, put),
+        Filter::Pack(_) => units_in(Framing::Both, put),
+        Filter::Unpack(_) => units_in(Framing::Lines, put),
     }
 }
 
-// What one unit puts out.
-fn put_unit(filter: Filter, unit: &[u8], out: &mut [u8], told: &mut [u8], run: Run) -> Run
-    requires { ⌜ Room (length (now out)) (length (now told)) run ⌝ }
-    ensures { λ r. ⌜ UnitPut filter (now (unit .entry)) (now (out .entry)) (now (told .entry)) run (now (out .exit)) (now (told .exit)) r ⌝ }
+// What a unit puts out that was cut off the input. Asked for: that its bytes stand in the unit buffer, as `units` leaves them, and room.
+fn put_unit(
+    filter: Filter,
+    cut: Unit,
+    unit: &[u8],
+    out: &mut [u8],
+    told: &mut [u8],
+    run: Run,
+) -> Run
+    requires { ⌜ (textLength cut ≤ length (now unit)) × (Room (length (now out)) (length (now told)) run) ⌝ }
+    ensures { λ r. ⌜ CutPut filter cut (now (unit .entry)) (now (out .entry)) (now (told .entry)) run (now (out .exit)) (now (told .exit)) r ⌝ }
 {
     match filter {
-        Filter::Listing => put_row(see_line(unit, Pieces::Lenient), out, run),
-        Filter::Pack(pieces) => pack_line(unit, pieces, out, told, run),
-        Filter::Unpack => put_row(see_record(unit), out, run),
+        Filter::Listing => put_row(see_line(cut, unit), out, run),
+        Filter::Pack(pieces) => pack_unit(cut, pieces, unit, out, told, run),
+        Filter::Unpack(pieces) => put_row(see_unit(cut, pieces, unit), out, run),
     }
 }
 
@@ -100,24 +109,25 @@ fn turn(
     told: &mut [u8],
     run: Run,
 ) -> Run
-    requires { ⌜ (run .from < length (now part)) × (run .held ≤ length (now unit)) × (65539 ≤ length (now unit)) × (Room (length (now out)) (length (now told)) run) ⌝ }
+    requires { ⌜ (run .from < length (now part)) × (isKept (framingOf filter) (now unit) (run .state .held) (run .state .passed) ≡ true) × (Room (length (now out)) (length (now told)) run) ⌝ }
     ensures { λ r. ⌜ (Took filter (now (part .entry)) (now (unit .entry)) (now (out .entry)) (now (told .entry)) run (now (unit .exit)) (now (out .exit)) (now (told .exit)) r) × (run .from < r .from) ⌝ }
 {
-    let fed = feed(framing_of(filter), part, run.from, unit, run.held);
-    let mut next = run;
-    next.from = fed.at;
-    next.held = fed.held;
-    if fed.whole {
-        let held = fed.held;
-        let mut put = put_unit(filter, &unit[..held], out, told, next);
-        put.held = 0;
-        return put;
-    }
-    next
+    let fed = feed_on(framing_of(filter), run.state, part, run.from, unit);
+    let state = fed.state;
+    let cut = fed.unit;
+    let counts = run.counts;
+    let next = Run {
+        from: fed.at,
+        state: state,
+        at: run.at,
+        told: run.told,
+        counts: counts,
+    };
+    put_unit(filter, cut, unit, out, told, next)
 }
 
 // What the units of a part put out, for as much of it as there is room for: until the part is used up, or an output has less room than a
-// unit may take. Asked for: places within the buffers, and a unit buffer that holds any record; `moving` keeps them so.
+// unit may take. Asked for: places within the buffers, and a unit that is kept as a stream keeps it; `moving` keeps them so.
 pub fn take_some(
     filter: Filter,
     part: &[u8],
@@ -126,10 +136,10 @@ pub fn take_some(
     told: &mut [u8],
     run: Run,
 ) -> Run
-    requires { ⌜ (run .from ≤ length (now part)) × (run .held ≤ length (now unit)) × (65539 ≤ length (now unit)) × (run .at ≤ length (now out)) × (run .told ≤ length (now told)) ⌝ }
+    requires { ⌜ (run .from ≤ length (now part)) × (isKept (framingOf filter) (now unit) (run .state .held) (run .state .passed) ≡ true) × (run .at ≤ length (now out)) × (run .told ≤ length (now told)) ⌝ }
     ensures { λ r. ⌜ Took filter (now (part .entry)) (now (unit .entry)) (now (out .entry)) (now (told .entry)) run (now (unit .exit)) (now (out .exit)) (now (told .exit)) r ⌝ }
     ensures { λ r. ⌜ Stops (length (now (part .entry))) (length (now (out .entry))) (length (now (told .entry))) r ⌝ }
-    ensures { λ r. ⌜ (Within (length (now (part .entry))) (length (now (unit .entry))) (length (now (out .entry))) (length (now (told .entry))) run r) × (Goes (length (now (part .entry))) (length (now (out .entry))) (length (now (told .entry))) run r) ⌝ }
+    ensures { λ r. ⌜ (Within (length (now (part .entry))) (length (now (out .entry))) (length (now (told .entry))) run r) × (Goes (length (now (part .entry))) (length (now (out .entry))) (length (now (told .entry))) run r) ⌝ }
 {
     let mut at = run;
     while at.from < part.len() {
@@ -144,17 +154,15 @@ pub fn take_some(
     at
 }
 
-// What the end of the input puts out: that of the open unit, if one is held, and the totals. Asked for: room for them, which `moving` makes.
+// What the end of the input puts out: that of the open unit, if there is one, and the totals. Asked for: a unit that is kept as a stream
+// keeps it, and room, which `moving` makes.
 pub fn finish(filter: Filter, unit: &[u8], out: &mut [u8], told: &mut [u8], run: Run) -> Run
-    requires { ⌜ (run .held ≤ length (now unit)) × (Room (length (now out)) (length (now told)) run) ⌝ }
-    ensures { λ r. ⌜ Finished filter (take (run .held) (now (unit .entry))) (now (out .entry)) (now (told .entry)) run (now (out .exit)) (now (told .exit)) r ⌝ }
+    requires { ⌜ (isKept (framingOf filter) (now unit) (run .state .held) (run .state .passed) ≡ true) × (Room (length (now out)) (length (now told)) run) ⌝ }
+    ensures { λ r. ⌜ Finished filter (now (unit .entry)) (now (out .entry)) (now (told .entry)) run (now (out .exit)) (now (told .exit)) r ⌝ }
 {
-    let held = run.held;
-    if 0 < held {
-        let put = put_unit(filter, &unit[..held], out, told, run);
-        return put_last(filter, out, told, put);
-    }
-    put_last(filter, out, told, run)
+    let cut = units::finish(framing_of(filter), run.state, unit);
+    let put = put_unit(filter, cut, unit, out, told, run);
+    put_last(filter, out, told, put)
 }
 
 // The totals, where the filter puts them.
@@ -170,15 +178,12 @@ fn put_last(filter: Filter, out: &mut [u8], told: &mut [u8], run: Run) -> Run
             done.at = put_totals(out, run.at, units, entries);
             return done;
         }
-        Filter::Unpack => {
+        Filter::Unpack(_) => {
             done.at = put_totals(out, run.at, units, entries);
             return done;
         }
         Filter::Pack(_) => {
-            if !run.counts.stopped {
-                done.told = put_totals(told, run.told, units, entries);
-                return done;
-            }
+            done.told = put_totals(told, run.told, units, entries);
             return done;
         }
     }

@@ -13,7 +13,7 @@ use Rattle.print.specs.Put.{Placed, bufferAfter, placeAfter}
 use Rattle.text.specs.Quote.{bytes}
 use Rattle.text.proofs.Places.{by-order}
 use Rattle.text.proofs.Decimals.{decimal-short, decimal-long}
-use Rattle.listing_rows.specs.Rows.{Put, wordAndNumber, refusedRow, entryRow, totalsRow, stopRow}
+use Rattle.listing_rows.specs.Rows.{Put, wordAndNumber, refusedRow, entryRow, totalsRow}
 
 sets-append : (l : List ℕ) (i j : ℕ) (a b : List ℕ) → j ≡ i + length a → sets (sets l i a) j b ≡ sets l i (a ++ b)
 sets-append l i j [] b e = let q : j ≡ i = omega arith in rw q
@@ -129,8 +129,3 @@ module _ {out : List ℕ} {at : ℕ} (room : at + 64 ≤ length out) where
       put-then x
       (put-then y
       (newline-put (omega (arith, x .place, put-size x, put-size y, y .place, word-length (bytes "lines ") lines, word-length (bytes " entries ") entries)) z))
-
-module _ {out : List ℕ} {at : ℕ} (room : at + 160 ≤ length out) where
-  pub stop-row : (line : ℕ) {m exit : List ℕ} {a r : ℕ} → Put out at (wordAndNumber (bytes "pack: line ") line) m a → Placed m a (bytes " starts with A1: it is a record and no line; nothing of it or behind it was packed" ++ (10 ∷ [])) exit r → Put out at (stopRow line) exit r
-  unfolding stopRow
-  stop-row line x y = put-then x (put-whole (omega (arith, x .place, put-size x, word-length (bytes "pack: line ") line)) y)

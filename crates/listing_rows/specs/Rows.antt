@@ -24,11 +24,6 @@ entryRow line kind dwords =
 unfoldable pub totalsRow : ℕ → ℕ → List ℕ
 totalsRow lines entries = wordAndNumber (bytes "lines ") lines ++ (wordAndNumber (bytes " entries ") entries ++ (10 ∷ []))
 
--- what tells that packing stopped at a line
-unfoldable pub stopRow : ℕ → List ℕ
-stopRow line =
-    wordAndNumber (bytes "pack: line ") line ++ (bytes " starts with A1: it is a record and no line; nothing of it or behind it was packed" ++ (10 ∷ []))
-
 -- a text's bytes in the buffer from a place on, all else as found, and the place behind them
 pub record Put (out : List ℕ) (at : ℕ) (s exit : List ℕ) (r : ℕ) : Type 0 where
   pub fits : at + length s ≤ length out

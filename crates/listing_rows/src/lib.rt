@@ -1,9 +1,9 @@
-// The listing's rows of text. No row takes more than 64 bytes, which is what a caller makes room for; that of a stop takes at most 160.
+// The listing's rows of text. No row takes more than 64 bytes, which is what a caller makes room for.
 use print::put::put;
 use print::put::put_decimal;
 ghost use Prim.Native.Nat.{_+_, _≤_};
 ghost use lib.ListN.{length};
-ghost use Rattle.listing_rows.specs.Rows.{Put, wordAndNumber, refusedRow, entryRow, totalsRow, stopRow};
+ghost use Rattle.listing_rows.specs.Rows.{Put, wordAndNumber, refusedRow, entryRow, totalsRow};
 
 // The row of a refused line: its place among the lines, and the number.
 pub fn put_refused(out: &mut [u8], at: usize, line: u64, number: u8) -> usize
@@ -34,19 +34,6 @@ pub fn put_totals(out: &mut [u8], at: usize, lines: u64, entries: u64) -> usize
     let a = put_number(out, at, b"lines ", lines);
     let b = put_number(out, a, b" entries ", entries);
     put(out, b, b"\n")
-}
-
-// The row of a line that starts with A1, where lines are packed.
-pub fn put_stop(out: &mut [u8], at: usize, line: u64) -> usize
-    requires { ⌜ at + 160 ≤ length (now out) ⌝ }
-    ensures { λ r. ⌜ Put (now (out .entry)) at (stopRow line) (now (out .exit)) r ⌝ }
-{
-    let a = put_number(out, at, b"pack: line ", line);
-    put(
-        out,
-        a,
-        b" starts with A1: it is a record and no line; nothing of it or behind it was packed\n",
-    )
 }
 
 // A word and then a number.

@@ -1,11 +1,11 @@
 -- What each step makes of the state, field by field, so that no fault and no count is lost on the way.
-use Prim.Native.Nat.{ℕ, _+_, _-_, _^_, _<_, min}
+use Prim.Native.Nat.{ℕ, _+_, _-_, _^_, _≤_, _<_, min}
 use mathlib.Core.Path.{_≡_}
 use mathlib.Core.Bool.{Bool, true, false}
 use mathlib.Core.List.{List}
 use lib.ListN.{take}
-use Rattle.framing.specs.declared.Framing.the-variants as Framed
-use Rattle.framing.specs.Feeding.{unitsIn}
+use Rattle.units.specs.declared.Framing.the-variants as Framed
+use Rattle.units.specs.Counting.{Ended}
 use Rattle.filters.specs.declared.Run.{Run}
 use Rattle.channel.specs.declared.writing.Wrote.{Wrote}
 use Rattle.channel.specs.Moving.{Written}
@@ -18,11 +18,11 @@ use Rattle.moving.specs.declared.state.State.{State}
 pub record Begun (r : State) : Type 0 where
   pub from : r .from ≡ 0
   pub held : r .held ≡ 0
+  pub passed : r .passed ≡ 0
   pub at : r .at ≡ 0
   pub told-at : r .told ≡ 0
   pub units : r .counts .units ≡ 0
   pub entries : r .counts .entries ≡ 0
-  pub stopped : r .counts .stopped ≡ false
   pub whole : r .whole ≡ 0
   pub unwritten : r .unwritten ≡ 0
   pub untold : r .untold ≡ false
@@ -33,6 +33,7 @@ pub record Begun (r : State) : Type 0 where
 pub record Shut (errno : ℕ) (s r : State) : Type 0 where
   pub from : r .from ≡ s .from
   pub held : r .held ≡ s .held
+  pub passed : r .passed ≡ s .passed
   pub at : r .at ≡ s .at
   pub told-at : r .told ≡ s .told
   pub counts : r .counts ≡ s .counts
@@ -42,15 +43,16 @@ pub record Shut (errno : ℕ) (s r : State) : Type 0 where
   pub unread : r .unread ≡ errno
   pub no-more : r .open ≡ false
 
--- nothing more is put out: exactly after a write that failed, or where the counts say that it stopped
+-- nothing more is put out: exactly after a write that failed
 pub record Over (s : State) (r : Bool) : Type 0 where
   pub fault : 0 < s .unwritten → r ≡ true
-  pub sound : s .unwritten ≡ 0 → r ≡ s .counts .stopped
+  pub sound : s .unwritten ≡ 0 → r ≡ false
 
 -- the run's places and counts are the state's
 pub record Runs (s : State) (run : Run) : Type 0 where
   pub from : s .from ≡ run .from
-  pub held : s .held ≡ run .held
+  pub held : s .held ≡ run .state .held
+  pub passed : s .passed ≡ run .state .passed
   pub at : s .at ≡ run .at
   pub told-at : s .told ≡ run .told
   pub counts : s .counts ≡ run .counts
@@ -63,32 +65,43 @@ pub record Kept (s r : State) : Type 0 where
   pub unread : r .unread ≡ s .unread
   pub as-open : r .open ≡ s .open
 
--- the line that was held is counted, and is held no more
-pub record Counted (lines : ℕ) (stopped : Bool) (s r : State) : Type 0 where
+-- a unit is counted
+pub record Counted (units : ℕ) (s r : State) : Type 0 where
   pub from : r .from ≡ s .from
-  pub held : r .held ≡ 0
+  pub held : r .held ≡ s .held
+  pub passed : r .passed ≡ s .passed
   pub at : r .at ≡ s .at
   pub told-at : r .told ≡ s .told
-  pub units : r .counts .units ≡ lines
+  pub units-are : r .counts .units ≡ units
   pub entries : r .counts .entries ≡ 0
-  pub as-stopped : r .counts .stopped ≡ stopped
   pub kept : Kept s r
 
+-- a unit was shown, or there was none: what waits lies in the buffer, of so many bytes, and what is open is as it was
+pub record Shown (out : ℕ) (s r : State) : Type 0 where
+  pub from : r .from ≡ s .from
+  pub held : r .held ≡ s .held
+  pub passed : r .passed ≡ s .passed
+  pub at : r .at ≤ out
+  pub told-at : r .told ≡ s .told
+
 -- how many records stand whole in what `pack` puts out, and how many rows in what the others do
-abbrev pub wholeIn : Program → List ℕ → ℕ
-wholeIn P.Listing s = unitsIn Framed.Lines s
-wholeIn (P.Pack pieces) s = unitsIn Framed.Records s
-wholeIn P.Unpack s = unitsIn Framed.Lines s
-wholeIn (P.Show pieces) s = rowsIn s
+abbrev pub WholeIn : Program → List ℕ → ℕ → Type 0
+WholeIn P.Listing s n = Ended Framed.Lines s n
+WholeIn (P.Pack pieces) s n = Ended Framed.Both s n
+WholeIn (P.Unpack pieces) s n = Ended Framed.Lines s n
+WholeIn (P.Show pieces) s n = n ≡ rowsIn s
 
 -- what waited was written, all of it or a front: the fault of that write is the state's, and what is whole in the front is counted
 pub record OutWritten (program : Program) (out : List ℕ) (s r : State) : Type 0 where
   pub wrote : Wrote
   pub written : Written (s .at) wrote
   pub unwritten : r .unwritten ≡ wrote .errno
-  pub whole : r .whole ≡ min (s .whole + wholeIn program (take (wrote .bytes) out)) (2 ^ 64 - 1)
+  pub counted : ℕ
+  pub counted-is : WholeIn program (take (wrote .bytes) out) counted
+  pub whole : r .whole ≡ min (s .whole + counted) (2 ^ 64 - 1)
   pub from : r .from ≡ s .from
   pub held : r .held ≡ s .held
+  pub passed : r .passed ≡ s .passed
   pub at : r .at ≡ 0
   pub told-at : r .told ≡ s .told
   pub counts : r .counts ≡ s .counts
@@ -104,6 +117,7 @@ pub record ToldWritten (s r : State) : Type 0 where
   pub sound : wrote .errno ≡ 0 → r .untold ≡ s .untold
   pub from : r .from ≡ s .from
   pub held : r .held ≡ s .held
+  pub passed : r .passed ≡ s .passed
   pub at : r .at ≡ s .at
   pub told-at : r .told ≡ 0
   pub counts : r .counts ≡ s .counts

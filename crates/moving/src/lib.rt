@@ -1,5 +1,5 @@
-// The one loop of the programs: it reads a part of standard input, hands it on, and writes what comes of it. A read or a write that fails,
-// and a record among lines, end it with one sentence on standard error and a status.
+// The one loop of the programs: it reads a part of standard input, hands it on, and writes what comes of it. A read or a write that fails
+// ends it with one sentence on standard error and a status.
 mod ending;
 mod output;
 mod part;
@@ -21,15 +21,16 @@ use choice::Asked;
 use choice::ask_choice;
 use libc::STDIN_FILENO;
 use scan::Pieces;
+ghost use mathlib.Core.Path.{_≡_};
 ghost use Prim.Native.Nat.{_≤_};
 ghost use lib.ListN.{length};
-ghost use Rattle.moving.specs.Bounds.{Fits};
+ghost use Rattle.moving.specs.Bounds.{framingBy, Fits};
 
-// `pack` and `show` read lines by a choice.
+// All but the listing take lines and records, and read lines by a choice.
 pub enum Program {
     Listing,
     Pack(Pieces),
-    Unpack,
+    Unpack(Pieces),
     Show(Pieces),
 }
 
@@ -50,6 +51,14 @@ pub fn run_pack() {
     }
 }
 
+// The program `unpack`, which may be told its choice.
+pub fn run_unpack() {
+    match ask_choice(1) {
+        Asked::Choice(pieces) => run_program(Program::Unpack(pieces), b""),
+        Asked::Wrong => give_usage(Program::Unpack(Pieces::Strict)),
+    }
+}
+
 pub fn give_usage(program: Program) {
     tell_usage(program);
     give_status(Status::BadCall);
@@ -58,7 +67,7 @@ pub fn give_usage(program: Program) {
 // A whole program, over a book that was checked; the filters have none.
 pub fn run_program(program: Program, book: &[u8]) {
     let mut input = io::large_buffer();
-    let mut unit = [0u8; 65539];
+    let mut unit = [0u8; 8192];
     let mut out = io::large_buffer();
     let mut told = io::large_buffer();
     move_input(program, book, &mut input, &mut unit, &mut out, &mut told);
@@ -72,7 +81,7 @@ fn move_input(
     out: &mut [u8],
     told: &mut [u8],
 )
-    requires { ⌜ (65539 ≤ length (now unit)) × (5400 ≤ length (now out)) × (400 ≤ length (now told)) ⌝ }
+    requires { ⌜ (length (now unit) ≡ 8192) × (5400 ≤ length (now out)) × (400 ≤ length (now told)) ⌝ }
 {
     let end = move_all(program, book, input, unit, out, told);
     let done = drain(program, out, told, end);
@@ -88,8 +97,8 @@ fn move_all(
     out: &mut [u8],
     told: &mut [u8],
 ) -> State
-    requires { ⌜ (65539 ≤ length (now unit)) × (5400 ≤ length (now out)) × (400 ≤ length (now told)) ⌝ }
-    ensures { λ r. ⌜ Fits (length (now (unit .entry))) (length (now (out .entry))) (length (now (told .entry))) r ⌝ }
+    requires { ⌜ (length (now unit) ≡ 8192) × (5400 ≤ length (now out)) × (400 ≤ length (now told)) ⌝ }
+    ensures { λ r. ⌜ Fits (framingBy program) (now (unit .exit)) (length (now (out .entry))) (length (now (told .entry))) r ⌝ }
 {
     let mut state = begin();
     let mut turns = u64::MAX;
@@ -113,8 +122,8 @@ fn move_next(
     told: &mut [u8],
     state: State,
 ) -> State
-    requires { ⌜ (65539 ≤ length (now unit)) × (5400 ≤ length (now out)) × (400 ≤ length (now told)) × (Fits (length (now unit)) (length (now out)) (length (now told)) state) ⌝ }
-    ensures { λ r. ⌜ Fits (length (now (unit .entry))) (length (now (out .entry))) (length (now (told .entry))) r ⌝ }
+    requires { ⌜ (5400 ≤ length (now out)) × (400 ≤ length (now told)) × (Fits (framingBy program) (now unit) (length (now out)) (length (now told)) state) ⌝ }
+    ensures { λ r. ⌜ Fits (framingBy program) (now (unit .exit)) (length (now (out .entry))) (length (now (told .entry))) r ⌝ }
 {
     match read_some(STDIN_FILENO, input) {
         Got::Bytes(n) => move_part(program, book, &input[..n], unit, out, told, state),

@@ -11,16 +11,19 @@ use channel::sink::sum;
 use filters::Counts;
 use filters::Filter;
 use filters::take_some;
-use framing::Framing;
-use framing::feed;
-use intake::starts_a1;
 use scan::Pieces;
-use shown::show_line;
+use shown::show_unit;
+use units::Framing;
+use units::Unit;
+use units::feed_on;
 ghost use mathlib.Core.Path.{_≡_};
 ghost use Prim.Native.Nat.{_+_, _≤_, _<_};
 ghost use lib.ListN.{length};
-ghost use Rattle.moving.specs.Bounds.{Fits, Ready, Went};
-ghost use Rattle.moving.specs.Steps.{Counted};
+ghost use Rattle.units.specs.declared.Framing.the-variants.{Both};
+ghost use Rattle.units.specs.Feeding.{textLength};
+ghost use Rattle.filters.specs.Texts.{framingOf};
+ghost use Rattle.moving.specs.Bounds.{framingBy, Fits, Ready, Went};
+ghost use Rattle.moving.specs.Steps.{Counted, Shown};
 
 // All of it, with room made where too little is left.
 pub fn move_part(
@@ -32,8 +35,8 @@ pub fn move_part(
     told: &mut [u8],
     state: State,
 ) -> State
-    requires { ⌜ (65539 ≤ length (now unit)) × (5400 ≤ length (now out)) × (400 ≤ length (now told)) × (Fits (length (now unit)) (length (now out)) (length (now told)) state) ⌝ }
-    ensures { λ r. ⌜ Fits (length (now (unit .entry))) (length (now (out .entry))) (length (now (told .entry))) r ⌝ }
+    requires { ⌜ (5400 ≤ length (now out)) × (400 ≤ length (now told)) × (Fits (framingBy program) (now unit) (length (now out)) (length (now told)) state) ⌝ }
+    ensures { λ r. ⌜ Fits (framingBy program) (now (unit .exit)) (length (now (out .entry))) (length (now (told .entry))) r ⌝ }
 {
     let mut now = state;
     now.from = 0;
@@ -56,14 +59,16 @@ fn move_some(
     told: &mut [u8],
     state: State,
 ) -> State
-    requires { ⌜ Ready (length (now part)) (length (now unit)) (length (now out)) (length (now told)) state ⌝ }
-    ensures { λ r. ⌜ Went (length (now (part .entry))) (length (now (unit .entry))) (length (now (out .entry))) (length (now (told .entry))) state r ⌝ }
+    requires { ⌜ Ready (framingBy program) (length (now part)) (now unit) (length (now out)) (length (now told)) state ⌝ }
+    ensures { λ r. ⌜ Went (framingBy program) (length (now (part .entry))) (now (unit .exit)) (length (now (out .entry))) (length (now (told .entry))) state r ⌝ }
 {
     match program {
         Program::Listing => filter_some(Filter::Listing, part, unit, out, told, state),
         Program::Pack(pieces) => filter_some(Filter::Pack(pieces), part, unit, out, told, state),
-        Program::Unpack => filter_some(Filter::Unpack, part, unit, out, told, state),
-        Program::Show(pieces) => show_some(book, pieces, part, unit, out, state),
+        Program::Unpack(pieces) => {
+            filter_some(Filter::Unpack(pieces), part, unit, out, told, state)
+        }
+        Program::Show(pieces) => show_some(book, pieces, part, unit, out, told, state),
     }
 }
 
@@ -75,51 +80,62 @@ fn filter_some(
     told: &mut [u8],
     state: State,
 ) -> State
-    requires { ⌜ Ready (length (now part)) (length (now unit)) (length (now out)) (length (now told)) state ⌝ }
-    ensures { λ r. ⌜ Went (length (now (part .entry))) (length (now (unit .entry))) (length (now (out .entry))) (length (now (told .entry))) state r ⌝ }
+    requires { ⌜ Ready (framingOf filter) (length (now part)) (now unit) (length (now out)) (length (now told)) state ⌝ }
+    ensures { λ r. ⌜ Went (framingOf filter) (length (now (part .entry))) (now (unit .exit)) (length (now (out .entry))) (length (now (told .entry))) state r ⌝ }
 {
     let run = take_some(filter, part, unit, out, told, run_of(state));
     with_run(state, run)
 }
 
-// Up to the end of the next line.
+// Up to the end of the next unit.
 fn show_some(
     book: &[u8],
     pieces: Pieces,
     part: &[u8],
     unit: &mut [u8],
     out: &mut [u8],
+    told: &[u8],
     state: State,
 ) -> State
-    requires { ⌜ (state .from < length (now part)) × (65539 ≤ length (now unit)) × (state .held ≤ length (now unit)) × (state .at ≤ length (now out)) ⌝ }
-    ensures { λ r. ⌜ (state .from < r .from) × (r .from ≤ length (now (part .entry))) × (r .held ≤ length (now (unit .entry))) × (r .at ≤ length (now (out .entry))) × (r .told ≡ state .told) ⌝ }
+    requires { ⌜ Ready Both (length (now part)) (now unit) (length (now out)) (length (now told)) state ⌝ }
+    ensures { λ r. ⌜ Went Both (length (now (part .entry))) (now (unit .exit)) (length (now (out .entry))) (length (now (told .entry))) state r ⌝ }
 {
-    let fed = feed(Framing::Lines, part, state.from, unit, state.held);
+    let kept = units::State {
+        held: state.held,
+        passed: state.passed,
+    };
+    let fed = feed_on(Framing::Both, kept, part, state.from, unit);
+    let left = fed.state;
+    let cut = fed.unit;
     let mut next = state;
     next.from = fed.at;
-    next.held = fed.held;
-    if fed.whole {
-        return show_held(book, pieces, unit, out, next);
-    }
-    next
+    next.held = left.held;
+    next.passed = left.passed;
+    show_cut(book, pieces, cut, unit, out, next)
 }
 
-// What is shown of the line that is held. One that starts with A1 is a record, and what follows may be pieces of it: nothing more is shown.
-pub fn show_held(book: &[u8], pieces: Pieces, unit: &[u8], out: &mut [u8], state: State) -> State
-    requires { ⌜ (state .held ≤ length (now unit)) × (state .at ≤ length (now out)) ⌝ }
-    ensures { λ r. ⌜ (r .from ≡ state .from) × (r .held ≡ 0) × (r .at ≤ length (now (out .entry))) × (r .told ≡ state .told) ⌝ }
+// What is shown of a unit that was cut off: nothing where none was. Asked for: that its bytes stand in the unit buffer.
+pub fn show_cut(
+    book: &[u8],
+    pieces: Pieces,
+    cut: Unit,
+    unit: &[u8],
+    out: &mut [u8],
+    state: State,
+) -> State
+    requires { ⌜ (textLength cut ≤ length (now unit)) × (state .at ≤ length (now out)) ⌝ }
+    ensures { λ r. ⌜ Shown (length (now (out .entry))) state r ⌝ }
 {
-    let held = state.held;
-    let line = &unit[..held];
-    let lines = sum(state.counts.units, 1);
-    if starts_a1(line) {
-        return counted(state, lines, true);
+    if is_open(cut) {
+        return state;
     }
-    let sink = show_line(
+    let units = sum(state.counts.units, 1);
+    let sink = show_unit(
         book,
-        line,
+        cut,
+        unit,
         pieces,
-        lines,
+        units,
         out,
         Sink {
             at: state.at,
@@ -127,23 +143,32 @@ pub fn show_held(book: &[u8], pieces: Pieces, unit: &[u8], out: &mut [u8], state
             errno: state.unwritten,
         },
     );
-    let mut next = counted(state, lines, false);
+    let mut next = counted(state, units);
     next.at = least(sink.at, out.len());
     next.whole = sink.whole;
     next.unwritten = sink.errno;
     next
 }
 
-fn counted(state: State, lines: u64, stopped: bool) -> State
-    ensures { λ r. ⌜ Counted lines stopped state r ⌝ }
+// No unit has ended.
+fn is_open(cut: Unit) -> bool {
+    match cut {
+        Unit::Text(_) => false,
+        Unit::Long => false,
+        Unit::Cut => false,
+        Unit::Open => true,
+        Unit::Alien => true,
+    }
+}
+
+fn counted(state: State, units: u64) -> State
+    ensures { λ r. ⌜ Counted units state r ⌝ }
 {
     let counts = Counts {
-        units: lines,
+        units: units,
         entries: 0,
-        stopped: stopped,
     };
     let mut next = state;
-    next.held = 0;
     next.counts = counts;
     next
 }

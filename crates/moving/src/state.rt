@@ -4,11 +4,12 @@ use filters::Run;
 use filters::start;
 ghost use Rattle.moving.specs.Steps.{Begun, Shut, Over, Runs, Kept};
 
-// The filter's run; how many rows or records were written whole; 0 or the errno of the write to standard output that failed; whether one to
+// The filter's run, what is kept of the open unit as two numbers; how many rows or records were written whole; 0 or the errno of the write to standard output that failed; whether one to
 // standard error did; 0 or the errno of the read that failed; and whether there may be more input.
 pub struct State {
     pub from: usize,
     pub held: usize,
+    pub passed: usize,
     pub at: usize,
     pub told: usize,
     pub counts: Counts,
@@ -26,6 +27,7 @@ pub fn begin() -> State
     State {
         from: 0,
         held: 0,
+        passed: 0,
         at: 0,
         told: 0,
         counts: counts,
@@ -54,23 +56,24 @@ pub fn closed(state: State) -> State
     next
 }
 
-// Nothing more is put out: a write failed, or a record came among lines.
+// Nothing more is put out: a write failed.
 pub fn is_over(state: State) -> bool
     ensures { λ r. ⌜ Over state r ⌝ }
 {
-    if 0 < state.unwritten {
-        return true;
-    }
-    state.counts.stopped
+    0 < state.unwritten
 }
 
 pub fn run_of(state: State) -> Run
     ensures { λ r. ⌜ Runs state r ⌝ }
 {
     let counts = state.counts;
+    let kept = units::State {
+        held: state.held,
+        passed: state.passed,
+    };
     Run {
         from: state.from,
-        held: state.held,
+        state: kept,
         at: state.at,
         told: state.told,
         counts: counts,
@@ -81,9 +84,11 @@ pub fn with_run(state: State, run: Run) -> State
     ensures { λ r. ⌜ (Runs r run) × (Kept state r) ⌝ }
 {
     let counts = run.counts;
+    let kept = run.state;
     State {
         from: run.from,
-        held: run.held,
+        held: kept.held,
+        passed: kept.passed,
         at: run.at,
         told: run.told,
         counts: counts,

@@ -120,9 +120,9 @@ pub record CallsForCNever : Type 0 where
 
 -- What the programs' rows are made from.
 pub record RowsNever : Type 0 where
-  -- `see_line` of `filters`: a row of the listing, and what `pack` tells of a line.
+  -- A line as `filters` sees it: a row of the listing, by lenient, and of `unpack`, and what `pack` tells of a line.
   pub see-line : (pieces : Pieces) (text : List ℕ) (answer : Seen) → answer ≡ seenLine pieces text → answer ≡ S.Refused 10 → ⊥
-  -- `see_record` of `filters`: a row of `unpack`.
+  -- A record as `filters` sees it: a row of `unpack`, and what `pack` tells of a record.
   pub see-record : (text : List ℕ) → Bytes text → (answer : Seen) → answer ≡ seenRecord text → answer ≡ S.Refused 10 → ⊥
   -- `step_line` of `desk`, whatever is kept: a row of `unanswered`.
   pub step-line : (pieces : Pieces) (text : List ℕ) (desk : Desk) (answer : Turn) → Turned pieces text desk answer → answer .row ≡ Row.Refused 10 → ⊥

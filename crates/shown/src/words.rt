@@ -32,7 +32,7 @@ pub fn say_source(out: &mut [u8], sink: Sink, source: Source) -> Sink {
     }
 }
 
-// A number that refuses a line or a packet, and its sentence.
+// A number that refuses a line, a packet or a record, and its sentence.
 pub fn say_refusal(out: &mut [u8], sink: Sink, word: &[u8], number: u8) -> Sink {
     let numbered = say_number(out, sink, word, number as u64);
     let begun = say(out, numbered, b": ");
@@ -44,7 +44,10 @@ fn say_reason(out: &mut [u8], sink: Sink, number: u8) -> Sink {
     if number < 20 {
         return say_of_line(out, sink, number);
     }
-    say_of_packet(out, sink, number)
+    if number < 30 {
+        return say_of_packet(out, sink, number);
+    }
+    say_of_record(out, sink, number)
 }
 
 fn say_of_line(out: &mut [u8], sink: Sink, number: u8) -> Sink {
@@ -88,6 +91,26 @@ fn say_of_packet(out: &mut [u8], sink: Sink, number: u8) -> Sink {
             out,
             sink,
             b"a packet of kind 2 or 3 has fewer dwords than its table has entries",
+        ),
+        _ => say(out, sink, b"refused"),
+    }
+}
+
+fn say_of_record(out: &mut [u8], sink: Sink, number: u8) -> Sink {
+    match number {
+        31 => say(out, sink, b"a field of the record runs past the end"),
+        32 => say(
+            out,
+            sink,
+            b"a tag of the record is unknown, repeated or not ascending",
+        ),
+        33 => say(out, sink, b"a required tag of the record is missing"),
+        34 => say(out, sink, b"the body of a record's field breaks its rule"),
+        54 => say(out, sink, b"the stream ends inside a record that is not 55"),
+        55 => say(
+            out,
+            sink,
+            b"the record says that it has more than 5,227 bytes",
         ),
         _ => say(out, sink, b"refused"),
     }

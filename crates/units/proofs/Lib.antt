@@ -9,3 +9,4 @@ pub mod States
 pub mod Ends
 pub mod Existence
 pub mod Calls
+pub mod Counting

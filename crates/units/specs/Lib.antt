@@ -2,3 +2,4 @@
 pub mod Units
 pub mod Kept
 pub mod Feeding
+pub mod Counting

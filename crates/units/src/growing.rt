@@ -81,7 +81,8 @@ pub fn line_on(framing: Framing, part: &[u8], from: usize, rest: &mut [u8], held
     wants(at, now, 0)
 }
 
-fn line_end(part: &[u8], from: usize) -> LineEnd
+// Behind the first newline.
+pub fn line_end(part: &[u8], from: usize) -> LineEnd
     requires { ⌜ from ≤ length (now part) ⌝ }
     ensures { λ r. ⌜ LineEnds (now (part .entry)) from r ⌝ }
 {

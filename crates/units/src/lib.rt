@@ -4,9 +4,12 @@
 //     feed_on   the same where what is kept is known to be a stream's
 //     finish    the unit that the stream's end ends
 //     is_kept   whether some stream leaves this
+//     units_in  how many units have ended in a stream that came so far
+mod ending;
 mod growing;
 mod keeping;
 
+use crate::ending::unit_end;
 use crate::growing::body_on;
 use crate::growing::head_on;
 use crate::growing::line_on;
@@ -20,6 +23,7 @@ ghost use Prim.Native.Nat.{_≤_};
 ghost use lib.ListN.{length};
 ghost use Rattle.units.specs.Kept.{isKept};
 ghost use Rattle.units.specs.Feeding.{firstOf, FedFor, FeedDone, FinishDone, endUnit};
+ghost use Rattle.units.specs.Counting.{Ended};
 
 // What a stream is made of: lines alone, whatever they start with; or lines and records, which start with A1.
 pub enum Framing {
@@ -132,4 +136,21 @@ pub fn is_kept(framing: Framing, state: State, rest: &[u8]) -> bool
         return false;
     }
     is_left(framing, &rest[..held], state.passed)
+}
+
+// How many units have ended in a stream that came so far.
+pub fn units_in(framing: Framing, s: &[u8]) -> usize
+    ensures { λ r. ⌜ Ended framing (now (s .entry)) r ⌝ }
+{
+    let mut n: usize = 0;
+    let mut at: usize = 0;
+    while at < s.len() {
+        let end = unit_end(framing, s, at);
+        if !end.whole {
+            return n;
+        }
+        n += 1;
+        at = end.at;
+    }
+    n
 }

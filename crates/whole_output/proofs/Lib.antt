@@ -1,5 +1,4 @@
 -- However the input is cut, the output is that of the whole input.
-pub mod Kept
 pub mod Streaming
 pub mod Counting
 pub mod Whole

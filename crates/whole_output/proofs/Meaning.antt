@@ -1,36 +1,37 @@
--- What rows and records say: the readings are exact by scan's and record's theorems, and a frame is a stated size that is the whole; a unit that is open
--- ends its stream. Assumes nothing.
-use Prim.Native.Nat.{ℕ, min, _+_, _*_}
-use mathlib.Core.Path.{_≡_, refl, sym, ap, _∙_}
-use mathlib.Core.Bool.{Bool, true, false, cond, _&&_}
-use mathlib.Core.List.{List, [], _∷_, _++_}
+-- What rows and records say: the readings are exact by scan's and record's theorems, and a unit is read by its first byte; one that is open ends its
+-- stream. Assumes nothing.
+use Prim.Native.Nat.{ℕ, _+_, _≤_, _<_}
+use mathlib.Core.Path.{_≡_, refl, sym, ap, subst, _∙_}
+use mathlib.Core.Bool.{true, false}
+use mathlib.Core.List.{List, [], _∷_, _++_, append-nil}
 use mathlib.Core.Logic.{_↔_}
 use native.Mathlib.Omega.{arith}
-use borrow.Author.Tests.{eq-eqb, eqb-true, le-leb, leb-true}
-use lib.Dec.{leb, eqb}
-use lib.ListN.{length, getD, length-append, replicate, length-replicate}
+use borrow.Author.Tests.{lt-ltb, le-ltb}
+use lib.ListN.{length, length-append, replicate, length-replicate}
 use Rattle.text.specs.Told as T
-use Rattle.text.proofs.Places.{clash}
 use Rattle.tlv.specs.Number.{Bytes}
-use Rattle.tlv.proofs.Fields.{Found, two-bytes, found-field, field-found, field-is, field-all}
 use Rattle.entry.specs.declared.Entry.{Entry}
 use Rattle.entry.specs.Entry.{EntryValue, valueOf}
 use Rattle.scan.specs.declared.Pieces.{Pieces}
 use Rattle.scan.specs.Parse.{parseOf, lineDwords, slotsBy}
 use Rattle.scan.specs.Line.{Line, Applies}
-use Rattle.scan.proofs.Theorems.{one-line-reading, line-entry-is, line-entry-all, line-number-exactly, Handed, parsed-entry}
-use Rattle.record.specs.Grammar.{recordBytes, IsRecord}
-use Rattle.record.specs.Conditions.{Framed, Breaks, unframed, breaks}
+use Rattle.scan.proofs.Theorems.{one-line-reading, line-entry-all, line-number-exactly, Handed, parsed-entry}
+use Rattle.record.specs.Grammar.{recordBytes, Ranged, IsRecord}
+use Rattle.record.specs.Conditions.{Breaks, breaks}
 use Rattle.record.specs.Reading.{over, dwordsOf, readOf}
 use Rattle.record.proofs.Records.{Accepts, record-accepted-exactly, accepted-is-record, record-refused-exactly}
 use Rattle.writer.proofs.Puts.{part-length}
+use Rattle.intake.specs.Intake.{startsA1, Belongs}
 use Rattle.intake.proofs.WhatItIs.{refused-record, line-never-none, record-never-none}
-use Rattle.framing.specs.declared.Framing.{Framing}
-use Rattle.framing.specs.declared.Framing.the-variants.{Records}
-use Rattle.framing.specs.Units.{statedSize, isWhole, Units, unitsOf}
-use Rattle.framing.proofs.OneList.{units-are}
+use Rattle.units.specs.declared.Framing.{Framing}
+use Rattle.units.specs.Units.{stated, Units, Whole, Open}
+use Rattle.units.specs.Kept.{isLong}
+use Rattle.units.proofs.Streams.{not-both}
+use Rattle.stream.specs.Answers.{answerOf, saidBy, recordsOf}
+use Rattle.stream.proofs.Records.{record-answer, record-is-bytes, said-belongs, unit-says}
+use Rattle.filters.specs.declared.Filter.the-variants as F
 use Rattle.filters.specs.declared.row.Seen.the-variants as S
-use Rattle.filters.specs.Texts.{seenBy, seenLine, seenRecord, recordBy, recordOf}
+use Rattle.filters.specs.Texts.{answerBy, seenBy, seenOf, seenLine, seenRecord, recordBy}
 use Rattle.whole_output.specs.Meaning.{Tells, TextsMean}
 
 -- slots enough for any entry
@@ -80,19 +81,6 @@ module _ (pieces : Pieces) (u : List ℕ) where
       is T.absent q x = absurd (line-never-none pieces u 256 q)
       is (T.refused j) q x = let same : j ≡ k = cc in line-number-exactly pieces u 256 k .0 (q ∙ ap T.refused same)
 
-  pub line-record : (v : EntryValue) → Line pieces u v → recordOf pieces u ≡ recordBytes v
-  unfolding recordOf recordBy
-  line-record v a = let f = line-entry-all pieces u a in rw (f .1) (ap recordBytes (f .2))
-
-  pub no-line-no-record : ((v : EntryValue) → Line pieces u v → ⊥) → recordOf pieces u ≡ []
-  unfolding recordOf recordBy
-  no-line-no-record none = go (parseOf pieces u 256) refl
-    where
-      go : (r : T.Told Entry) → parseOf pieces u 256 ≡ r → recordBy u r ≡ []
-      go (T.is e) q = absurd (none _ (line-entry-is pieces u 256 q))
-      go T.absent q = refl
-      go (T.refused k) q = refl
-
 -- ---- records
 
 module _ (u : List ℕ) (bytes : Bytes u) where
@@ -138,61 +126,72 @@ module _ (u : List ℕ) (bytes : Bytes u) where
       is T.absent q x = absurd (record-never-none u 256 q)
       is (T.refused j) q x = let same : j ≡ k = cc in read-breaks k (q ∙ ap T.refused same)
 
-  -- ---- frames
+-- ---- units
 
-  whole-framed : isWhole Records u ≡ true → Framed u
-  unfolding isWhole statedSize
-  whole-framed w = go (leb 3 (length u)) (eqb (getD u 0 0) 0xA1) refl refl w
+module _ (pieces : Pieces) (u : List ℕ) where
+  sees-a-line : startsA1 u ≡ false → seenOf (F.Unpack pieces) u ≡ seenLine pieces u
+  unfolding seenOf answerBy answerOf seenLine
+  sees-a-line q = rw q
+
+  sees-a-record : startsA1 u ≡ true → stated u ≤ 5227 → stated u ≤ length u → seenOf (F.Unpack pieces) u ≡ seenRecord u
+  unfolding seenOf answerBy answerOf seenRecord isLong
+  sees-a-record q a b = rw (q, le-ltb 5227 (stated u) a, le-ltb (length u) (stated u) b)
+
+  sees-a-long-one : startsA1 u ≡ true → 5227 < stated u → seenOf (F.Unpack pieces) u ≡ S.Refused 55
+  unfolding seenOf answerBy answerOf seenBy isLong
+  sees-a-long-one q a = rw (q, lt-ltb 5227 (stated u) a)
+
+  sees-a-cut-one : startsA1 u ≡ true → stated u ≤ 5227 → length u < stated u → seenOf (F.Unpack pieces) u ≡ S.Refused 54
+  unfolding seenOf answerBy answerOf seenBy isLong
+  sees-a-cut-one q a b = rw (q, le-ltb 5227 (stated u) a, lt-ltb (length u) (stated u) b)
+
+  unit-record : Bytes u → (v : EntryValue) → Belongs pieces u v → recordBy u (answerOf pieces u 256) ≡ recordBytes v
+  unfolding recordBy recordsOf
+  unit-record bytes v b = ap recordsOf (unit-says pieces u v b) ∙ append-nil (recordBytes v)
+
+  no-record : Bytes u → ((v : EntryValue) → Belongs pieces u v → ⊥) → recordBy u (answerOf pieces u 256) ≡ []
+  unfolding recordBy recordsOf saidBy
+  no-record bytes none = go (answerOf pieces u 256) refl
     where
-      go : (x y : Bool) → leb 3 (length u) ≡ x → eqb (getD u 0 0) 0xA1 ≡ y
-          → x && eqb (length u) (cond (x && y) (3 + min (getD u 1 0 + 256 * getD u 2 0) 65535) 0) ≡ true → Framed u
-      go false y a b w = absurd (clash w refl)
-      go true false a b w = absurd (omega (arith, leb-true 3 (length u) a, eqb-true (length u) 0 w))
-      go true true a b w =
-          let size : length u ≡ 3 + min (getD u 1 0 + 256 * getD u 2 0) 65535 = eqb-true (length u) _ w in
-          field-is u 0 0xA1 3 (length u)
-          (found-field u 0 0xA1 3 (length u)
-          (record {
-            tag-is = sym (eqb-true (getD u 0 0) 0xA1 b);
-            from-is = refl;
-            to-is = omega (arith, size, two-bytes u 1, bytes 1, bytes 2);
-            within = omega arith;
-          }))
+      go : (t : T.Told Entry) → answerOf pieces u 256 ≡ t → recordsOf (saidBy u t) ≡ []
+      go (T.is e) q = absurd (none _ (said-belongs pieces u bytes 256 e q))
+      go T.absent q = refl
+      go (T.refused k) q = refl
 
-  framed-whole : Framed u → isWhole Records u ≡ true
-  unfolding isWhole statedSize
-  framed-whole h =
-      let f : Found u 0 0xA1 3 (length u) = field-found u 0 (field-all u 0 0xA1 3 (length u) h) in
-      let size : length u ≡ 3 + min (getD u 1 0 + 256 * getD u 2 0) 65535 = omega (arith, f .to-is, two-bytes u 1, bytes 1, bytes 2) in
-      rw (le-leb 3 (length u) (omega (arith, f .to-is)), eq-eqb (getD u 0 0) 0xA1 (sym (f .tag-is))) (eq-eqb (length u) _ size)
+  record-as-it-is : Bytes u → (v : EntryValue) → IsRecord u v → recordBy u (answerOf pieces u 256) ≡ u
+  record-as-it-is bytes v r = unit-record bytes v (Belongs.a-record r) ∙ r .bytes
 
-  pub whole-is-framed : (isWhole Records u ≡ true) ↔ Framed u
-  whole-is-framed = (whole-framed, framed-whole)
+-- a record that is made of a value is seen with its kind and count
+pub made-seen : (pieces : Pieces) (v : EntryValue) → Ranged v → seenOf (F.Unpack pieces) (recordBytes v) ≡ S.Entry (v .kind) (length (v .dwords))
+unfolding seenOf answerBy seenRecord
+made-seen pieces v r =
+    let made : IsRecord (recordBytes v) v = record { ranged = r; bytes = refl } in
+    ap seenBy (record-answer (recordBytes v) v made pieces 256) ∙ record-seen (recordBytes v) (record-is-bytes (recordBytes v) v made) v made
 
-  pub open-is-refused : isWhole Records u ≡ false → seenRecord u ≡ S.Refused 30
-  open-is-refused w = record-refused 30 .1 (unframed refl (λ f. clash (framed-whole f) w))
-
--- a unit that is not whole has none behind it
-only-last : (f : Framing) {s : List ℕ} {us : List (List ℕ)} → Units f s us → (front : List (List ℕ)) (u : List ℕ) (back : List (List ℕ)) → us ≡ front ++ (u ∷ back) → isWhole f u ≡ false → back ≡ []
-only-last f Units.none front u back e w = absurd (omega (arith, ap length e, length-append front (u ∷ back)))
-only-last f (Units.last x some o) [] u back e w = cc
-only-last f (Units.last x some o) (y ∷ front) u back e w = absurd (omega (arith, ap length e, length-append front (u ∷ back)))
-only-last f (Units.next x r i cut rest) [] u back e w = let same : x ≡ u = cc in absurd (clash (rw same at (i .whole)) w)
-only-last f (Units.next x r i cut rest) (y ∷ front) u back e w = only-last f rest front u back (cc) w
-
-pub only-the-last-open : (s : List ℕ) (front : List (List ℕ)) (u : List ℕ) (back : List (List ℕ)) → unitsOf Records s ≡ front ++ (u ∷ back) → isWhole Records u ≡ false → back ≡ []
-only-the-last-open s front u back e w = only-last Records (units-are Records s) front u back e w
+-- a unit that is open has none behind it
+only-the-last-open : (f : Framing) (s : List ℕ) (us front : List (List ℕ)) (u : List ℕ) (back : List (List ℕ)) → Units f s us → us ≡ front ++ (u ∷ back) → Open f u → back ≡ []
+only-the-last-open f s us front u back Units.none e o = absurd (omega (arith, ap length e, length-append front (u ∷ back)))
+only-the-last-open f s us [] u back (Units.last x w) e o = cc
+only-the-last-open f s us (y ∷ front) u back (Units.last x w) e o = absurd (omega (arith, ap length e, length-append front (u ∷ back)))
+only-the-last-open f s us [] u back (Units.next x r w cut rest) e o = let same : x ≡ u = cc in absurd (not-both f u o (subst (Whole f) same w))
+only-the-last-open f s us (y ∷ front) u back (Units.next x r w cut rest) e o = only-the-last-open f r _ front u back rest (cc) o
 
 pub texts-mean : TextsMean
+unfolding seenOf answerBy seenLine
 texts-mean =
     record {
       line-row = line-row;
       line-refused = line-refused;
-      line-record = line-record;
-      no-line-no-record = no-line-no-record;
       record-row = record-row;
       record-refused = record-refused;
-      whole-is-framed = whole-is-framed;
+      listing-sees = λ u. refl;
+      both-see = λ pieces u. refl;
+      sees-a-line = sees-a-line;
+      sees-a-record = sees-a-record;
+      sees-a-long-one = sees-a-long-one;
+      sees-a-cut-one = sees-a-cut-one;
+      unit-record = unit-record;
+      no-record = no-record;
+      record-as-it-is = record-as-it-is;
       only-the-last-open = only-the-last-open;
-      open-is-refused = open-is-refused;
     }

@@ -1,5 +1,4 @@
--- Document 01's sample through the whole listing: the stream is cut by computation, the `fwd` line is read as scan's case has it, the two others and the
--- rows by computation. Assumes nothing.
+-- Document 01's sample through the whole listing: the `fwd` line is read as scan's case has it, the two others and the rows by computation. Assumes nothing.
 use Prim.Native.Nat.{ℕ}
 use Prim.Native.String.{String}
 use mathlib.Core.Path.{_≡_, refl}
@@ -12,10 +11,8 @@ use Rattle.scan.specs.Frame.{idle, firstHigh, frameColon, frameAscii, frameOf}
 use Rattle.scan.specs.Parse.{withFrame, parseOf}
 use Rattle.scan.proofs.Cases.{fwd}
 use Rattle.listing_rows.specs.Rows.{wordAndNumber, refusedRow, entryRow, totalsRow}
-use Rattle.framing.specs.declared.Framing.the-variants.{Lines}
-use Rattle.framing.specs.Units.{isWhole, closed, unitsFrom, unitsOf}
 use Rattle.filters.specs.declared.row.Seen.the-variants as S
-use Rattle.filters.specs.Texts.{seenBy, seenLine, rowOf, isEntry}
+use Rattle.filters.specs.Texts.{answerBy, seenBy, seenOf, seenLine, rowOf, isEntry}
 use Rattle.whole_output.specs.Output.{rowsFrom, entriesIn, listed, listingOf}
 
 -- a quoted line with its newline
@@ -46,11 +43,7 @@ nonsense-seen : seenLine Lenient (line "nonsense") ≡ S.Refused 4
 unfolding reads
 nonsense-seen = refl
 
-sample-lines : unitsOf Lines (line "# tracer: nop" ++ (fwdLine ++ line "nonsense")) ≡ line "# tracer: nop" ∷ fwdLine ∷ line "nonsense" ∷ []
-unfolding unitsFrom isWhole closed
-sample-lines = refl
-
 -- document 01's sample: three lines, four rows
-pub sample : listingOf (line "# tracer: nop" ++ (fwdLine ++ line "nonsense")) ≡ line "1 refused 1" ++ (line "2 kind 1 dwords 3" ++ (line "3 refused 4" ++ line "lines 3 entries 1"))
-unfolding prints
-sample = rw (sample-lines, comment-seen, fwd-seen, nonsense-seen)
+pub sample : listingOf (line "# tracer: nop" ∷ fwdLine ∷ line "nonsense" ∷ []) ≡ line "1 refused 1" ++ (line "2 kind 1 dwords 3" ++ (line "3 refused 4" ++ line "lines 3 entries 1"))
+unfolding prints seenOf answerBy seenLine
+sample = rw (comment-seen, fwd-seen, nonsense-seen)

@@ -1,48 +1,43 @@
--- `pack` into `unpack`: what comes out for an input.
--- How to read it: as Chains; `All P l` is "P holds of each of l", `map f l` is f of each of l, in their order, and `(x : A) × P` "there is an x so that P".
-use Prim.Native.Nat.{ℕ}
+-- `pack` into `unpack`, and into `pack` again: what comes out for an input.
+-- How to read it: as Chains; `map f l` is f of each of l, in their order.
+use Prim.Native.Nat.{ℕ, _+_}
 use mathlib.Core.Path.{_≡_}
 use mathlib.Core.List.{List, [], _∷_, _++_, map}
 use lib.ListN.{length}
-use Rattle.tlv.specs.Grammar.{All}
 use Rattle.entry.specs.Entry.{EntryValue}
 use Rattle.scan.specs.declared.Pieces.{Pieces}
-use Rattle.scan.specs.Line.{Line}
-use Rattle.listing_rows.specs.Rows.{totalsRow}
-use Rattle.framing.specs.declared.Framing.the-variants.{Lines, Records}
-use Rattle.framing.specs.Units.{unitsOf}
-use Rattle.filters.specs.declared.row.Seen.{Seen}
-use Rattle.filters.specs.declared.row.Seen.the-variants as S
+use Rattle.record.specs.Grammar.{recordBytes}
+use Rattle.listing_rows.specs.Rows.{entryRow, totalsRow}
+use Rattle.units.specs.declared.Framing.the-variants.{Both}
+use Rattle.units.specs.Units.{Units}
+use Rattle.stream.specs.Answers.{saidOf}
 use Rattle.filters.specs.declared.Filter.the-variants as F
-use Rattle.filters.specs.Texts.{seenLine, recordOf}
-use Rattle.whole_output.specs.Output.{rowsFrom, linesBefore, packingOf, unpackingOf}
+use Rattle.whole_output.specs.Output.{packingOf, packingTells, unpackingOf}
 use Rattle.whole_output.specs.Chains.{Went}
 
--- a line in front of others, if it is an entry
-unfoldable pub keptBy : Seen → List ℕ → List (List ℕ) → List (List ℕ)
-keptBy (S.Entry kind dwords) u us = u ∷ us
-keptBy (S.Refused k) u us = us
+-- the rows of values, the first of which stands behind n others: each with its kind and how many dwords it has
+unfoldable pub valueRows : ℕ → List EntryValue → List ℕ
+valueRows n [] = []
+valueRows n (v ∷ vs) = entryRow (n + 1) (v .kind) (length (v .dwords)) ++ valueRows (n + 1) vs
 
--- the lines that are entries
-unfoldable pub kept : Pieces → List (List ℕ) → List (List ℕ)
-kept pieces [] = []
-kept pieces (u ∷ us) = keptBy (seenLine pieces u) u (kept pieces us)
+-- values, listed: a row for each, numbered from 1, then their number, twice
+unfoldable pub valueListing : List EntryValue → List ℕ
+valueListing vs = valueRows 0 vs ++ totalsRow (length vs) (length vs)
 
--- the lines of an input that `pack` packs: the entries before the first line that starts with A1
-unfoldable pub packedLines : Pieces → List ℕ → List (List ℕ)
-packedLines pieces s = kept pieces (linesBefore (unitsOf Lines s))
-
--- lines that are entries, listed: a row for each, numbered from 1, then their number, twice
-unfoldable pub entryListing : Pieces → List (List ℕ) → List ℕ
-entryListing pieces us = rowsFrom (seenLine pieces) 0 us ++ totalsRow (length us) (length us)
-
--- What `pack` puts out for an input by its choice, as `unpack` takes it.
-pub record PackIntoUnpack (pieces : Pieces) (s : List ℕ) : Type 0 where
-  -- Its records are those of the packed lines, in their order: none is split, joined with another, lost or made up.
-  pub records-are : unitsOf Records (packingOf pieces s) ≡ map (recordOf pieces) (packedLines pieces s)
-  -- `unpack` lists them as these lines are listed: each with its line's kind and number of dwords; lines and entries are both their number.
-  pub listing-is : unpackingOf (packingOf pieces s) ≡ entryListing pieces (packedLines pieces s)
-  -- Each of these lines belongs to the grammar, so no row is a refusal.
-  pub all-lines : All (λ u. (v : EntryValue) × Line pieces u v) (packedLines pieces s)
+-- What `pack` puts out by its choice for an input with these units, as `unpack` takes it, by any choice.
+pub record PackIntoUnpack (pieces : Pieces) (s : List ℕ) (us : List (List ℕ)) : Type 0 where
+  -- Its units are the records of what the input's lines and records say, in their order: none is split, joined with another, lost or made up.
+  pub records-are : Units Both (packingOf pieces us) (map recordBytes (saidOf pieces us))
+  -- `unpack` lists them: each with its kind and number of dwords, none refused; units and entries are both their number.
+  pub listing-is : (any : Pieces) → unpackingOf any (map recordBytes (saidOf pieces us)) ≡ valueListing (saidOf pieces us)
   -- The same of the calls: whatever parts and rooms either has, with all that `pack` put out as its input `unpack` puts out that listing.
-  pub piped : (packed told out told′ : List ℕ) → Went (F.Pack pieces) s packed told → Went F.Unpack packed out told′ → out ≡ entryListing pieces (packedLines pieces s)
+  pub piped : (any : Pieces) (packed told out told′ : List ℕ) → Went (F.Pack pieces) s packed told → Went (F.Unpack any) packed out told′
+      → out ≡ valueListing (saidOf pieces us)
+
+-- The accident: what `pack` put out is given to `pack` again, by any choice.
+pub record PackTwice (pieces : Pieces) (s : List ℕ) (us : List (List ℕ)) : Type 0 where
+  -- The same bytes come out, whatever parts and rooms either has.
+  pub same-bytes : (any : Pieces) (packed told again told′ : List ℕ) → Went (F.Pack pieces) s packed told → Went (F.Pack any) packed again told′ → again ≡ packed
+  -- No unit of it is refused: the second tells the totals alone, and both are the number of the records.
+  pub none-refused : (any : Pieces) (packed told again told′ : List ℕ) → Went (F.Pack pieces) s packed told → Went (F.Pack any) packed again told′
+      → told′ ≡ totalsRow (length (saidOf pieces us)) (length (saidOf pieces us))

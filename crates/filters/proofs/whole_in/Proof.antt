@@ -3,6 +3,9 @@ use native.Mathlib.Omega.{arith}
 use borrow.Author.Needs.{needs}
 use Rattle.filters.proofs.whole_in.Statement.{statement}
 use Rattle.filters.proofs.whole_in.Tie as tie
+use Rattle.filters.proofs.whole_in.Reads as reads
+use Rattle.filters.proofs.whole_in.Lts as lts
+use Rattle.units.proofs.units_in.Reads as units-in-reads
 
 enum-told : tie.Need-enum-told
 enum-told c = search needs

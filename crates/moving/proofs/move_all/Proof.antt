@@ -1,15 +1,20 @@
 -- `move_all` meets its contract: the buffers stay as long as they were, and the turns fall. Assumes nothing.
-use mathlib.Core.Path.{_≡_, refl}
+use Rattle.moving.proofs.Places.{Sized, fits-now, fits-before, sized-again, shut-fits, kept-at, begun-kept}
+use Rattle.moving.specs.Bounds.{framingBy, Fits}
 use lib.ListN.{length}
-use Rattle.moving.specs.Bounds.{Fits}
-use Rattle.moving.proofs.Places.{Sized, fits-now, fits-before, sized-again, shut-fits}
+use mathlib.Core.Path.{_≡_, refl}
 use borrow.Author.Needs.{needs}
 use native.Mathlib.Omega.{arith}
 use Rattle.moving.proofs.move_all.Statement.{statement}
 use Rattle.moving.proofs.move_all.Tie as tie
+use Rattle.moving.proofs.move_all.Reads as reads
+use Rattle.moving.proofs.move_all.Lts as lts
+use Rattle.moving.proofs.move_next.Reads as move-next-reads
+use Rattle.moving.proofs.state.begin.Reads as begin-reads
+use Rattle.moving.proofs.state.unread.Reads as unread-reads
 
 abbrev Inv-loop : tie.InvT-loop
-Inv-loop program book input₀ unit₀ out₀ told₀ state₀ turns₀ input unit out told state turns = (length input ≡ length input₀) × (Sized (length unit₀) (length out₀) (length told₀) (length unit) (length out) (length told)) × (Fits (length unit₀) (length out₀) (length told₀) state)
+Inv-loop program book input₀ unit₀ out₀ told₀ state₀ turns₀ input unit out told state turns = (length input ≡ length input₀) × (Sized (length unit₀) (length out₀) (length told₀) (length unit) (length out) (length told)) × (Fits (framingBy program) unit (length out₀) (length told₀) state)
 
 abbrev μ-loop : tie.MeasureT-loop
 μ-loop program book input₀ unit₀ out₀ told₀ state₀ turns₀ input unit out told state turns = turns
@@ -18,10 +23,10 @@ begin-requires : tie.Need-begin-requires Inv-loop μ-loop
 begin-requires c κs = search needs
 
 loop-holds : tie.Need-loop-holds Inv-loop μ-loop
-loop-holds c = (refl, record { unit-is = refl; out-is = refl; told-is = refl; unit-size = c .before .before .before .before .before .before .pre .0; out-size = c .before .before .before .before .before .before .pre .1; told-size = c .before .before .before .before .before .before .pre .2 }, record { held = omega (arith, c .begin .ensures .held); at = omega (arith, c .begin .ensures .at); told-at = omega (arith, c .begin .ensures .told-at) })
+loop-holds c = (refl, record { unit-is = refl; out-is = refl; told-is = refl; out-size = c .before .before .before .before .before .before .pre .1; told-size = c .before .before .before .before .before .before .pre .2 }, record { kept = kept-at _ _ (c .begin .ensures .held) (c .begin .ensures .passed) (begun-kept _ _ (c .before .before .before .before .before .before .pre .0)); at = omega (arith, c .begin .ensures .at); told-at = omega (arith, c .begin .ensures .told-at) })
 
 move-next-requires : tie.Need-move-next-requires Inv-loop μ-loop
-move-next-requires c κs = (omega (arith, c .before .before .before .before .before .loop .inv .1 .unit-is, c .before .before .before .before .before .loop .inv .1 .unit-size), omega (arith, c .before .before .before .before .before .loop .inv .1 .out-is, c .before .before .before .before .before .loop .inv .1 .out-size), omega (arith, c .before .before .before .before .before .loop .inv .1 .told-is, c .before .before .before .before .before .loop .inv .1 .told-size), fits-now (c .before .before .before .before .before .loop .inv .1) (c .before .before .before .before .before .loop .inv .2))
+move-next-requires c κs = (omega (arith, c .before .before .before .before .before .loop .inv .1 .out-is, c .before .before .before .before .before .loop .inv .1 .out-size), omega (arith, c .before .before .before .before .before .loop .inv .1 .told-is, c .before .before .before .before .before .loop .inv .1 .told-size), fits-now (c .before .before .before .before .before .loop .inv .1) (c .before .before .before .before .before .loop .inv .2))
 
 same-length : tie.Need-same-length Inv-loop μ-loop
 same-length c = omega (arith, c .before .before .before .before .before .before .before .before .before .before .before .before .before .before .before .before .loop .inv .0)

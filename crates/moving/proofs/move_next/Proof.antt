@@ -1,11 +1,18 @@
 -- `move_next` meets its contract: what was read lies in the input buffer. Assumes nothing.
-use mathlib.Core.Path.{sym}
-use lib.Seq.{length-take-le}
+use Rattle.moving.proofs.Places.{shut-fits}
 use Rattle.channel.proofs.Moves.{got-bytes}
-use borrow.Author.Needs.{needs}
+use lib.Seq.{length-take-le}
+use mathlib.Core.Path.{sym}
 use native.Mathlib.Omega.{arith}
+use borrow.Author.Needs.{needs}
 use Rattle.moving.proofs.move_next.Statement.{statement}
 use Rattle.moving.proofs.move_next.Tie as tie
+use Rattle.moving.proofs.move_next.Reads as reads
+use Rattle.moving.proofs.move_next.Lts as lts
+use Rattle.channel.proofs.reading.read_some.Reads as read-some-reads
+use Rattle.moving.proofs.ending.end_input.Reads as end-input-reads
+use Rattle.moving.proofs.part.move_part.Reads as move-part-reads
+use Rattle.moving.proofs.state.unread.Reads as unread-reads
 
 read-some-requires : tie.Need-read-some-requires
 read-some-requires c κs = search needs
@@ -68,7 +75,7 @@ same-length-9 : tie.Need-same-length-9
 same-length-9 c = search needs
 
 returns-3 : tie.Need-returns-3
-returns-3 c = search needs
+returns-3 c = shut-fits (c .unread .ensures) (c .before .before .before .before .before .before .before .before .before .before .before .before .before .pre .2)
 
 pub move-next-spec : {M : Type 1} → statement M
 move-next-spec =

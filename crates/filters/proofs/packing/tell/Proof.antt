@@ -1,9 +1,13 @@
--- `tell` meets its contract: the row of the line that is refused. Assumes nothing.
+-- `tell` meets its contract: the row of the unit that is refused. Assumes nothing.
 use Rattle.filters.proofs.UnitTexts.{refused-told}
 use native.Mathlib.Omega.{arith}
 use borrow.Author.Needs.{needs}
 use Rattle.filters.proofs.packing.tell.Statement.{statement}
 use Rattle.filters.proofs.packing.tell.Tie as tie
+use Rattle.filters.proofs.packing.tell.Reads as reads
+use Rattle.filters.proofs.packing.tell.Lts as lts
+use Rattle.filters.proofs.row.count.Reads as count-reads
+use Rattle.listing_rows.proofs.put_refused.Reads as put-refused-reads
 
 count-requires : tie.Need-count-requires
 count-requires c κs = search needs

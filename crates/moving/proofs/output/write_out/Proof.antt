@@ -23,7 +23,7 @@ sum-requires : tie.Need-sum-requires
 sum-requires c κs = search needs
 
 returns : tie.Need-returns
-returns c = record { wrote = _; written = written-front (c .before .before .before .before .before .before .args .out .now) (c .before .before .before .before .before .before .args .state .at) (c .before .before .before .before .before .before .pre) (c .before .before .before .write-whole .ensures); unwritten = refl; whole = c .sum .ensures ∙ ap (λ (k : ℕ). min (c .before .before .before .before .before .before .args .state .whole + k) (2 ^ 64 - 1)) (c .before .count-whole .ensures); from = refl; held = refl; at = refl; told-at = refl; counts = refl; untold = refl; unread = refl; as-open = refl }
+returns c = record { wrote = _; written = written-front (c .before .before .before .before .before .before .args .out .now) (c .before .before .before .before .before .before .args .state .at) (c .before .before .before .before .before .before .pre) (c .before .before .before .write-whole .ensures); unwritten = refl; counted = _; counted-is = c .before .count-whole .ensures; whole = c .sum .ensures; from = refl; held = refl; passed = refl; at = refl; told-at = refl; counts = refl; untold = refl; unread = refl; as-open = refl }
 
 pub write-out-spec : {M : Type 1} → statement M
 write-out-spec =

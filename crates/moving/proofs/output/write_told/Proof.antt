@@ -14,10 +14,10 @@ write-whole-requires : tie.Need-write-whole-requires
 write-whole-requires c κs = search needs
 
 returns : tie.Need-returns
-returns c = record { wrote = _; written = written-front (c .before .before .before .before .before .args .told .now) (c .before .before .before .before .before .args .state .told) (c .before .before .before .before .before .pre) (c .before .before .write-whole .ensures); lost = λ h. refl; sound = λ e. absurd (omega arith); from = refl; held = refl; at = refl; told-at = refl; counts = refl; whole = refl; unwritten = refl; unread = refl; as-open = refl }
+returns c = record { wrote = _; written = written-front (c .before .before .before .before .before .args .told .now) (c .before .before .before .before .before .args .state .told) (c .before .before .before .before .before .pre) (c .before .before .write-whole .ensures); lost = λ h. refl; sound = λ e. absurd (omega arith); from = refl; held = refl; passed = refl; at = refl; told-at = refl; counts = refl; whole = refl; unwritten = refl; unread = refl; as-open = refl }
 
 returns-2 : tie.Need-returns-2
-returns-2 c = record { wrote = _; written = written-front (c .before .before .before .before .before .args .told .now) (c .before .before .before .before .before .args .state .told) (c .before .before .before .before .before .pre) (c .before .before .write-whole .ensures); lost = λ h. absurd (omega arith); sound = λ e. refl; from = refl; held = refl; at = refl; told-at = refl; counts = refl; whole = refl; unwritten = refl; unread = refl; as-open = refl }
+returns-2 c = record { wrote = _; written = written-front (c .before .before .before .before .before .args .told .now) (c .before .before .before .before .before .args .state .told) (c .before .before .before .before .before .pre) (c .before .before .write-whole .ensures); lost = λ h. absurd (omega arith); sound = λ e. refl; from = refl; held = refl; passed = refl; at = refl; told-at = refl; counts = refl; whole = refl; unwritten = refl; unread = refl; as-open = refl }
 
 pub write-told-spec : {M : Type 1} → statement M
 write-told-spec =

@@ -1,16 +1,18 @@
 -- Places that lie in the buffers still do so after each call, and what is open is kept as a stream keeps it. Assumes nothing.
-use Prim.Native.Nat.{ℕ, _+_, _≤_, _<_}
+use Prim.Native.Nat.{ℕ, min, _+_, _-_, _^_, _≤_, _<_}
 use mathlib.Core.Path.{_≡_, refl, ap, _∙_}
-use mathlib.Core.Bool.{true}
+use mathlib.Core.Bool.{Bool, true, false, cond, not}
 use mathlib.Core.List.{List, []}
 use native.Mathlib.Omega.{arith}
 use lib.ListN.{length, take}
+use Rattle.text.proofs.Places.{clash}
 use lib.Seq.{length-take-le}
 use Rattle.scan.specs.declared.Pieces.the-variants.{Strict}
 use Rattle.tlv.specs.Number.{Bytes}
 use Rattle.units.specs.declared.Framing.{Framing}
 use Rattle.units.specs.declared.Framing.the-variants.{Both}
 use Rattle.units.specs.declared.Unit.{Unit}
+use Rattle.units.specs.declared.Unit.the-variants as U
 use Rattle.units.specs.declared.Fed as FedModule
 use Rattle.units.specs.Units.{Rest}
 use Rattle.units.specs.Kept.{isKept}
@@ -30,7 +32,7 @@ use Rattle.channel.specs.Moving.{Written}
 use Rattle.moving.specs.declared.Program.{Program}
 use Rattle.moving.specs.declared.state.State.{State}
 use Rattle.moving.specs.Bounds.{Fits, Ending, Roomy, Ready, Went}
-use Rattle.moving.specs.Steps.{Begun, Shut, Runs, Shown}
+use Rattle.moving.specs.Steps.{Begun, Shut, Runs, Shown, isCut}
 
 -- between two calls: the buffers are as long as they were, and long enough
 pub record Sized (unit out told unit′ out′ told′ : ℕ) : Type 0 where
@@ -126,7 +128,7 @@ pub ended-fits : (unit : List ℕ) (held passed : ℕ) → isKept Both unit held
 ended-fits unit held passed kept cut d = end-fits (F.Unpack Strict) unit (runOf 0 held passed) kept cut d
 
 -- what was shown leaves what is open as it was
-pub shown-fits : {f : Framing} {unit : List ℕ} {out told : ℕ} {s r : State} → isKept f unit (s .held) (s .passed) ≡ true → s .told ≤ told → Shown out s r → Fits f unit out told r
+pub shown-fits : {f : Framing} {unit : List ℕ} {out told : ℕ} {s r : State} → isKept f unit (s .held) (s .passed) ≡ true → s .told ≤ told → {cut : Unit} → Shown cut out s r → Fits f unit out told r
 shown-fits {f} {unit} k h x = record { kept = kept-at f unit (x .held) (x .passed) k; at = x .at; told-at = omega (arith, x .told-at, h) }
 
 -- what was written of a front, by the front's length
@@ -136,3 +138,40 @@ written-front l at h k = rw (length-take-le at l h) at k
 -- what was written of a front lies in the whole
 pub bytes-within : (l : List ℕ) (at : ℕ) {n : ℕ} → at ≤ length l → n ≤ length (take at l) → n ≤ length l
 bytes-within l at h k = omega (arith, length-take-le at l h)
+
+-- a unit that was cut off, by its case
+module _ {cut : Unit} where
+  pub cut-text : {n : ℕ} → cut ≡ U.Text n → true ≡ isCut cut
+  unfolding isCut
+  cut-text e = rw e
+
+  pub cut-long : cut ≡ U.Long → true ≡ isCut cut
+  unfolding isCut
+  cut-long e = rw e
+
+  pub cut-cut : cut ≡ U.Cut → true ≡ isCut cut
+  unfolding isCut
+  cut-cut e = rw e
+
+  pub cut-open : cut ≡ U.Open → false ≡ isCut cut
+  unfolding isCut
+  cut-open e = rw e
+
+  pub cut-alien : cut ≡ U.Alien → false ≡ isCut cut
+  unfolding isCut
+  cut-alien e = rw e
+
+-- it is counted, and no other
+pub cut-counts : (units n k : ℕ) {b c : Bool} → b ≡ c → not b ≡ false → k ≡ n → n ≡ min (units + 1) (2 ^ 64 - 1) → k ≡ cond c (min (units + 1) (2 ^ 64 - 1)) units
+cut-counts units n k {b} x y h m = rw (← x) (go b y)
+  where
+    go : (b : Bool) → not b ≡ false → k ≡ cond b (min (units + 1) (2 ^ 64 - 1)) units
+    go true q = h ∙ m
+    go false q = absurd (clash refl q)
+
+pub none-counts : (units : ℕ) {b c : Bool} → b ≡ c → not b ≡ true → units ≡ cond c (min (units + 1) (2 ^ 64 - 1)) units
+none-counts units {b} x y = rw (← x) (go b y)
+  where
+    go : (b : Bool) → not b ≡ true → units ≡ cond b (min (units + 1) (2 ^ 64 - 1)) units
+    go true q = absurd (clash q refl)
+    go false q = refl

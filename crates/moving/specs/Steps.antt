@@ -1,11 +1,13 @@
 -- What each step makes of the state, field by field, so that no fault and no count is lost on the way.
 use Prim.Native.Nat.{ℕ, _+_, _-_, _^_, _≤_, _<_, min}
 use mathlib.Core.Path.{_≡_}
-use mathlib.Core.Bool.{Bool, true, false}
+use mathlib.Core.Bool.{Bool, true, false, cond}
 use mathlib.Core.List.{List}
 use lib.ListN.{take}
 use Rattle.units.specs.declared.Framing.the-variants as Framed
 use Rattle.units.specs.Counting.{Ended}
+use Rattle.units.specs.declared.Unit.{Unit}
+use Rattle.units.specs.declared.Unit.the-variants as U
 use Rattle.filters.specs.declared.Run.{Run}
 use Rattle.channel.specs.declared.writing.Wrote.{Wrote}
 use Rattle.channel.specs.Moving.{Written}
@@ -76,8 +78,17 @@ pub record Counted (units : ℕ) (s r : State) : Type 0 where
   pub entries : r .counts .entries ≡ 0
   pub kept : Kept s r
 
--- a unit was shown, or there was none: what waits lies in the buffer, of so many bytes, and what is open is as it was
-pub record Shown (out : ℕ) (s r : State) : Type 0 where
+-- a unit was cut off: in the other cases none has ended
+unfoldable pub isCut : Unit → Bool
+isCut (U.Text n) = true
+isCut U.Long = true
+isCut U.Cut = true
+isCut U.Open = false
+isCut U.Alien = false
+
+-- a unit was shown and counted, or there was none: what waits lies in the buffer, of so many bytes, and what is open is as it was
+pub record Shown (cut : Unit) (out : ℕ) (s r : State) : Type 0 where
+  pub counts-are : r .counts .units ≡ cond (isCut cut) (min (s .counts .units + 1) (2 ^ 64 - 1)) (s .counts .units)
   pub from : r .from ≡ s .from
   pub held : r .held ≡ s .held
   pub passed : r .passed ≡ s .passed

@@ -23,7 +23,7 @@ ghost use Rattle.units.specs.declared.Framing.the-variants.{Both};
 ghost use Rattle.units.specs.Feeding.{textLength};
 ghost use Rattle.filters.specs.Texts.{framingOf};
 ghost use Rattle.moving.specs.Bounds.{framingBy, Fits, Ready, Went};
-ghost use Rattle.moving.specs.Steps.{Counted, Shown};
+ghost use Rattle.moving.specs.Steps.{Counted, Shown, isCut};
 
 // All of it, with room made where too little is left.
 pub fn move_part(
@@ -124,9 +124,9 @@ pub fn show_cut(
     state: State,
 ) -> State
     requires { ⌜ (textLength cut ≤ length (now unit)) × (state .at ≤ length (now out)) ⌝ }
-    ensures { λ r. ⌜ Shown (length (now (out .entry))) state r ⌝ }
+    ensures { λ r. ⌜ Shown cut (length (now (out .entry))) state r ⌝ }
 {
-    if is_open(cut) {
+    if !is_cut(cut) {
         return state;
     }
     let units = sum(state.counts.units, 1);
@@ -150,14 +150,16 @@ pub fn show_cut(
     next
 }
 
-// No unit has ended.
-fn is_open(cut: Unit) -> bool {
+// In the other cases no unit has ended.
+fn is_cut(cut: Unit) -> bool
+    ensures { λ r. ⌜ r ≡ isCut cut ⌝ }
+{
     match cut {
-        Unit::Text(_) => false,
-        Unit::Long => false,
-        Unit::Cut => false,
-        Unit::Open => true,
-        Unit::Alien => true,
+        Unit::Text(_) => true,
+        Unit::Long => true,
+        Unit::Cut => true,
+        Unit::Open => false,
+        Unit::Alien => false,
     }
 }
 

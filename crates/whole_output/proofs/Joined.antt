@@ -12,6 +12,7 @@ use Rattle.record.specs.Grammar.{recordBytes, Ranged}
 use Rattle.listing_rows.specs.Rows.{entryRow, totalsRow}
 use Rattle.units.specs.declared.Framing.the-variants.{Both}
 use Rattle.units.specs.Units.{Units}
+use Rattle.units.proofs.Existence.{has-units}
 use Rattle.stream.specs.Answers.{saidOf, recordsOf}
 use Rattle.stream.proofs.Records.{said-ranged, records-units, records-say}
 use Rattle.stream.proofs.FedAgain.{units-bytes}
@@ -72,24 +73,31 @@ module _ (pieces : Pieces) (s : List ℕ) (us : List (List ℕ)) (bytes : Bytes 
   put-units : (packed told : List ℕ) → Went (F.Pack pieces) s packed told → Units Both packed (map recordBytes (saidOf pieces us))
   put-units packed told w = subst (λ (l : List ℕ). Units Both l (map recordBytes (saidOf pieces us))) (sym (packing-is-whole pieces s packed told us w are .0)) made-units
 
-  pub pack-into-unpack : PackIntoUnpack pieces s us
-  pack-into-unpack =
-      record {
-        records-are = made-units;
-        listing-is = λ any. listing-made any (saidOf pieces us) ranged;
-        piped = λ any packed told out told′ w w′.
-            unpacking-is-whole any packed out told′ (map recordBytes (saidOf pieces us)) w′ (put-units packed told w) .0 ∙ listing-made any (saidOf pieces us) ranged;
-      }
+  piped : (any : Pieces) (packed told out told′ : List ℕ) → Went (F.Pack pieces) s packed told → Went (F.Unpack any) packed out told′ → out ≡ valueListing (saidOf pieces us)
+  piped any packed told out told′ w w′ = unpacking-is-whole any packed out told′ (map recordBytes (saidOf pieces us)) w′ (put-units packed told w) .0 ∙ listing-made any (saidOf pieces us) ranged
 
-  -- PACKED TWICE, nothing changes
-  pub pack-twice : PackTwice pieces s us
+  same-bytes : (any : Pieces) (packed told again told′ : List ℕ) → Went (F.Pack pieces) s packed told → Went (F.Pack any) packed again told′ → again ≡ packed
   unfolding packingOf
-  pack-twice =
-      record {
-        same-bytes = λ any packed told again told′ w w′.
-            packing-is-whole any packed again told′ (map recordBytes (saidOf pieces us)) w′ (put-units packed told w) .0
-            ∙ packing-made any (saidOf pieces us) ranged
-            ∙ sym (packing-is-whole pieces s packed told us w are .0);
-        none-refused = λ any packed told again told′ w w′.
-            packing-is-whole any packed again told′ (map recordBytes (saidOf pieces us)) w′ (put-units packed told w) .1 ∙ tells-made any (saidOf pieces us) ranged;
-      }
+  same-bytes any packed told again told′ w w′ =
+      packing-is-whole any packed again told′ (map recordBytes (saidOf pieces us)) w′ (put-units packed told w) .0
+      ∙ packing-made any (saidOf pieces us) ranged
+      ∙ sym (packing-is-whole pieces s packed told us w are .0)
+
+  none-refused : (any : Pieces) (packed told again told′ : List ℕ) → Went (F.Pack pieces) s packed told → Went (F.Pack any) packed again told′ → told′ ≡ totalsRow (length (saidOf pieces us)) (length (saidOf pieces us))
+  none-refused any packed told again told′ w w′ = packing-is-whole any packed again told′ (map recordBytes (saidOf pieces us)) w′ (put-units packed told w) .1 ∙ tells-made any (saidOf pieces us) ranged
+
+pub pack-into-unpack : (pieces : Pieces) → PackIntoUnpack pieces
+pack-into-unpack pieces =
+    record {
+      records-are = made-units pieces;
+      listing-is = λ s us b x any. listing-made any (saidOf pieces us) (ranged pieces s us b x);
+      piped = λ s us x any packed told out told′ w. piped pieces s us (w .bytes) x any packed told out told′ w;
+    }
+
+-- PACKED TWICE, nothing changes
+pub pack-twice : (pieces : Pieces) → PackTwice pieces
+pack-twice pieces =
+    record {
+      same-bytes = λ s any packed told again told′ w. let u = has-units Both s in same-bytes pieces s (u .0) (w .bytes) (u .1) any packed told again told′ w;
+      none-refused = λ s us x any packed told again told′ w. none-refused pieces s us (w .bytes) x any packed told again told′ w;
+    }

@@ -3,7 +3,7 @@
 use Prim.Native.Nat.{ℕ, _+_, _≤_, _<_}
 use mathlib.Core.Path.{_≡_, refl, sym, ap, subst, _∙_}
 use mathlib.Core.Bool.{true, false}
-use mathlib.Core.List.{List, [], _∷_, _++_, append-nil}
+use mathlib.Core.List.{List, [], _∷_, _++_, append-nil, append-assoc}
 use mathlib.Core.Logic.{_↔_}
 use native.Mathlib.Omega.{arith}
 use borrow.Author.Tests.{lt-ltb, le-ltb}
@@ -27,11 +27,12 @@ use Rattle.units.specs.declared.Framing.{Framing}
 use Rattle.units.specs.Units.{stated, Units, Whole, Open}
 use Rattle.units.specs.Kept.{isLong}
 use Rattle.units.proofs.Streams.{not-both}
-use Rattle.stream.specs.Answers.{answerOf, saidBy, recordsOf}
+use Rattle.stream.specs.Answers.{answerOf, saidBy, saidOf, recordsOf}
 use Rattle.stream.proofs.Records.{record-answer, record-is-bytes, said-belongs, unit-says}
 use Rattle.filters.specs.declared.Filter.the-variants as F
 use Rattle.filters.specs.declared.row.Seen.the-variants as S
 use Rattle.filters.specs.Texts.{answerBy, seenBy, seenOf, seenLine, seenRecord, recordBy}
+use Rattle.whole_output.specs.Output.{packingOf}
 use Rattle.whole_output.specs.Meaning.{Tells, TextsMean}
 
 -- slots enough for any entry
@@ -176,6 +177,15 @@ only-the-last-open f s us (y ∷ front) u back (Units.last x w) e o = absurd (om
 only-the-last-open f s us [] u back (Units.next x r w cut rest) e o = let same : x ≡ u = cc in absurd (not-both f u o (subst (Whole f) same w))
 only-the-last-open f s us (y ∷ front) u back (Units.next x r w cut rest) e o = only-the-last-open f r _ front u back rest (cc) o
 
+records-both : (a b : List EntryValue) → recordsOf (a ++ b) ≡ recordsOf a ++ recordsOf b
+unfolding recordsOf
+records-both [] b = refl
+records-both (v ∷ a) b = ap (λ (l : List ℕ). recordBytes v ++ l) (records-both a b) ∙ sym (append-assoc (recordBytes v) (recordsOf a) (recordsOf b))
+
+packed-one-by-one : (pieces : Pieces) (u : List ℕ) (us : List (List ℕ)) → packingOf pieces (u ∷ us) ≡ recordBy u (answerOf pieces u 256) ++ packingOf pieces us
+unfolding packingOf saidOf recordBy
+packed-one-by-one pieces u us = records-both (saidBy u (answerOf pieces u 256)) (saidOf pieces us)
+
 pub texts-mean : TextsMean
 unfolding seenOf answerBy seenLine
 texts-mean =
@@ -193,5 +203,6 @@ texts-mean =
       unit-record = unit-record;
       no-record = no-record;
       record-as-it-is = record-as-it-is;
+      packed-one-by-one = packed-one-by-one;
       only-the-last-open = only-the-last-open;
     }

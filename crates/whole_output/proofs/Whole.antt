@@ -12,6 +12,8 @@ use Rattle.filters.specs.declared.Filter.{Filter}
 use Rattle.filters.specs.declared.Filter.the-variants as F
 use Rattle.filters.specs.Texts.{framingOf, answerBy, seenOf}
 use Rattle.filters.specs.Filter.{outBy, tellBy, outText, toldText, nextCounts, lastOut, lastTold, after, texts}
+use Rattle.units.proofs.Existence.{has-units}
+use Rattle.units.proofs.Streams.{one-units}
 use Rattle.whole_output.specs.Output.{listingOf, unpackingOf, packingOf, packingTells}
 use Rattle.whole_output.specs.Chains.{fresh, Went, WholeOutput}
 use Rattle.whole_output.proofs.Streaming.{Through, went-through}
@@ -47,4 +49,11 @@ module _ (pieces : Pieces) where
       (put-whole (F.Pack pieces) w us x ∙ append-nil (texts (nextCounts (F.Pack pieces)) (outText (F.Pack pieces)) fresh us) ∙ records-are pieces fresh us, told-whole (F.Pack pieces) w us x ∙ tells-are pieces us (w .few us x))
 
 pub whole-output : WholeOutput
-whole-output = record { listing = listing-is-whole; packing = packing-is-whole; unpacking = unpacking-is-whole }
+whole-output =
+    record {
+      has-units = has-units;
+      one-list = λ f s us vs x y. one-units f refl x y;
+      listing = listing-is-whole;
+      packing = packing-is-whole;
+      unpacking = unpacking-is-whole;
+    }

@@ -1,11 +1,12 @@
 -- Calls one after the other on the parts of an input, and what is promised of them.
--- How to read it: `a ≡ b` is "a equals b"; `P → Q` "if P then Q"; `(x : A) → P` "for every x, P"; `P × Q` "P and Q"; `a ++ b` is a and then b.
+-- How to read it: `a ≡ b` is "a equals b"; `P → Q` "if P then Q"; `(x : A) → P` "for every x, P"; `P × Q` "P and Q"; `(x : A) × P` "there is an x so that P"; `a ++ b` is a and then b.
 use Prim.Native.Nat.{ℕ, _^_, _≤_, _<_}
 use mathlib.Core.Path.{_≡_}
 use mathlib.Core.List.{List, [], _++_}
 use lib.ListN.{length, take}
 use Rattle.tlv.specs.Number.{Bytes}
 use Rattle.scan.specs.declared.Pieces.{Pieces}
+use Rattle.units.specs.declared.Framing.{Framing}
 use Rattle.units.specs.declared.Framing.the-variants.{Lines, Both}
 use Rattle.units.specs.declared.State.{State}
 use Rattle.units.specs.Units.{Units}
@@ -68,6 +69,10 @@ pub record Went (f : Filter) (input put told : List ℕ) : Type 0 where
 
 -- However the input is cut into parts, and whatever room each call finds, what is put out in order is the definition for the input's units.
 pub record WholeOutput : Type 0 where
+  -- Every input has units, lines or lines and records.
+  pub has-units : (f : Framing) (s : List ℕ) → (us : List (List ℕ)) × Units f s us
+  -- It has one list of them.
+  pub one-list : (f : Framing) (s : List ℕ) (us vs : List (List ℕ)) → Units f s us → Units f s vs → us ≡ vs
   -- The listing puts out the listing of the input's lines, and tells nothing beside it.
   pub listing : (input put told : List ℕ) (us : List (List ℕ)) → Went F.Listing input put told → Units Lines input us → (put ≡ listingOf us) × (told ≡ [])
   -- `pack` puts out the records of what the input's lines and records say, read by its choice, and tells which were refused and the totals.

@@ -4,6 +4,7 @@ use Prim.Native.Nat.{ℕ, _+_}
 use mathlib.Core.Path.{_≡_}
 use mathlib.Core.List.{List, [], _∷_, _++_, map}
 use lib.ListN.{length}
+use Rattle.tlv.specs.Number.{Bytes}
 use Rattle.entry.specs.Entry.{EntryValue}
 use Rattle.scan.specs.declared.Pieces.{Pieces}
 use Rattle.record.specs.Grammar.{recordBytes}
@@ -24,20 +25,20 @@ valueRows n (v ∷ vs) = entryRow (n + 1) (v .kind) (length (v .dwords)) ++ valu
 unfoldable pub valueListing : List EntryValue → List ℕ
 valueListing vs = valueRows 0 vs ++ totalsRow (length vs) (length vs)
 
--- What `pack` puts out by its choice for an input with these units, as `unpack` takes it, by any choice.
-pub record PackIntoUnpack (pieces : Pieces) (s : List ℕ) (us : List (List ℕ)) : Type 0 where
+-- What `pack` puts out by its choice for an input s, which is bytes, with the units us, as `unpack` takes it, by any choice.
+pub record PackIntoUnpack (pieces : Pieces) : Type 0 where
   -- Its units are the records of what the input's lines and records say, in their order: none is split, joined with another, lost or made up.
-  pub records-are : Units Both (packingOf pieces us) (map recordBytes (saidOf pieces us))
+  pub records-are : (s : List ℕ) (us : List (List ℕ)) → Bytes s → Units Both s us → Units Both (packingOf pieces us) (map recordBytes (saidOf pieces us))
   -- `unpack` lists them: each with its kind and number of dwords, none refused; units and entries are both their number.
-  pub listing-is : (any : Pieces) → unpackingOf any (map recordBytes (saidOf pieces us)) ≡ valueListing (saidOf pieces us)
+  pub listing-is : (s : List ℕ) (us : List (List ℕ)) → Bytes s → Units Both s us → (any : Pieces) → unpackingOf any (map recordBytes (saidOf pieces us)) ≡ valueListing (saidOf pieces us)
   -- The same of the calls: whatever parts and rooms either has, with all that `pack` put out as its input `unpack` puts out that listing.
-  pub piped : (any : Pieces) (packed told out told′ : List ℕ) → Went (F.Pack pieces) s packed told → Went (F.Unpack any) packed out told′
+  pub piped : (s : List ℕ) (us : List (List ℕ)) → Units Both s us → (any : Pieces) (packed told out told′ : List ℕ) → Went (F.Pack pieces) s packed told → Went (F.Unpack any) packed out told′
       → out ≡ valueListing (saidOf pieces us)
 
 -- The accident: what `pack` put out is given to `pack` again, by any choice.
-pub record PackTwice (pieces : Pieces) (s : List ℕ) (us : List (List ℕ)) : Type 0 where
-  -- The same bytes come out, whatever parts and rooms either has.
-  pub same-bytes : (any : Pieces) (packed told again told′ : List ℕ) → Went (F.Pack pieces) s packed told → Went (F.Pack any) packed again told′ → again ≡ packed
+pub record PackTwice (pieces : Pieces) : Type 0 where
+  -- The same bytes come out, whatever the input, and whatever parts and rooms either has.
+  pub same-bytes : (s : List ℕ) (any : Pieces) (packed told again told′ : List ℕ) → Went (F.Pack pieces) s packed told → Went (F.Pack any) packed again told′ → again ≡ packed
   -- No unit of it is refused: the second tells the totals alone, and both are the number of the records.
-  pub none-refused : (any : Pieces) (packed told again told′ : List ℕ) → Went (F.Pack pieces) s packed told → Went (F.Pack any) packed again told′
+  pub none-refused : (s : List ℕ) (us : List (List ℕ)) → Units Both s us → (any : Pieces) (packed told again told′ : List ℕ) → Went (F.Pack pieces) s packed told → Went (F.Pack any) packed again told′
       → told′ ≡ totalsRow (length (saidOf pieces us)) (length (saidOf pieces us))

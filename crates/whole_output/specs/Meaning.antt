@@ -20,6 +20,7 @@ use Rattle.stream.specs.Answers.{answerOf}
 use Rattle.filters.specs.declared.Filter.the-variants as F
 use Rattle.filters.specs.declared.row.Seen.the-variants as S
 use Rattle.filters.specs.Texts.{seenOf, seenLine, seenRecord, recordBy}
+use Rattle.whole_output.specs.Output.{packingOf}
 
 -- a value of this kind and with so many dwords that a text says, by a grammar
 pub record Tells (Says : EntryValue → Type 0) (kind dwords : ℕ) : Type 0 where
@@ -56,6 +57,8 @@ pub record TextsMean : Type 0 where
   pub no-record : (pieces : Pieces) (u : List ℕ) → Bytes u → ((v : EntryValue) → Belongs pieces u v → ⊥) → recordBy u (answerOf pieces u 256) ≡ []
   -- A record that is packed is put out as it is.
   pub record-as-it-is : (pieces : Pieces) (u : List ℕ) → Bytes u → (v : EntryValue) → IsRecord u v → recordBy u (answerOf pieces u 256) ≡ u
+  -- What `pack` puts out for units is what is packed for each, one behind the other.
+  pub packed-one-by-one : (pieces : Pieces) (u : List ℕ) (us : List (List ℕ)) → packingOf pieces (u ∷ us) ≡ recordBy u (answerOf pieces u 256) ++ packingOf pieces us
   -- Every unit of an input but the last has ended.
   pub only-the-last-open : (f : Framing) (s : List ℕ) (us front : List (List ℕ)) (u : List ℕ) (back : List (List ℕ)) → Units f s us → us ≡ front ++ (u ∷ back)
       → Open f u → back ≡ []

@@ -63,7 +63,7 @@ enum {
     CK_TABLE_SIZE = 50,       /* the table of requests has no slot, or more than 64 */
     CK_BROKEN_TABLE = 51,     /* the waiting slots do not carry the ranks 1 to their number once each, or one of them has a route with its top bit set, or neither reads nor writes */
     CK_NO_STREAM = 53,        /* the rest buffer is not of 8,192 bytes, or no stream leaves the kept state */
-    CK_CUT_RECORD = 54,       /* the stream ends inside a record that is not 55 */
+    CK_CUT_RECORD = 54,       /* the stream ends inside a record (one that says more than 5,227 bytes is 55) */
     CK_LONG_RECORD = 55       /* the record says that it has more than 5,227 bytes */
 };
 

@@ -83,7 +83,7 @@ refusals! {
     TableSize = 50, "the table of requests has no slot, or more than 64";
     BrokenTable = 51, "the waiting slots do not carry the ranks 1 to their number once each, or one of them has a route with its top bit set, or neither reads nor writes";
     NoStream = 53, "the rest buffer is not of 8,192 bytes, or no stream leaves the kept state";
-    CutRecord = 54, "the stream ends inside a record that is not 55";
+    CutRecord = 54, "the stream ends inside a record (one that says more than 5,227 bytes is 55)";
     LongRecord = 55, "the record says that it has more than 5,227 bytes";
 }
 

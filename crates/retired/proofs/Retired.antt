@@ -43,7 +43,11 @@ use Rattle.intake.specs.Packets.{packetBy, packetTaken}
 use Rattle.intake.specs.What.{Grammar, whatTold, grammarOf, whatOf}
 use Rattle.intake.proofs.WhatItIs.{record-number-range}
 use Rattle.filters.specs.declared.row.Seen.the-variants as S
-use Rattle.filters.specs.Texts.{seenBy, seenLine, seenRecord}
+use Rattle.scan.specs.declared.Pieces.the-variants.{Lenient}
+use Rattle.filters.specs.declared.Filter.{Filter}
+use Rattle.filters.specs.declared.Filter.the-variants as F
+use Rattle.filters.specs.Texts as Filters
+use Rattle.filters.specs.Texts.{seenBy, seenLine, seenOf}
 use Rattle.slots.specs.declared.decide.Report.{Report}
 use Rattle.slots.specs.declared.decide.Report.the-variants as P
 use Rattle.pending.specs.Words.{reportTold}
@@ -277,9 +281,11 @@ line-seen-never : (pieces : Pieces) (t : List ℕ) → seenLine pieces t ≡ S.R
 unfolding seenLine
 line-seen-never pieces t = seen-never (Line.parseOf pieces t 256) (line-never pieces t 256)
 
-record-seen-never : (t : List ℕ) → Bytes t → seenRecord t ≡ S.Refused 10 → ⊥
-unfolding seenRecord
-record-seen-never t b = seen-never (readOf t 256) (record-never t b 256)
+unit-seen-never : (f : Filter) (t : List ℕ) → Bytes t → seenOf f t ≡ S.Refused 10 → ⊥
+unfolding seenOf Filters.answerBy
+unit-seen-never F.Listing t b = seen-never (Line.parseOf Lenient t 256) (line-never Lenient t 256)
+unit-seen-never (F.Pack pieces) t b = seen-never (answerOf pieces t 256) (unit-never pieces t b 256)
+unit-seen-never (F.Unpack pieces) t b = seen-never (answerOf pieces t 256) (unit-never pieces t b 256)
 
 -- a row of `unanswered` that says a number has a report that tells it
 row-tells : (report : Report) (notes : List Note) (note : Note) {k : ℕ} → rowBy report notes note ≡ Row.Refused k → reportTold report ≡ T.refused k
@@ -344,7 +350,7 @@ rows-never : RowsNever
 rows-never =
     record {
       see-line = λ pieces t r c e. line-seen-never pieces t (sym c ∙ e);
-      see-record = λ t b r c e. record-seen-never t b (sym c ∙ e);
+      see-unit = λ f t b r c e. unit-seen-never f t b (sym c ∙ e);
       step-line = λ pieces t d r c e. row-never pieces t d r c e;
     }
 

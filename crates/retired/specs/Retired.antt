@@ -37,7 +37,8 @@ use Rattle.intake.specs.Packets.{PacketTaken}
 use Rattle.intake.specs.What.{whatTold, whatOf}
 use Rattle.filters.specs.declared.row.Seen.{Seen}
 use Rattle.filters.specs.declared.row.Seen.the-variants as S
-use Rattle.filters.specs.Texts.{seenLine, seenRecord}
+use Rattle.filters.specs.declared.Filter.{Filter}
+use Rattle.filters.specs.Texts.{seenLine, seenOf}
 use Rattle.unanswered_rows.specs.declared.Row.the-variants as Row
 use Rattle.desk.specs.declared.Desk.{Desk}
 use Rattle.desk.specs.declared.Turn.{Turn}
@@ -122,8 +123,8 @@ pub record CallsForCNever : Type 0 where
 pub record RowsNever : Type 0 where
   -- A line as `filters` sees it: a row of the listing, by lenient, and of `unpack`, and what `pack` tells of a line.
   pub see-line : (pieces : Pieces) (text : List ℕ) (answer : Seen) → answer ≡ seenLine pieces text → answer ≡ S.Refused 10 → ⊥
-  -- A record as `filters` sees it: a row of `unpack`, and what `pack` tells of a record.
-  pub see-record : (text : List ℕ) → Bytes text → (answer : Seen) → answer ≡ seenRecord text → answer ≡ S.Refused 10 → ⊥
+  -- `see_unit` of `filters`, and what `pack` tells: a row of each filter, whatever the unit.
+  pub see-unit : (f : Filter) (unit : List ℕ) → Bytes unit → (answer : Seen) → answer ≡ seenOf f unit → answer ≡ S.Refused 10 → ⊥
   -- `step_line` of `desk`, whatever is kept: a row of `unanswered`.
   pub step-line : (pieces : Pieces) (text : List ℕ) (desk : Desk) (answer : Turn) → Turned pieces text desk answer → answer .row ≡ Row.Refused 10 → ⊥
 

@@ -106,7 +106,11 @@ fn say_of_record(out: &mut [u8], sink: Sink, number: u8) -> Sink {
         ),
         33 => say(out, sink, b"a required tag of the record is missing"),
         34 => say(out, sink, b"the body of a record's field breaks its rule"),
-        54 => say(out, sink, b"the stream ends inside a record that is not 55"),
+        54 => say(
+            out,
+            sink,
+            b"the stream ends inside a record (one that says more than 5,227 bytes is 55)",
+        ),
         55 => say(
             out,
             sink,

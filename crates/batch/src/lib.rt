@@ -2,6 +2,8 @@
 //
 //     parse_all    for each packet what `packet::parse` answers: its places where its dwords stand, and one number
 //     cut          where a packet's part of a list ends
+#![tactic(auto)]
+
 mod cut;
 
 ghost use Rattle.std.specs.Prelude.{◌≡◌};

@@ -1,4 +1,6 @@
 // Bit ranges of a dword: bits `low` to `high`, counted from 0 at the low end, both ends in.
+#![tactic(auto)]
+
 ghost use Rattle.std.specs.Prelude.{◌≡◌, ◌-◌, ◌≤◌, ◌<◌, ◌^◌};
 ghost use Rattle.bits.specs.Range.{range_of};
 

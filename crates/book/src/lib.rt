@@ -4,6 +4,8 @@
 //     find::..     tables, entries, ranges and values by their places in the book
 //
 // Every public call takes any bytes, checked or not; `find::inner`, a helper for the walk over a table, asks for a place inside them.
+#![tactic(auto)]
+
 mod field;
 pub mod find;
 mod grammar;
@@ -17,7 +19,7 @@ use crate::grammar::tables;
 use refusal::BAD_BOOK;
 
 // The four dwords of a UUID, in the order of the book and of a packet.
-#[derive(Drop)]
+#[derive(Clone, Copy)]
 pub struct Uuid {
     pub first: u32,
     pub second: u32,
@@ -26,7 +28,7 @@ pub struct Uuid {
 }
 
 // What the check of a book answers: accepted, or a number.
-#[derive(Drop)]
+#[derive(Clone, Copy)]
 pub enum Checked {
     Accepted,
     Refused(u8),

@@ -21,7 +21,7 @@ use text::same::same;
 use tlv::Step;
 
 // What a search is for. A key goes with it where a text must be the same, and an empty key is "no type".
-#[derive(Drop)]
+#[derive(Clone, Copy)]
 pub enum Want {
     // The control table of a kind.
     Kind(u8),

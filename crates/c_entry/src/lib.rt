@@ -2,6 +2,8 @@
 //
 //     flatten    an entry to its numbers
 //     raise      numbers to their entry, where each is in range
+#![tactic(auto)]
+
 ghost use Rattle.std.specs.Prelude.{◌≡◌};
 ghost use Rattle.c_entry.specs.Flat.{flat_of, flat_byte, flat_word, flat_flag, raised_told, raise_of, entry_of, byte_of, word_of, in_range, bytes_in_range, is_byte, is_word};
 
@@ -13,7 +15,7 @@ pub const ABSENT: u32 = 0xffff_ffff;
 
 // The fields of an entry in its order. An optional one is ABSENT or its value.
 #[repr(C)]
-#[derive(Drop)]
+#[derive(Clone, Copy)]
 pub struct Flat {
     pub task_at: usize,
     pub task_len: usize,
@@ -38,7 +40,7 @@ pub struct Flat {
     pub dwords: usize,
 }
 
-#[derive(Drop)]
+#[derive(Clone, Copy)]
 pub enum Raised {
     Entry(Entry),
     OutOfRange,

@@ -10,7 +10,7 @@ use text::number::Reading;
 // Number 0 and what the text reads as (1 a value, 2 empty, 3 a bad digit, 4 too wide), with the value or the bad digit's place in the text, and
 // where the text stands in the line; or 0 for absent, with the number that refuses the line if there is one. What is not there is 0.
 #[repr(C)]
-#[derive(Drop)]
+#[derive(Clone, Copy)]
 pub struct HexAnswer {
     pub number: u8,
     pub what: u8,
@@ -21,7 +21,7 @@ pub struct HexAnswer {
 }
 
 // Which key a number names.
-#[derive(Drop)]
+#[derive(Clone, Copy)]
 pub enum MaybeKey {
     Is(Key),
     Other,

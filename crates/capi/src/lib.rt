@@ -12,6 +12,8 @@
 //     requests                                 the table of requests
 //     streams                                  a stream fed in parts
 //     told                                     the answers as plain structs
+#![tactic(auto)]
+
 pub mod asked;
 pub mod described;
 pub mod fields;
@@ -45,7 +47,7 @@ use writer::{Written, write};
 
 // Number 0 and the entry, or the number that refuses the text and a blank entry.
 #[repr(C)]
-#[derive(Drop)]
+#[derive(Clone, Copy)]
 pub struct EntryAnswer {
     pub number: u8,
     pub entry: Flat,
@@ -53,7 +55,7 @@ pub struct EntryAnswer {
 
 // 2 for a record, 1 for a line, both with number 0; 0 for neither, with the number that refuses the text.
 #[repr(C)]
-#[derive(Drop)]
+#[derive(Clone, Copy)]
 pub struct WhatAnswer {
     pub number: u8,
     pub what: u8,
@@ -61,7 +63,7 @@ pub struct WhatAnswer {
 
 // Number 0 and how many bytes were written, or the number that refuses the entry and no byte.
 #[repr(C)]
-#[derive(Drop)]
+#[derive(Clone, Copy)]
 pub struct WriteAnswer {
     pub number: u8,
     pub bytes: usize,
@@ -69,7 +71,7 @@ pub struct WriteAnswer {
 
 // An event's name and its length; zeros stand behind it.
 #[repr(C)]
-#[derive(Drop)]
+#[derive(Clone, Copy)]
 pub struct EventName {
     pub bytes: [u8; 14],
     pub len: usize,

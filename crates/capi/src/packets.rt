@@ -14,7 +14,7 @@ use scan::Pieces;
 // Number 0 and the packet, or the number that refuses it, no start and no UUID. A start is a word or ABSENT; `has_uuid` is 1 where the four
 // dwords are a UUID, else 0, and they are 0.
 #[repr(C)]
-#[derive(Drop)]
+#[derive(Clone, Copy)]
 pub struct PacketAnswer {
     pub number: u8,
     pub start: u32,
@@ -118,7 +118,7 @@ fn whole(number: u8, start: u32, has_uuid: u8, u: Uuid) -> PacketAnswer
 
 // A text's packet: its kind and how many dwords it has, 0 for a refusal, and what `ck_packet` tells of it.
 #[repr(C)]
-#[derive(Drop)]
+#[derive(Clone, Copy)]
 pub struct TextPacket {
     pub kind: u8,
     pub dwords: usize,

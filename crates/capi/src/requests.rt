@@ -11,7 +11,7 @@ use slots::decide::{Place, Report, Waiting};
 
 // Number 0, the report and, where it is taken or answered, the slot's place; or the number that refuses the table, and zeros.
 #[repr(C)]
-#[derive(Drop)]
+#[derive(Clone, Copy)]
 pub struct StepAnswer {
     pub number: u8,
     pub report: u8,
@@ -20,7 +20,7 @@ pub struct StepAnswer {
 
 // Number 0 and how many wait, or the number that refuses the table and 0.
 #[repr(C)]
-#[derive(Drop)]
+#[derive(Clone, Copy)]
 pub struct CountAnswer {
     pub number: u8,
     pub count: u32,
@@ -28,7 +28,7 @@ pub struct CountAnswer {
 
 // Number 0 and, where there is such a slot, 1 and its place; or the number that refuses the table, and zeros.
 #[repr(C)]
-#[derive(Drop)]
+#[derive(Clone, Copy)]
 pub struct PlaceAnswer {
     pub number: u8,
     pub present: u8,

@@ -14,7 +14,7 @@ use units::State;
 // Number 0, that a unit ended and its entry; the number that refuses the unit that ended; number 0 and no unit; or number 53 and nothing. Then where the
 // part was left and what is kept.
 #[repr(C)]
-#[derive(Drop)]
+#[derive(Clone, Copy)]
 pub struct StreamAnswer {
     pub number: u8,
     pub ended: u8,

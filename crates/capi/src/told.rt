@@ -13,7 +13,7 @@ use questions::{
 };
 
 #[repr(C)]
-#[derive(Drop)]
+#[derive(Clone, Copy)]
 pub struct ValueTold {
     pub number: u8,
     pub present: u8,
@@ -21,7 +21,7 @@ pub struct ValueTold {
 }
 
 #[repr(C)]
-#[derive(Drop)]
+#[derive(Clone, Copy)]
 pub struct UuidTold {
     pub number: u8,
     pub present: u8,
@@ -33,7 +33,7 @@ pub struct UuidTold {
 
 // A packet type's value, and the place in the book of the value that names it.
 #[repr(C)]
-#[derive(Drop)]
+#[derive(Clone, Copy)]
 pub struct TypeTold {
     pub number: u8,
     pub present: u8,
@@ -43,7 +43,7 @@ pub struct TypeTold {
 
 // A dword's offset and value, the table that describes it (0 none, 1 control, 2 header, 3 protocol), and the place of its entry.
 #[repr(C)]
-#[derive(Drop)]
+#[derive(Clone, Copy)]
 pub struct FieldTold {
     pub number: u8,
     pub present: u8,
@@ -55,7 +55,7 @@ pub struct FieldTold {
 
 // A bit range: its bits, their value, and its place. There is no number: a range is there or not.
 #[repr(C)]
-#[derive(Drop)]
+#[derive(Clone, Copy)]
 pub struct RangeTold {
     pub present: u8,
     pub low: u8,
@@ -66,7 +66,7 @@ pub struct RangeTold {
 
 // A part of the book that is a name: where it starts, and how many bytes it has; both are 0 where there is none.
 #[repr(C)]
-#[derive(Drop)]
+#[derive(Clone, Copy)]
 pub struct NameTold {
     pub at: usize,
     pub len: usize,

@@ -5,7 +5,7 @@ ghost use Rattle.channel.specs.Moving.{Read, Held};
 use crate::fault::{NO_REASON, fault};
 
 // What a read gave: so many bytes, at least one; the end; or a failure, by its errno.
-#[derive(Drop)]
+#[derive(Clone, Copy)]
 pub enum Got {
     Bytes(usize),
     End,
@@ -13,7 +13,7 @@ pub enum Got {
 }
 
 // How much of a buffer was filled, or the errno of the read that failed.
-#[derive(Drop)]
+#[derive(Clone, Copy)]
 pub enum Filled {
     Bytes(usize),
     Failed(u32),

@@ -7,7 +7,7 @@ use libc::STDOUT_FILENO;
 use print::put::put;
 
 // How much waits in the buffer, how many rows were written whole so far, and 0 or the errno of the write that failed.
-#[derive(Drop)]
+#[derive(Clone, Copy)]
 pub struct Sink {
     pub at: usize,
     pub whole: u64,

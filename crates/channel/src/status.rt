@@ -6,7 +6,7 @@ const STATUS_FILENO: i32 = 3;
 
 // What kept a program from its work: a read or a write that failed (1), a call that is wrong in its arguments or its book (2), a record
 // among the lines (3).
-#[derive(Drop)]
+#[derive(Clone, Copy)]
 pub enum Status {
     Fault,
     BadCall,

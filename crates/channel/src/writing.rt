@@ -6,7 +6,7 @@ use crate::fault::{NO_REASON, fault};
 use crate::reading::Got;
 
 // How many bytes were written, and 0 or the errno of the write that failed.
-#[derive(Drop)]
+#[derive(Clone, Copy)]
 pub struct Wrote {
     pub bytes: usize,
     pub errno: u32,

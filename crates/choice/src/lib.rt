@@ -1,5 +1,7 @@
 // The choice that a program is told on its command line: strict where nothing is said, lenient by the word. Promised are what a word says, that no word says
 // strict, and that strict is the answer where there is no word. Which words there are the system says; that they are the ones read is run.
+#![tactic(auto)]
+
 ghost use Rattle.std.specs.Prelude.{◌≡◌};
 ghost use Rattle.choice.specs.Words.{asked_by, NotStrict, StrictByNone};
 
@@ -7,7 +9,7 @@ use scan::Pieces;
 use text::same::same;
 
 // The choice, or that the arguments are none that the program takes.
-#[derive(Drop)]
+#[derive(Clone, Copy)]
 pub enum Asked {
     Choice(Pieces),
     Wrong,

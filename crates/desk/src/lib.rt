@@ -4,6 +4,8 @@
 //     begin       nothing was read
 //     step_line   one more line, read by a choice: what is kept then, and what its row says
 //     note_at     the note beside a slot
+#![tactic(auto)]
+
 mod reports;
 
 ghost use Rattle.std.specs.Prelude.{◌≡◌, get_or, replicate};
@@ -18,19 +20,19 @@ use scan::{Answer, Pieces, parse};
 use table::{Table, empty, step_held};
 use unanswered_rows::{Counts, Note, Row};
 
-#[derive(Drop)]
+#[derive(Clone, Copy)]
 pub struct Notes {
     pub of: [Note; 64],
 }
 
-#[derive(Drop)]
+#[derive(Clone, Copy)]
 pub struct Desk {
     pub table: Table,
     pub notes: Notes,
     pub counts: Counts,
 }
 
-#[derive(Drop)]
+#[derive(Clone, Copy)]
 pub struct Turn {
     pub desk: Desk,
     pub row: Row,

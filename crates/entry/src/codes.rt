@@ -7,7 +7,7 @@ ghost use Rattle.entry.specs.Event.{event_of, name_at, padded};
 use crate::events::{Event, Name};
 
 // What a code stands for, and the name that it prints.
-#[derive(Drop)]
+#[derive(Clone, Copy)]
 pub struct Decision {
     pub event: Event,
     pub name: Name,

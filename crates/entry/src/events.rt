@@ -4,7 +4,7 @@ ghost use Rattle.entry.specs.Event.{event_of, name_of, padded};
 
 use crate::codes::{decide, decimal, name_at};
 
-#[derive(Drop)]
+#[derive(Clone, Copy)]
 pub enum Event {
     ErrConn,
     ErrLink,
@@ -30,7 +30,7 @@ pub enum Event {
 }
 
 // The longest name has 14 bytes. What stands behind the name's length is zero.
-#[derive(Drop)]
+#[derive(Clone, Copy)]
 pub struct Name {
     pub bytes: [u8; 14],
     pub len: usize,

@@ -1,4 +1,6 @@
 // The entry of a trace line by value, and its questions. Its texts and dwords lie in what the caller lends.
+#![tactic(auto)]
+
 mod codes;
 pub mod events;
 pub mod kind;
@@ -10,7 +12,7 @@ ghost use Rattle.entry.specs.Entry.{OwnPartAt, maybe_byte, maybe_event, maybe_fl
 use crate::events::{Event, from_code};
 use crate::optional::{MaybeByte, MaybeEvent, MaybeFlag, MaybeWord};
 
-#[derive(Drop)]
+#[derive(Clone, Copy)]
 pub struct Entry {
     pub task_at: usize,
     pub task_len: usize,

@@ -1,25 +1,25 @@
 // What a line may leave out.
 use crate::events::Event;
 
-#[derive(Drop)]
+#[derive(Clone, Copy)]
 pub enum MaybeByte {
     Is(u8),
     Absent,
 }
 
-#[derive(Drop)]
+#[derive(Clone, Copy)]
 pub enum MaybeWord {
     Is(u16),
     Absent,
 }
 
-#[derive(Drop)]
+#[derive(Clone, Copy)]
 pub enum MaybeFlag {
     Is(bool),
     Absent,
 }
 
-#[derive(Drop)]
+#[derive(Clone, Copy)]
 pub enum MaybeEvent {
     Is(Event),
     Absent,

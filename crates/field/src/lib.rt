@@ -8,6 +8,8 @@
 //     name_at, value_at       where in the book a name stands, and a value of a bit range
 //
 // Every call takes any book and any place. A name is the caller's own bytes of the lent book, and an empty part at its start for none.
+#![tactic(auto)]
+
 mod table;
 
 ghost use Rattle.std.specs.Prelude.{◌≡◌};
@@ -21,20 +23,20 @@ use book::find;
 use packet::field::{name_in, range_in, value_in};
 
 // Where an entry stands in the book: the place of its tag byte.
-#[derive(Drop)]
+#[derive(Clone, Copy)]
 pub struct Place {
     pub at: usize,
 }
 
 // A part of the book: where it starts, and how many bytes it has.
-#[derive(Drop)]
+#[derive(Clone, Copy)]
 pub struct Span {
     pub at: usize,
     pub len: usize,
 }
 
 // The table that a description comes from, with the place of the entry; or there is no description.
-#[derive(Drop)]
+#[derive(Clone, Copy)]
 pub enum Source {
     Control(Place),
     Header(Place),
@@ -42,7 +44,7 @@ pub enum Source {
     Bare,
 }
 
-#[derive(Drop)]
+#[derive(Clone, Copy)]
 pub struct Field {
     pub offset: u16,
     pub value: u32,
@@ -50,7 +52,7 @@ pub struct Field {
 }
 
 // A bit range of a field: its bits, their value in the field's dword, and the place of the range in the book.
-#[derive(Drop)]
+#[derive(Clone, Copy)]
 pub struct Range {
     pub low: u8,
     pub high: u8,
@@ -58,7 +60,7 @@ pub struct Range {
     pub place: Place,
 }
 
-#[derive(Drop)]
+#[derive(Clone, Copy)]
 pub enum MaybeRange {
     Is(Range),
     Absent,

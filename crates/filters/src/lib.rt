@@ -3,6 +3,8 @@
 //     take_some   as much of a part as the outputs have room for
 //     finish      what the end of the input puts out
 //     whole_in    how many rows or records stand whole in what was put out
+#![tactic(auto)]
+
 mod packing;
 mod row;
 
@@ -21,7 +23,7 @@ use scan::Pieces;
 use units::{Framing, State, Unit, feed_on, units_in};
 
 // The listing reads lines leniently, always. What is packed, and what is listed of lines and records, is read by a choice.
-#[derive(Drop)]
+#[derive(Clone, Copy)]
 pub enum Filter {
     Listing,
     Pack(Pieces),
@@ -29,14 +31,14 @@ pub enum Filter {
 }
 
 // How many units there were, and how many of them were entries.
-#[derive(Drop)]
+#[derive(Clone, Copy)]
 pub struct Counts {
     pub units: u64,
     pub entries: u64,
 }
 
 // Where the part was left, what is kept of the open unit, where each output goes on, and the counts.
-#[derive(Drop)]
+#[derive(Clone, Copy)]
 pub struct Run {
     pub from: usize,
     pub state: State,

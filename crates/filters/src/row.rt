@@ -14,7 +14,7 @@ use stream::{Answer, read_unit};
 use units::Unit;
 
 // What a row says: the kind and how many dwords there are, or the number that refuses it; or that no unit ended.
-#[derive(Drop)]
+#[derive(Clone, Copy)]
 pub enum Seen {
     Entry { kind: u8, dwords: usize },
     Refused(u8),

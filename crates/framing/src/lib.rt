@@ -1,5 +1,7 @@
 // A stream in parts of any size, cut into units: lines, or records. Of each unit as many bytes are kept as the lent unit buffer has: one
 // more than a unit may have tells an overlong one.
+#![tactic(auto)]
+
 ghost use Rattle.std.specs.Prelude.{◌≡◌, ◌++◌, min, ◌+◌, ◌≤◌, ◌<◌, leb, length, drop, get_or};
 ghost use Rattle.framing.specs.declared.Framing.TheVariants as F;
 ghost use Rattle.framing.specs.Units.{stated_size};
@@ -9,21 +11,21 @@ use print::put::put;
 use text::place::{Found, first};
 
 // How a stream is cut: a line ends with its newline, a record where its length says.
-#[derive(Drop)]
+#[derive(Clone, Copy)]
 pub enum Framing {
     Lines,
     Records,
 }
 
 // Where the part was left, how many bytes of the unit are held, and whether it is whole.
-#[derive(Drop)]
+#[derive(Clone, Copy)]
 pub struct Fed {
     pub at: usize,
     pub held: usize,
     pub whole: bool,
 }
 
-#[derive(Drop)]
+#[derive(Clone, Copy)]
 pub struct UnitEnd {
     pub at: usize,
     pub whole: bool,

@@ -7,14 +7,14 @@ use text::number::{MAX_63, Number, decimal};
 use text::place::{Found, byte_at, byte_before, first};
 use text::run::run_start;
 
-#[derive(Drop)]
+#[derive(Clone, Copy)]
 pub enum Stamp {
     At { seconds: u64, microseconds: u64 },
     Unreadable,
 }
 
 // Where the two digit runs of a timestamp stand: the first from `from` up to `dot`, the second behind it.
-#[derive(Drop)]
+#[derive(Clone, Copy)]
 enum Parts {
     At { from: usize, dot: usize },
     Nothing,

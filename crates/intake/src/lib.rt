@@ -3,6 +3,8 @@
 //     read      the entry of a text
 //     packet    the packet of a text, over a book
 //     what_is   record, line or neither
+#![tactic(auto)]
+
 mod room;
 
 ghost use Rattle.std.specs.Prelude.{◌≡◌, ◌≤◌, length};
@@ -17,7 +19,7 @@ use scan::{Answer, Pieces, parse};
 use text::place::byte_at;
 
 // What a text is: it belongs to the record grammar, to the line grammar of the choice, or to neither, and then this number refuses it.
-#[derive(Drop)]
+#[derive(Clone, Copy)]
 pub enum What {
     Record,
     Line,

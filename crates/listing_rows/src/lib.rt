@@ -1,4 +1,6 @@
 // The listing's rows of text. No row takes more than 64 bytes, which is what a caller makes room for.
+#![tactic(auto)]
+
 ghost use Rattle.std.specs.Prelude.{◌+◌, ◌≤◌, length};
 ghost use Rattle.listing_rows.specs.Rows.{Put, word_and_number, refused_row, entry_row, totals_row};
 

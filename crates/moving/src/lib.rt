@@ -1,5 +1,7 @@
 // The one loop of the programs: it reads a part of standard input, hands it on, and writes what comes of it. A read or a write that fails
 // ends it with one sentence on standard error and a status.
+#![tactic(auto)]
+
 mod ending;
 mod output;
 mod part;
@@ -19,7 +21,7 @@ use libc::STDIN_FILENO;
 use scan::Pieces;
 
 // All but the listing take lines and records, and read lines by a choice.
-#[derive(Drop)]
+#[derive(Clone, Copy)]
 pub enum Program {
     Listing,
     Pack(Pieces),

@@ -5,7 +5,7 @@ use filters::{Counts, Run, start};
 
 // The filter's run, what is kept of the open unit as two numbers; how many rows or records were written whole; 0 or the errno of the write to standard output that failed; whether one to
 // standard error did; 0 or the errno of the read that failed; and whether there may be more input.
-#[derive(Drop)]
+#[derive(Clone, Copy)]
 pub struct State {
     pub from: usize,
     pub held: usize,

@@ -1,5 +1,7 @@
 // The answer to a line as one row of text: every field of its entry, or the number that refuses it. A row that fits the buffer is whole;
 // of one that does not, the parts that do not fit are left out.
+#![tactic(auto)]
+
 pub mod fields;
 
 ghost use Rattle.std.specs.Prelude.{◌≤◌, length};

@@ -1,5 +1,7 @@
 // The answer to a packet as one row of text: its descriptions and every question, or the number that refuses it. A row that fits the buffer
 // is whole; of one that does not, the parts that do not fit are left out.
+#![tactic(auto)]
+
 mod asked;
 mod fields;
 mod told;

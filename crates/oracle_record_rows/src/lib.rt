@@ -3,6 +3,8 @@
 //
 //     put_record    the row of a record
 //     set           one number of an entry is another
+#![tactic(auto)]
+
 pub mod set;
 
 ghost use Rattle.std.specs.Prelude.{◌≤◌, length};

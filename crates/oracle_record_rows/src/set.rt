@@ -5,7 +5,7 @@ ghost use Rattle.oracle_record_rows.specs.Setting.{set_or};
 use entry::Entry;
 
 // Which number, 0 for none, and what it is set to; of the value the rest counts where the number is narrower.
-#[derive(Drop)]
+#[derive(Clone, Copy)]
 pub struct Change {
     pub number: u8,
     pub value: u64,

@@ -1,4 +1,6 @@
 // The program pack again, for a run of the gate over what pack wrote: it must write the same bytes. tests/large/run holds its files to pack's.
+#![tactic(auto)]
+
 use moving::run_pack;
 
 fn main() {

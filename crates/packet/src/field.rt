@@ -8,7 +8,7 @@ use book::find;
 use text::same::same;
 
 // What an entry is asked for: its own name, or a bit range of that name.
-#[derive(Drop)]
+#[derive(Clone, Copy)]
 pub enum Ask {
     Named,
     Holds,

@@ -9,7 +9,7 @@ use text::same::same;
 use tlv::Step;
 
 // Which entries of a table count: any, or those of one type, where the empty type is no type.
-#[derive(Drop)]
+#[derive(Clone, Copy)]
 pub enum Pick {
     Any,
     Typed,

@@ -5,6 +5,8 @@
 //     parse_checked    the same over a book that is known to be checked, for the crates above
 //     fill, steps      the entries of a table by their offsets; the three steps
 //     seek, field      the first dword as asked, and the dwords of one name; what the book says of one dword
+#![tactic(auto)]
+
 pub mod field;
 mod fill;
 pub mod numbers;
@@ -22,14 +24,14 @@ use book::{Checked, Uuid};
 use entry::optional::MaybeWord;
 use refusal::BAD_BOOK;
 
-#[derive(Drop)]
+#[derive(Clone, Copy)]
 pub enum MaybeUuid {
     Is(Uuid),
     Absent,
 }
 
 // The header table, which kinds 8 and 9 ask for and no other.
-#[derive(Drop)]
+#[derive(Clone, Copy)]
 pub enum Header {
     At(usize),
     Missing,
@@ -37,20 +39,20 @@ pub enum Header {
 }
 
 // The tables that a packet of some kind is described by.
-#[derive(Drop)]
+#[derive(Clone, Copy)]
 pub struct Tables {
     pub control: usize,
     pub header: Header,
 }
 
-#[derive(Drop)]
+#[derive(Clone, Copy)]
 pub enum Opened {
     Tables(Tables),
     Refused(u8),
 }
 
 // A packet: its kind, how many dwords it has, the UUID that they hold, and where its data view starts.
-#[derive(Drop)]
+#[derive(Clone, Copy)]
 pub struct Packet {
     pub kind: u8,
     pub dwords: usize,
@@ -58,7 +60,7 @@ pub struct Packet {
     pub start: MaybeWord,
 }
 
-#[derive(Drop)]
+#[derive(Clone, Copy)]
 pub enum Answer {
     Packet(Packet),
     Refused(u8),

@@ -14,21 +14,21 @@ use text::table::wide;
 use text::word::{one, two};
 
 // What a piece is: a dword, or bad, that is not 32-bit hex.
-#[derive(Drop)]
+#[derive(Clone, Copy)]
 pub enum Piece {
     Dword(u32),
     Bad,
 }
 
 // A piece by its end and its dword; any number past 32 bits stands for a bad one.
-#[derive(Drop)]
+#[derive(Clone, Copy)]
 pub struct NextPiece {
     pub end: usize,
     pub dword: u64,
 }
 
 // How many dwords the pieces are, and whether one of the pieces is bad.
-#[derive(Drop)]
+#[derive(Clone, Copy)]
 pub struct Tally {
     pub dwords: usize,
     pub bad: bool,

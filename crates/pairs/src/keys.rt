@@ -34,7 +34,7 @@ pub const OTHER: usize = 13;
 pub const ROWS: usize = 14;
 
 // What a value is read as: a text, a number in a base up to the largest of its width, or dwords in brackets.
-#[derive(Drop)]
+#[derive(Clone, Copy)]
 pub enum Form {
     Text,
     Decimal(u64),

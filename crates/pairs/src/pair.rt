@@ -11,7 +11,7 @@ use text::run::{behind_last, run_end, until};
 use text::same::same;
 
 // A pair by its places: where its key starts, where its `=` stands, where its value ends.
-#[derive(Drop)]
+#[derive(Clone, Copy)]
 pub enum Pair {
     Hit {
         key: usize,
@@ -22,7 +22,7 @@ pub enum Pair {
 }
 
 // The part of a text from a place up to another.
-#[derive(Drop)]
+#[derive(Clone, Copy)]
 pub enum Span {
     At { from: usize, to: usize },
     Nothing,

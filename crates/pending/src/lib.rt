@@ -4,6 +4,8 @@
 //     step      one entry: the table changes as document 02 says, and the entry is reported
 //     waiting   how many requests wait
 //     oldest    where the k-th oldest of them lies
+#![tactic(auto)]
+
 ghost use Rattle.std.specs.Prelude.{◌≡◌, length, set, replicate};
 ghost use Rattle.slots.specs.Decide.{free_slot};
 ghost use Rattle.pending.specs.Over.{look_all};

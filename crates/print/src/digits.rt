@@ -2,7 +2,7 @@
 ghost use Rattle.print.specs.Put.{Digits as DigitsOf};
 
 // The digits stand at the end of the bytes, from a place on.
-#[derive(Drop)]
+#[derive(Clone, Copy)]
 pub struct Digits {
     pub bytes: [u8; 20],
     pub from: usize,

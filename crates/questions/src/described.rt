@@ -31,7 +31,7 @@ use refusal::{NO_PACKET_ROUTE, UNNAMED_TYPE};
 use text::place::Found;
 
 // The value of a bit range, or there is none of that name.
-#[derive(Drop)]
+#[derive(Clone, Copy)]
 pub enum MaybeDword {
     Is(u32),
     Absent,

@@ -10,6 +10,8 @@
 //     described::..                          the same of a packet whose places were filled by `packet::parse`, with no check of the book
 //
 // Nothing that is lent is changed.
+#![tactic(auto)]
+
 pub mod described;
 mod kept;
 pub mod kinds;
@@ -44,33 +46,33 @@ use packet::Answer;
 use packet::field::{Ask, name_in};
 use packet::numbers::is_xdomain_kind;
 
-#[derive(Drop)]
+#[derive(Clone, Copy)]
 pub enum ByteAnswer {
     Is(u8),
     Absent,
     Refused(u8),
 }
 
-#[derive(Drop)]
+#[derive(Clone, Copy)]
 pub enum WordAnswer {
     Is(u16),
     Absent,
     Refused(u8),
 }
 
-#[derive(Drop)]
+#[derive(Clone, Copy)]
 pub enum WideAnswer {
     Is(u64),
     Refused(u8),
 }
 
-#[derive(Drop)]
+#[derive(Clone, Copy)]
 pub enum FlagAnswer {
     Is(bool),
     Refused(u8),
 }
 
-#[derive(Drop)]
+#[derive(Clone, Copy)]
 pub enum UuidAnswer {
     Is(Uuid),
     Absent,
@@ -78,20 +80,20 @@ pub enum UuidAnswer {
 }
 
 // A packet type: its number, and where the book names it.
-#[derive(Drop)]
+#[derive(Clone, Copy)]
 pub struct PacketType {
     pub value: u32,
     pub name: Place,
 }
 
-#[derive(Drop)]
+#[derive(Clone, Copy)]
 pub enum TypeAnswer {
     Is(PacketType),
     Absent,
     Refused(u8),
 }
 
-#[derive(Drop)]
+#[derive(Clone, Copy)]
 pub enum FieldAnswer {
     Is(Field),
     Absent,

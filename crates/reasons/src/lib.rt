@@ -3,6 +3,8 @@
 //     ask_key     what a line's last pair of a hex key says
 //     ask_piece   what a piece of its data says
 //     payload_of  where its payload stands
+#![tactic(auto)]
+
 pub mod payload;
 
 ghost use Rattle.std.specs.Prelude.{◌≡◌, ◌+◌, ◌^◌, ◌<◌, length};
@@ -14,7 +16,7 @@ use pairs::pair::{Span, last_pair};
 use text::number::{MAX_8, MAX_16, MAX_32, MAX_64, Reading, hex};
 
 // The keys of a line that are read as hex.
-#[derive(Drop)]
+#[derive(Clone, Copy)]
 pub enum Key {
     Route,
     Offset,
@@ -24,7 +26,7 @@ pub enum Key {
 }
 
 // Where a text stands in the line, and what it reads as. A bad digit's place counts from the text's own start.
-#[derive(Drop)]
+#[derive(Clone, Copy)]
 pub struct HexText {
     pub from: usize,
     pub to: usize,
@@ -32,7 +34,7 @@ pub struct HexText {
 }
 
 // `Refused` has the number 1 to 4 of a line that has no payload.
-#[derive(Drop)]
+#[derive(Clone, Copy)]
 pub enum Answer {
     Found(HexText),
     Absent,

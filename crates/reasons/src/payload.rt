@@ -9,14 +9,14 @@ use text::class::Class;
 use text::run::{run_end, strip};
 
 // A part of the line.
-#[derive(Drop)]
+#[derive(Clone, Copy)]
 pub struct Place {
     pub from: usize,
     pub to: usize,
 }
 
 // `Refused` has the number 1 to 4 that the line reader gives.
-#[derive(Drop)]
+#[derive(Clone, Copy)]
 pub enum Payload {
     At(Place),
     Refused(u8),

@@ -6,13 +6,13 @@ use entry::optional::{MaybeByte, MaybeWord};
 use tlv::{Step, byte_at, eight_at, field_at, four_at, two_at};
 
 // Where a field's body lies.
-#[derive(Drop)]
+#[derive(Clone, Copy)]
 pub enum Span {
     At { from: usize, to: usize },
     Absent,
 }
 
-#[derive(Drop)]
+#[derive(Clone, Copy)]
 pub struct Place {
     pub from: usize,
     pub len: usize,

@@ -7,7 +7,7 @@ use entry::Entry;
 use entry::optional::{MaybeByte, MaybeWord};
 
 // Who traced, and when.
-#[derive(Drop)]
+#[derive(Clone, Copy)]
 pub struct Origin {
     pub pid: u32,
     pub cpu: u16,
@@ -16,7 +16,7 @@ pub struct Origin {
 }
 
 // What every packet has.
-#[derive(Drop)]
+#[derive(Clone, Copy)]
 pub struct Packet {
     pub kind: u8,
     pub size: u16,
@@ -26,7 +26,7 @@ pub struct Packet {
 }
 
 // What a packet may have.
-#[derive(Drop)]
+#[derive(Clone, Copy)]
 pub struct Noted {
     pub offset: MaybeWord,
     pub code: MaybeByte,

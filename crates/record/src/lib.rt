@@ -5,6 +5,8 @@
 //     judge     numbers 30 to 34 of document 01
 //     find      a field by its tag, and its number
 //     gather    the entry from the fields of a good record
+#![tactic(auto)]
+
 pub mod find;
 pub mod gather;
 pub mod judge;
@@ -21,7 +23,7 @@ use refusal::FEW_RECORD_SLOTS;
 use tlv::four_at;
 
 // An entry, or document 01's number.
-#[derive(Drop)]
+#[derive(Clone, Copy)]
 pub enum Answer {
     Entry(Entry),
     Refused(u8),

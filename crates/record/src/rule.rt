@@ -8,7 +8,7 @@ use text::class::is_word;
 use tlv::{byte_at, eight_at, four_at, two_at};
 
 // How many bytes a number has.
-#[derive(Drop)]
+#[derive(Clone, Copy)]
 pub enum Width {
     One,
     Two,
@@ -16,7 +16,7 @@ pub enum Width {
     Eight,
 }
 
-#[derive(Drop)]
+#[derive(Clone, Copy)]
 pub enum Rule {
     // One or more bytes below 128, none 32.
     Task,
@@ -31,7 +31,7 @@ pub enum Rule {
 }
 
 // Which bytes a text is made of.
-#[derive(Drop)]
+#[derive(Clone, Copy)]
 pub enum Letters {
     Task,
     Function,

@@ -1,4 +1,6 @@
 // Document 01's numbers by their names. The table with their sentences is refusals.txt; tests/numbers/run holds this file to it.
+#![tactic(auto)]
+
 pub const IDLE: u8 = 1;
 
 pub const LONG_LINE: u8 = 2;

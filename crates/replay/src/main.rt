@@ -1,26 +1,28 @@
 // Answers frames of standard input: each is its length and the dword slots lent, four bytes each, low byte first, a byte for the choice,
 // then the line. For each it writes a row with every field of the line's entry, or the number that refuses it.
+#![tactic(auto)]
+
 ghost use Rattle.std.specs.Prelude.{◌≡◌, ◌+◌, ◌≤◌, ◌<◌, length};
 
 use libc::{STDIN_FILENO, STDOUT_FILENO};
 use oracle_line_rows::put_answer;
 use scan::Pieces;
 
-#[derive(Drop)]
+#[derive(Clone, Copy)]
 struct Head {
     length: usize,
     slots: usize,
     pieces: Pieces,
 }
 
-#[derive(Drop)]
+#[derive(Clone, Copy)]
 enum HeadAnswer {
     Got(Head),
     End,
 }
 
 // How much of the output waits to be written, and whether frames may follow.
-#[derive(Drop)]
+#[derive(Clone, Copy)]
 struct Step {
     at: usize,
     more: bool,

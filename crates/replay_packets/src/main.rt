@@ -2,39 +2,41 @@
 // length of the book, that of the names to ask for, and how many packets follow. Then come the book, the names, each behind its length in one
 // byte, and the packets, each behind two such numbers, its length and the places lent: the kind byte and the dwords, four bytes each, low
 // byte first. For each packet it writes a row with every answer, or the number that refuses it.
+#![tactic(auto)]
+
 ghost use Rattle.std.specs.Prelude.{◌≤◌, ◌<◌, length};
 
 use libc::{STDIN_FILENO, STDOUT_FILENO};
 use oracle_packet_rows::put_answer;
 use tlv::four_at;
 
-#[derive(Drop)]
+#[derive(Clone, Copy)]
 struct Group {
     book: usize,
     names: usize,
     packets: usize,
 }
 
-#[derive(Drop)]
+#[derive(Clone, Copy)]
 enum GroupAnswer {
     Got(Group),
     End,
 }
 
-#[derive(Drop)]
+#[derive(Clone, Copy)]
 struct Head {
     length: usize,
     places: usize,
 }
 
-#[derive(Drop)]
+#[derive(Clone, Copy)]
 enum HeadAnswer {
     Got(Head),
     End,
 }
 
 // How much of the output waits to be written, and whether more of the input may follow.
-#[derive(Drop)]
+#[derive(Clone, Copy)]
 struct Step {
     at: usize,
     more: bool,

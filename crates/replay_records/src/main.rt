@@ -1,6 +1,8 @@
 // Answers frames of standard input: each is the length of a record, the dword slots and the bytes lent, two bytes each, which number of its entry is
 // set before it is written again, one byte, and to what, eight bytes, low byte first; then the record. For each it writes a row with every field of
 // the record's entry and what writing it again gives, or the number that refuses it.
+#![tactic(auto)]
+
 ghost use Rattle.std.specs.Prelude.{◌≤◌, length};
 
 use libc::{STDIN_FILENO, STDOUT_FILENO};
@@ -8,7 +10,7 @@ use oracle_record_rows::put_record;
 use oracle_record_rows::set::Change;
 use tlv::{byte_at, eight_at, two_at};
 
-#[derive(Drop)]
+#[derive(Clone, Copy)]
 struct Head {
     length: usize,
     slots: usize,
@@ -16,14 +18,14 @@ struct Head {
     change: Change,
 }
 
-#[derive(Drop)]
+#[derive(Clone, Copy)]
 enum HeadAnswer {
     Got(Head),
     End,
 }
 
 // How much of the output waits to be written, and whether frames may follow.
-#[derive(Drop)]
+#[derive(Clone, Copy)]
 struct Step {
     at: usize,
     more: bool,

@@ -6,6 +6,8 @@
 //     say_event    the name that an event prints
 //     say_dword    eight hex digits
 //     say_hex      hex digits, at least eight
+#![tactic(auto)]
+
 ghost use Rattle.std.specs.Prelude.{◌+◌, ◌≤◌, ◌<◌, length};
 ghost use Rattle.print.specs.Hex.{dword_text};
 ghost use Rattle.listing_rows.specs.Rows.{word_and_number};

@@ -11,7 +11,7 @@ use pairs::keys::{
 };
 use refusal::{NO_DOMAIN, NO_ROUTE, NO_SIZE, NO_TYPE};
 
-#[derive(Drop)]
+#[derive(Clone, Copy)]
 pub struct Optionals {
     pub offset: MaybeWord,
     pub code: MaybeByte,
@@ -22,7 +22,7 @@ pub struct Optionals {
     pub unplug: MaybeByte,
 }
 
-#[derive(Drop)]
+#[derive(Clone, Copy)]
 pub struct Body {
     pub kind: u8,
     pub size: u16,
@@ -32,7 +32,7 @@ pub struct Body {
     pub optionals: Optionals,
 }
 
-#[derive(Drop)]
+#[derive(Clone, Copy)]
 pub enum BodyAnswer {
     Got(Body),
     Refused(u8),

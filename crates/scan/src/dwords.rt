@@ -11,7 +11,7 @@ use crate::Pieces;
 use pairs::dwords::take_dwords;
 use refusal::{BAD_PIECE, FEW_SLOTS, MANY_DWORDS, NO_DATA};
 
-#[derive(Drop)]
+#[derive(Clone, Copy)]
 pub enum DataAnswer {
     Got(usize),
     Refused(u8),

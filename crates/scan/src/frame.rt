@@ -15,7 +15,7 @@ const HIGH: u8 = 128;
 // So many bytes at a time are looked at for a high one.
 const STRIDE: usize = 32;
 
-#[derive(Drop)]
+#[derive(Clone, Copy)]
 pub enum FrameAnswer {
     Colon(usize),
     Refused(u8),

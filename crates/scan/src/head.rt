@@ -11,7 +11,7 @@ use text::number::Number;
 use text::place::Found;
 
 // Task and function by their places in the header: the task starts it, the function ends it.
-#[derive(Drop)]
+#[derive(Clone, Copy)]
 pub struct Head {
     pub task: usize,
     pub pid: u32,
@@ -21,7 +21,7 @@ pub struct Head {
     pub function: usize,
 }
 
-#[derive(Drop)]
+#[derive(Clone, Copy)]
 pub enum HeadAnswer {
     Got(Head),
     Refused(u8),

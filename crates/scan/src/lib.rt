@@ -1,4 +1,6 @@
 // A trace line to its entry, or the one number that says why not.
+#![tactic(auto)]
+
 pub mod body;
 pub mod dwords;
 pub mod frame;
@@ -18,14 +20,14 @@ use text::class::Class;
 use text::run::{run_end, run_start, strip};
 use walk::last::last_pairs;
 
-#[derive(Drop)]
+#[derive(Clone, Copy)]
 pub enum Answer {
     Entry(Entry),
     Refused(u8),
 }
 
 // What becomes of a line with a piece of `data` that is not 32-bit hex: strict refuses it (18), lenient leaves the piece out.
-#[derive(Drop)]
+#[derive(Clone, Copy)]
 pub enum Pieces {
     Strict,
     Lenient,

@@ -2,6 +2,8 @@
 // each dword with what the book says of it, and where the data starts; of each other unit why it is none. A book that cannot be read or breaks
 // its grammar is told, and nothing is shown. A line with a piece of `data` that is not 32-bit hex is none, unless a second argument, `lenient`, has the
 // piece left out. A unit that starts with A1 is a record of the length that it says.
+#![tactic(auto)]
+
 use showing::run_show;
 
 fn main() {

@@ -1,5 +1,7 @@
 // The program show, as a call: lines and records on standard input shown as packets over a book whose file the first argument names; a
 // second, `lenient`, leaves pieces of `data` that are not 32-bit hex out. A book that cannot be read or breaks its grammar is told, and nothing is shown.
+#![tactic(auto)]
+
 use book::Checked;
 use channel::fault::last_fault;
 use channel::reading::{Filled, read_whole};

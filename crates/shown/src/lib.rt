@@ -2,6 +2,8 @@
 // the data starts; of each other why it is none. Every word goes through a sink.
 //
 //     show_unit      a unit's block
+#![tactic(auto)]
+
 mod dwords;
 mod words;
 

@@ -7,7 +7,7 @@ use entry::Entry;
 use entry::optional::MaybeByte;
 
 // The last one is no entry's: a caller asks for the slot that has this rank.
-#[derive(Drop)]
+#[derive(Clone, Copy)]
 pub enum Ask {
     Dropped,
     Other,

@@ -8,7 +8,7 @@ use crate::{Four, Slot};
 use refusal::{BROKEN_TABLE, TABLE_SIZE};
 
 // Each entry is one of these: `Taken` and `Answered` say at which place.
-#[derive(Drop)]
+#[derive(Clone, Copy)]
 pub enum Report {
     Dropped,
     Other,
@@ -21,14 +21,14 @@ pub enum Report {
 }
 
 // How many slots wait, or the number that refuses the table.
-#[derive(Drop)]
+#[derive(Clone, Copy)]
 pub enum Waiting {
     Count(u32),
     Refused(u8),
 }
 
 // Where a slot lies, if there is one.
-#[derive(Drop)]
+#[derive(Clone, Copy)]
 pub enum Place {
     At(usize),
     Nowhere,
@@ -36,7 +36,7 @@ pub enum Place {
 }
 
 // The slot that goes to a place, the rank that is freed, and the report. A place past the last takes nothing, rank 0 frees nothing.
-#[derive(Drop)]
+#[derive(Clone, Copy)]
 pub struct Plan {
     pub at: usize,
     pub slot: Slot,

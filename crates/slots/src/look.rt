@@ -7,7 +7,7 @@ use crate::{Four, Slot};
 use entry::Entry;
 
 // How many slots wait, a bit for each of the ranks 1 to 64 that one of them has, and whether none breaks a rule by itself.
-#[derive(Drop)]
+#[derive(Clone, Copy)]
 pub struct Ranks {
     pub count: u32,
     pub mask: u64,
@@ -15,14 +15,14 @@ pub struct Ranks {
 }
 
 // The place and the rank of the oldest slot that is asked for; a rank past 64 where none is.
-#[derive(Drop)]
+#[derive(Clone, Copy)]
 pub struct Oldest {
     pub place: usize,
     pub rank: u32,
 }
 
 // The first free place is the number of slots where none is free.
-#[derive(Drop)]
+#[derive(Clone, Copy)]
 pub struct Seen {
     pub ask: Ask,
     pub size: usize,

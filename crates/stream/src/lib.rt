@@ -3,6 +3,8 @@
 //     feed        a part's bytes up to the end of the next unit, and that unit's answer
 //     finish      the answer of the unit that the stream's end ends
 //     read_unit   the answer of a unit that was cut off a stream
+#![tactic(auto)]
+
 ghost use Rattle.std.specs.Prelude.{◌≡◌, ◌≤◌, length};
 ghost use Rattle.units.specs.Feeding.{text_length};
 ghost use Rattle.stream.specs.Feeding.{empty, UnitRead, TextRead, FeedDone, FinishDone, after_end};
@@ -13,7 +15,7 @@ use scan::Pieces;
 use units::{Framing, State, Unit};
 
 // The entry of a unit, the number that refuses it or the call, or that no unit ended.
-#[derive(Drop)]
+#[derive(Clone, Copy)]
 pub enum Answer {
     Entry(Entry),
     Refused(u8),
@@ -21,7 +23,7 @@ pub enum Answer {
 }
 
 // Up to where the part was read, what is kept for the next call, and the answer.
-#[derive(Drop)]
+#[derive(Clone, Copy)]
 pub struct Fed {
     pub at: usize,
     pub state: State,
@@ -29,7 +31,7 @@ pub struct Fed {
 }
 
 // What is kept for the next stream, which is nothing, and the answer.
-#[derive(Drop)]
+#[derive(Clone, Copy)]
 pub struct Finished {
     pub state: State,
     pub answer: Answer,

@@ -5,6 +5,8 @@
 //     waiting_held    how many requests wait
 //     place_of_rank   where the slot of a rank lies
 //     slot_at         the slot at a place
+#![tactic(auto)]
+
 ghost use Rattle.std.specs.Prelude.{◌≡◌, [], ◌∷◌, ◌≤◌, get_or, set, replicate};
 ghost use Rattle.slots.specs.Decide.{free_slot};
 ghost use Rattle.pending.specs.Over.{look_all};
@@ -17,13 +19,13 @@ use slots::Slot;
 use slots::decide::{Plan, Report, decide, free_slot, lowered};
 use slots::look::{Seen, look, start};
 
-#[derive(Drop)]
+#[derive(Clone, Copy)]
 pub struct Table {
     pub slots: [Slot; 64],
 }
 
 // The table after an entry, and what is reported.
-#[derive(Drop)]
+#[derive(Clone, Copy)]
 pub struct Held {
     pub table: Table,
     pub report: Report,

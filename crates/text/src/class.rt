@@ -4,7 +4,7 @@ ghost use Rattle.text.specs.Class.{between, is_blank, is_digit, is_letter, is_wo
 
 // What a run is made of. The two negated classes end a run at one byte: the blank that ends a header's first run, and the
 // bracket that ends a bracketed value. They are for the definitions; code finds that byte by `until` and `behind_last`.
-#[derive(Drop)]
+#[derive(Clone, Copy)]
 pub enum Class {
     Blank,
     Digit,

@@ -25,14 +25,14 @@ const TEN: u64 = 10;
 // So many digits of any base up to 16 stay within 64 bits.
 pub const SHORT: usize = 16;
 
-#[derive(Drop)]
+#[derive(Clone, Copy)]
 pub enum Number {
     Value(u64),
     Unreadable,
 }
 
 // A number, or why there is none: no digit stands there; at this place stands a byte that is no digit; or the value is past the limit.
-#[derive(Drop)]
+#[derive(Clone, Copy)]
 pub enum Reading {
     Value(u64),
     Empty,

@@ -4,7 +4,7 @@ ghost use Rattle.text.specs.Place.{byte_before, first_byte, last_byte};
 
 use crate::run::{behind_last, until};
 
-#[derive(Drop)]
+#[derive(Clone, Copy)]
 pub enum Found {
     At(usize),
     Nothing,

@@ -4,12 +4,14 @@
 //     byte_at, two_at, four_at, eight_at    the number that one, two, four or eight bytes make, low byte first
 //
 // All are total: they take any text and any place, and none of them loops.
+#![tactic(auto)]
+
 ghost use Rattle.std.specs.Prelude.{◌≡◌, ◌<◌, get_or};
 ghost use Rattle.tlv.specs.Number.{Read};
 ghost use Rattle.tlv.specs.Reading.{field_at};
 
 // What stands at a place of a text.
-#[derive(Drop)]
+#[derive(Clone, Copy)]
 pub enum Step {
     // A whole field: its tag, where its body starts, and the place after its body.
     Field { tag: u8, from: usize, to: usize },

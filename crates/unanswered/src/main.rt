@@ -1,6 +1,8 @@
 // Matches the requests among the lines of standard input to their responses: a row for each line, at the end each request that waits still, then
 // the totals. Of the input one line and a table of 64 requests are kept, whatever its size. A line with a bad piece is refused; by the word
 // `lenient` the piece is left out.
+#![tactic(auto)]
+
 mod rows;
 mod state;
 

@@ -7,7 +7,7 @@ use scan::Pieces;
 use table::{place_of_rank, slot_at, waiting_held};
 use unanswered_rows::{put_row, put_totals, put_waits};
 
-#[derive(Drop)]
+#[derive(Clone, Copy)]
 pub struct Said {
     pub desk: Desk,
     pub sink: Sink,

@@ -6,7 +6,7 @@ use desk::{Desk, begin};
 
 // How many bytes of the open line are held; what waits to be written; what is kept of the lines; 0 or the errno of the read that failed; and
 // whether there may be more input.
-#[derive(Drop)]
+#[derive(Clone, Copy)]
 pub struct State {
     pub held: usize,
     pub sink: Sink,

@@ -3,14 +3,14 @@ ghost use Rattle.std.specs.Prelude.{◌≡◌, ◌+◌, ◌-◌, ◌*◌, ◌≤
 ghost use Rattle.unanswered_rows.specs.Gap.{gap_of, most64, instant, Carried};
 
 // A time: seconds and microseconds, of which a line may have a million or more.
-#[derive(Drop)]
+#[derive(Clone, Copy)]
 pub struct Moment {
     pub seconds: u64,
     pub microseconds: u64,
 }
 
 // The second time is so many microseconds after the first, or before it. A gap past 64 bits is 2^64 - 1.
-#[derive(Drop)]
+#[derive(Clone, Copy)]
 pub enum Gap {
     After(u64),
     Before(u64),

@@ -3,6 +3,8 @@
 //     put_row      what became of a line
 //     put_waits    a request that waits still
 //     put_totals   how many of each there were
+#![tactic(auto)]
+
 pub mod gap;
 mod hex;
 pub mod parts;
@@ -19,7 +21,7 @@ use slots::Four;
 
 // What became of a line: what is reported of its entry, or the number that refuses it. An answer says which line it answers, and how many
 // microseconds it came after that one, or before it.
-#[derive(Drop)]
+#[derive(Clone, Copy)]
 pub enum Row {
     Dropped,
     Other,
@@ -33,14 +35,14 @@ pub enum Row {
 }
 
 // What is kept of a request beside its slot: its line's number and its time.
-#[derive(Drop)]
+#[derive(Clone, Copy)]
 pub struct Note {
     pub line: u64,
     pub seconds: u64,
     pub microseconds: u64,
 }
 
-#[derive(Drop)]
+#[derive(Clone, Copy)]
 pub struct Counts {
     pub lines: u64,
     pub entries: u64,

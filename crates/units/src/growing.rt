@@ -9,7 +9,7 @@ use print::put::put;
 use text::place::{Found, first};
 
 // Where a line ends in a part, or that the part has not its end.
-#[derive(Drop)]
+#[derive(Clone, Copy)]
 pub struct LineEnd {
     pub at: usize,
     pub whole: bool,

@@ -5,6 +5,8 @@
 //     finish    the unit that the stream's end ends
 //     is_kept   whether some stream leaves this
 //     units_in  how many units have ended in a stream that came so far
+#![tactic(auto)]
+
 mod ending;
 mod growing;
 mod keeping;
@@ -20,7 +22,7 @@ use crate::keeping::{is_left, marks, stated};
 use text::place::byte_at;
 
 // What a stream is made of: lines alone, whatever they start with; or lines and records, which start with A1.
-#[derive(Drop)]
+#[derive(Clone, Copy)]
 pub enum Framing {
     Lines,
     Both,
@@ -28,7 +30,7 @@ pub enum Framing {
 
 // How many bytes of the open unit stand in the buffer; and of a record that says too much how many behind its third were passed over, else 0.
 #[repr(C)]
-#[derive(Drop)]
+#[derive(Clone, Copy)]
 pub struct State {
     pub held: usize,
     pub passed: usize,
@@ -36,7 +38,7 @@ pub struct State {
 
 // What ended: a unit with so many of its bytes in the buffer, to be read; a record that says too much; another that the end cuts; or nothing. Or no
 // stream leaves what was lent.
-#[derive(Drop)]
+#[derive(Clone, Copy)]
 pub enum Unit {
     Text(usize),
     Long,
@@ -46,7 +48,7 @@ pub enum Unit {
 }
 
 // Up to where the part was read, what is kept for the next call, and the unit.
-#[derive(Drop)]
+#[derive(Clone, Copy)]
 pub struct Fed {
     pub at: usize,
     pub state: State,

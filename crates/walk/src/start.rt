@@ -66,7 +66,7 @@ const SEVEN: u64 = 0xff_ffff_ffff_ffff;
 const EIGHT: u64 = 0xffff_ffff_ffff_ffff;
 
 // A word run by its end, where its `=` stands if it is a key; and the key's row and form. A key that is none of ours has the row `OTHER`.
-#[derive(Drop)]
+#[derive(Clone, Copy)]
 pub struct Start {
     pub row: usize,
     pub form: Form,
@@ -74,7 +74,7 @@ pub struct Start {
 }
 
 // A row as it stands in a text: the number that its name and `=` make, their mask, and how many bytes they are.
-#[derive(Drop)]
+#[derive(Clone, Copy)]
 pub struct Candidate {
     pub want: u64,
     pub mask: u64,

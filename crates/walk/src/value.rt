@@ -16,21 +16,21 @@ use text::table::{is_word_at, wide, word_end};
 use text::word::one;
 
 // What is kept of a value: the number that it says, or where its text starts; and where it ends. An end of 0 keeps nothing.
-#[derive(Drop)]
+#[derive(Clone, Copy)]
 pub struct Kept {
     pub value: u64,
     pub end: usize,
 }
 
 // Where a value ends, 0 where none stands; and what is kept of it.
-#[derive(Drop)]
+#[derive(Clone, Copy)]
 pub struct Value {
     pub end: usize,
     pub kept: Kept,
 }
 
 // A run of at most `SHORT` digits: where it ends, and its value.
-#[derive(Drop)]
+#[derive(Clone, Copy)]
 pub struct Digits {
     pub end: usize,
     pub value: u64,

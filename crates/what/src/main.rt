@@ -1,5 +1,7 @@
 // Says what standard input is, the whole of it taken as one text: `record`, `line`, or `neither` with the number that refuses it. A line is strict,
 // and lenient by the word `lenient`.
+#![tactic(auto)]
+
 mod row;
 
 ghost use Rattle.std.specs.Prelude.{◌≤◌, length};

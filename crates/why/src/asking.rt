@@ -18,7 +18,7 @@ use why_rows::tally::{Counts, count_line, count_payload, count_reason};
 use why_rows::{Reason, What, put_row, put_totals};
 
 // What was said, and what was counted.
-#[derive(Drop)]
+#[derive(Clone, Copy)]
 pub struct Done {
     pub sink: Sink,
     pub counts: Counts,

@@ -1,5 +1,7 @@
 // Says for each line of standard input which of its hex numbers could not be read and why: a row for each of them, and at the end the totals.
 // Of the input one line is kept, whatever its size.
+#![tactic(auto)]
+
 mod asking;
 mod state;
 

@@ -7,7 +7,7 @@ use why_rows::tally::{Counts, count_line};
 
 // How many bytes of the open line are held; what was said and counted so far; 0 or the errno of the read that failed; whether the input stopped at
 // a record; and whether there may be more input.
-#[derive(Drop)]
+#[derive(Clone, Copy)]
 pub struct State {
     pub held: usize,
     pub done: Done,

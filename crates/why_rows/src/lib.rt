@@ -2,6 +2,8 @@
 //
 //     put_row      an unreadable hex number of a line
 //     put_totals   how many of each there were
+#![tactic(auto)]
+
 mod caret;
 mod name;
 pub mod tally;
@@ -19,14 +21,14 @@ use reasons::Key;
 use unanswered_rows::parts::{put_number, put_text};
 
 // Which number of a line: the value of a key, or the piece of its data of that number, from 0.
-#[derive(Drop)]
+#[derive(Clone, Copy)]
 pub enum What {
     Key(Key),
     Piece(u64),
 }
 
 // Why it is none. A bad digit's place counts from the text's start, a leading `0x` counted.
-#[derive(Drop)]
+#[derive(Clone, Copy)]
 pub enum Reason {
     Empty,
     BadDigit(usize),

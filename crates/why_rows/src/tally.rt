@@ -4,7 +4,7 @@ ghost use Rattle.why_rows.specs.Tally.{up, with_line, with_payload, tally};
 
 use crate::Reason;
 
-#[derive(Drop)]
+#[derive(Clone, Copy)]
 pub struct Counts {
     pub lines: u64,
     pub payloads: u64,

@@ -6,7 +6,7 @@ use entry::Entry;
 use entry::optional::{MaybeByte, MaybeWord};
 
 // What a field's body is made from.
-#[derive(Drop)]
+#[derive(Clone, Copy)]
 pub enum Item {
     // A part of the text.
     Text { from: usize, len: usize },

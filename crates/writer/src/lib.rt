@@ -5,6 +5,8 @@
 //     item      the body of each tag, from the entry
 //     put       bytes, numbers, dwords and fields at a place of a buffer
 //     small     the small writer, which holds the lent buffer
+#![tactic(auto)]
+
 pub mod check;
 pub mod item;
 pub mod put;
@@ -19,7 +21,7 @@ use entry::Entry;
 use refusal::{BAD_ENTRY, SHORT_BUFFER};
 
 // How many bytes were written, or document 01's number.
-#[derive(Drop)]
+#[derive(Clone, Copy)]
 pub enum Written {
     Bytes(usize),
     Refused(u8),

@@ -1,0 +1,21 @@
+-- `batch::parse_one` meets its contract: what the packet call answers, as one number. Assumes nothing.
+use Rattle.batch.specs.Batch.{code_of}
+use Rattle.packet.proofs.Packets.{length_listed}
+use Rattle.packet.specs.Packet.{answer_told, places_of, list_by}
+use Rattle.packet.specs.declared.Packet.{Packet}
+use Rattle.text.specs.Told.{Told}
+use lib.ListN.{length}
+use mathlib.Core.Path.{sym, ap, ◌∙◌}
+use Rattle.batch.proofs.parse_one.Goals as goal
+
+pub shape_of-places-in-Packet : goal.shape_of-places-in-Packet
+shape_of-places-in-Packet c = ap length (c.parse_checked-answer.ensures.places ∙ ap (λ (r : Told Packet). list_by r (places_of c.args.kind c.args.book.now c.args.dwords.now) c.args.places.now) c.parse_checked-answer.ensures.answer) ∙ length_listed c.args.kind c.args.book.now c.args.dwords.now c.args.places.now
+
+pub returns-in-Packet : goal.returns-in-Packet
+returns-in-Packet c = record { code = c.start_code.ensures ∙ ap code_of (ap answer_told (sym c.in-Packet.is) ∙ c.parse_checked-answer.ensures.answer); places = c.parse_checked-answer.ensures.places ∙ ap (λ (r : Told Packet). list_by r (places_of c.args.kind c.args.book.now c.args.dwords.now) c.args.places.now) c.parse_checked-answer.ensures.answer }
+
+pub shape_of-places-in-Refused : goal.shape_of-places-in-Refused
+shape_of-places-in-Refused c = ap length (c.parse_checked-answer.ensures.places ∙ ap (λ (r : Told Packet). list_by r (places_of c.args.kind c.args.book.now c.args.dwords.now) c.args.places.now) c.parse_checked-answer.ensures.answer) ∙ length_listed c.args.kind c.args.book.now c.args.dwords.now c.args.places.now
+
+pub returns-in-Refused : goal.returns-in-Refused
+returns-in-Refused c = record { code = ap code_of (ap answer_told (sym c.in-Refused.is) ∙ c.parse_checked-answer.ensures.answer); places = c.parse_checked-answer.ensures.places ∙ ap (λ (r : Told Packet). list_by r (places_of c.args.kind c.args.book.now c.args.dwords.now) c.args.places.now) c.parse_checked-answer.ensures.answer }

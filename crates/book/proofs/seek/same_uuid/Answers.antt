@@ -1,0 +1,20 @@
+-- `book::seek::same_uuid` meets its contract: each test decides one dword. Assumes nothing.
+use Rattle.book.specs.Search.{same_uuid}
+use borrow.Author.Tests.{eq-eqb, ne_eqb}
+use Rattle.book.proofs.seek.same_uuid.Goals as goal
+
+pub returns-then-a-b : goal.returns-then-a-b
+unfolding same_uuid
+returns-then-a-b c = rw (ne_eqb _ _ c.if-a-b.true)
+
+pub returns-then-a-b-2 : goal.returns-then-a-b-2
+unfolding same_uuid
+returns-then-a-b-2 c = rw (eq-eqb _ _ c.if-a-b.false, ne_eqb _ _ c.if-a-b-2.true)
+
+pub returns-then-a-b-3 : goal.returns-then-a-b-3
+unfolding same_uuid
+returns-then-a-b-3 c = rw (eq-eqb _ _ c.if-a-b.false, eq-eqb _ _ c.if-a-b-2.false, ne_eqb _ _ c.if-a-b-3.true)
+
+pub returns : goal.returns
+unfolding same_uuid
+returns c = rw (eq-eqb _ _ c.if-a-b.false, eq-eqb _ _ c.if-a-b-2.false, eq-eqb _ _ c.if-a-b-3.false)

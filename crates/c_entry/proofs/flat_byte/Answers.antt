@@ -1,0 +1,11 @@
+-- `flat_byte` meets its contract, by cases. Assumes nothing.
+use Rattle.c_entry.specs.Flat.{flat_byte}
+use Rattle.c_entry.proofs.flat_byte.Goals as goal
+
+pub returns-in-Is : goal.returns-in-Is
+unfolding flat_byte
+returns-in-Is c = rw c.in-Is.is
+
+pub returns-in-Absent : goal.returns-in-Absent
+unfolding flat_byte
+returns-in-Absent c = rw c.in-Absent.is

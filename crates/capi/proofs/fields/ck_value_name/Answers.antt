@@ -1,0 +1,12 @@
+-- `capi::fields::ck_value_name` meets its contract: the name, put at the start of the buffer. Assumes nothing.
+use Prim.Native.Nat.{ℕ}
+use Rattle.field.specs.Ranges.{value_name}
+use Rattle.field.specs.declared.Range.{Range}
+use Rattle.print.specs.Put.{buffer_after}
+use lib.ListN.{length}
+use mathlib.Core.List.{List}
+use mathlib.Core.Path.{◌∙◌, ap}
+use Rattle.capi.proofs.fields.ck_value_name.Goals as goal
+
+pub returns : goal.returns
+returns c = let is = c.value_name-name.ensures.is ∙ ap (λ (g : Range). value_name c.args.book.now g) c.range_with.ensures in record { size = ap (λ (l : List ℕ). length l) is; buffer = c.put.ensures.buffer ∙ ap (λ (l : List ℕ). buffer_after c.args.out.now 0 l) is }

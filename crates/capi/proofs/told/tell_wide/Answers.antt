@@ -1,0 +1,9 @@
+-- `capi::told::tell_wide` meets its contract: case by case. Assumes nothing.
+use mathlib.Core.Path.{◌∙◌}
+use Rattle.capi.proofs.told.tell_wide.Goals as goal
+
+pub returns-in-Is : goal.returns-in-Is
+returns-in-Is c = c.value_of.ensures ∙ rw c.in-Is.is
+
+pub returns-in-Refused : goal.returns-in-Refused
+returns-in-Refused c = c.value_of-in-Refused.ensures ∙ rw c.in-Refused.is

@@ -1,0 +1,51 @@
+-- `cpu::parse_cpu` meets its contract: a CPU starts with a bracket, so the first from the start is the first from here. Assumes nothing.
+use Prim.Native.Nat.{◌+◌, ◌<◌}
+use Rattle.header.proofs.Cpus.{seeking_starts, next_bracket, seeking_hits, seeking_steps, seeking_ends, cpu_within, cpu_some, cpu_none, three_long}
+use Rattle.header.proofs.cpu.parse_cpu.Lts as lts
+use Rattle.text.specs.Place.{First, is_at}
+use lib.ListN.{length}
+use mathlib.Core.Path.{sym, ◌∙◌}
+use native.Mathlib.Omega.{arith}
+use Rattle.header.proofs.cpu.parse_cpu.Goals as goal
+
+bracket : (c : lts.In-At-2 invariant-loop decreases-loop) → First (is_at 91 c.args.h.now) c.loop-k.i (length c.args.h.now) c.in-At.k
+bracket c = next_bracket c.args.h.now (sym c.first.ensures ∙ c.in-At.is)
+
+inside : (c : lts.Then-is_cpu invariant-loop decreases-loop) → c.in-At.k + 4 < length c.args.h.now
+inside c = cpu_within _ _ (sym c.is_cpu.ensures ∙ c.if-is_cpu.true)
+
+pub loop-k-init : goal.loop-k-init
+loop-k-init c = seeking_starts _
+
+pub is_cpu-requires : goal.is_cpu-requires
+is_cpu-requires c = (bracket c.before).within
+
+pub overflow_add-from : goal.overflow_add-from
+overflow_add-from c = omega (arith, (bracket c.before.before.before).within)
+
+pub overflow_add-end : goal.overflow_add-end
+overflow_add-end c = omega (arith, inside c)
+
+pub slice_bounds-decimal-count : goal.slice_bounds-decimal-count
+slice_bounds-decimal-count c = omega arith
+
+pub slice_bounds-decimal-end : goal.slice_bounds-decimal-end
+slice_bounds-decimal-end c = omega (arith, inside c)
+
+pub returns-then-is_cpu : goal.returns-then-is_cpu
+returns-then-is_cpu c =
+    c.decimal.ensures
+    ∙ three_long _ c.args.h.now c.in-At.k
+    ∙ cpu_some _ (seeking_hits _ c.loop-k.invariant (sym c.first.ensures ∙ c.in-At.is) (sym c.is_cpu.ensures ∙ c.if-is_cpu.true))
+
+pub overflow_add-i : goal.overflow_add-i
+overflow_add-i c = omega (arith, (bracket c.before.before.before).within)
+
+pub loop-k-smaller : goal.loop-k-smaller
+loop-k-smaller c = omega (arith, (bracket c.before.before.before).from, (bracket c.before.before.before).within)
+
+pub loop-k-preserved : goal.loop-k-preserved
+loop-k-preserved c = seeking_steps _ c.loop-k.invariant (sym c.first.ensures ∙ c.in-At.is) (sym c.is_cpu.ensures ∙ c.if-is_cpu.false)
+
+pub returns-in-Nothing : goal.returns-in-Nothing
+returns-in-Nothing c = cpu_none _ (seeking_ends _ c.loop-k.invariant (sym c.first.ensures ∙ c.in-Nothing.is))

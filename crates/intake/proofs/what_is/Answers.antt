@@ -1,0 +1,10 @@
+-- `what_is` meets its contract: 256 slots are lent to `read`, and its answer tells what the text is. Assumes nothing.
+use Rattle.intake.proofs.Asking.{what_accepted, what_refused}
+use mathlib.Core.Path.{refl}
+use Rattle.intake.proofs.what_is.Goals as goal
+
+pub returns-in-Entry : goal.returns-in-Entry
+returns-in-Entry c = what_accepted c.args.text.now _ c.read.ensures refl c.in-Entry.is c.grammar_of.ensures
+
+pub returns-in-Refused : goal.returns-in-Refused
+returns-in-Refused c = what_refused c.args.text.now _ c.read.ensures refl c.in-Refused.is

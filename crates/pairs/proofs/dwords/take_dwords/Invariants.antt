@@ -1,0 +1,14 @@
+-- `dwords::take_dwords` meets its contract: what was met so far and what the rest adds make up the whole, and what was met stands in its places. Assumes
+-- nothing.
+use Prim.Native.Nat.{◌-◌}
+use Rattle.pairs.proofs.BadPieces.{BadBefore}
+use Rattle.pairs.proofs.Slots.{Before, Kept}
+use Rattle.pairs.specs.Data.{dwords_of}
+use lib.ListN.{length}
+use Rattle.pairs.proofs.dwords.take_dwords.Given as goal
+
+abbrev pub invariant-loop-own : goal.invariant-loop-own
+invariant-loop-own l = Before l.inner l.n l.at × BadBefore l.inner l.bad l.at × Kept (dwords_of l.inner) l.initial.own l.n l.own
+
+abbrev pub decreases-loop-own : goal.decreases-loop-own
+decreases-loop-own l = length l.inner - l.at

@@ -1,0 +1,15 @@
+-- `questions::is_write` meets its contract: a number first. Assumes nothing.
+use Rattle.questions.proofs.Over.{number_first, no_number}
+use Rattle.questions.specs.Described.{is_write}
+use Rattle.questions.specs.Questions.{write_of}
+use Rattle.text.specs.Told.{is}
+use mathlib.Core.Path.{ap, ◌∙◌}
+use Rattle.questions.proofs.is_write.Goals as goal
+
+pub returns-then-number-ne0 : goal.returns-then-number-ne0
+unfolding write_of
+returns-then-number-ne0 c = number_first c.args.kind c.args.book.now c.args.dwords.now c.number_of-number.ensures (is (is_write c.args.kind)) c.if-number-ne0.true
+
+pub returns : goal.returns
+unfolding write_of
+returns c = ap is c.is_writing.ensures ∙ no_number c.args.kind c.args.book.now c.args.dwords.now c.number_of-number.ensures (is (is_write c.args.kind)) c.if-number-ne0.false

@@ -1,0 +1,11 @@
+-- `questions::kept::number_checked` meets its contract, by the tables that were opened. Assumes nothing.
+use Rattle.packet.proofs.Packets.{opened_tables, opened_refused}
+use Rattle.packet.specs.Inner.{opened_told}
+use mathlib.Core.Path.{sym, ap, ◌∙◌}
+use Rattle.questions.proofs.kept.number_checked.Goals as goal
+
+pub returns-in-Tables : goal.returns-in-Tables
+returns-in-Tables c = sym (opened_tables c.args.kind c.args.book.now c.args.count c.args.count (sym c.before.before.«open».ensures ∙ ap opened_told c.in-Tables.is)).none
+
+pub returns-in-Refused : goal.returns-in-Refused
+returns-in-Refused c = sym (opened_refused c.args.kind c.args.book.now c.args.count c.args.count (sym c.before.before.before.«open».ensures ∙ ap opened_told c.in-Refused.is)).0

@@ -1,0 +1,26 @@
+-- `questions::packet_type` meets its contract: a number first, or what is told over the places. Assumes nothing.
+use Prim.Native.Nat.{ℕ}
+use Rattle.packet.specs.Packet.{places_of}
+use Rattle.questions.proofs.Over.{refused_first, accepted, answers_over}
+use Rattle.questions.specs.Described.{type_in}
+use Rattle.questions.specs.Questions.{type_of}
+use lib.ListN.{length}
+use lib.Seq.{length-take-le}
+use mathlib.Core.List.{List}
+use mathlib.Core.Path.{refl}
+use mathlib.Core.Path.{sym, ◌∙◌}
+use Rattle.questions.proofs.packet_type.Goals as goal
+
+pub slice_bounds-places-end : goal.slice_bounds-places-end
+slice_bounds-places-end c = (accepted c.parse-parsed.ensures refl c.in-Packet.is).fit
+
+pub slice_bounds-type_in-end : goal.slice_bounds-type_in-end
+slice_bounds-type_in-end c = sym (length-take-le (length c.args.dwords.now) _ (accepted c.parse-parsed.ensures refl c.in-Packet.is).fit)
+
+pub returns-in-Packet : goal.returns-in-Packet
+unfolding type_of
+returns-in-Packet c = c.type_in.ensures ∙ answers_over c.parse-parsed.ensures refl c.in-Packet.is (λ (ps : List ℕ). type_in c.args.book.now c.args.dwords.now ps)
+
+pub returns-in-Refused : goal.returns-in-Refused
+unfolding type_of
+returns-in-Refused c = refused_first c.parse-parsed.ensures refl c.in-Refused.is (type_in c.args.book.now c.args.dwords.now (places_of c.args.kind c.args.book.now c.args.dwords.now))

@@ -1,0 +1,15 @@
+-- `payload::payload_of` meets its contract, by cases on the frame. Assumes nothing.
+use Rattle.reasons.proofs.Said.{payload_there, payload_refused}
+use Rattle.scan.proofs.Frames.{frame_colon_within}
+use Rattle.scan.specs.Frame.{frame_told}
+use mathlib.Core.Path.{sym, ap, ◌∙◌}
+use Rattle.reasons.proofs.payload.payload_of.Goals as goal
+
+pub payload_behind-requires : goal.payload_behind-requires
+payload_behind-requires c = frame_colon_within _ (sym c.read_frame.ensures ∙ ap frame_told c.in-Colon.is)
+
+pub returns-in-Colon : goal.returns-in-Colon
+returns-in-Colon c = payload_there _ (sym c.read_frame.ensures ∙ ap frame_told c.in-Colon.is) c.payload_behind.ensures
+
+pub returns-in-Refused : goal.returns-in-Refused
+returns-in-Refused c = payload_refused _ (sym c.read_frame.ensures ∙ ap frame_told c.in-Refused.is)

@@ -1,0 +1,11 @@
+-- `find::four_of` meets its contract. Assumes nothing.
+use Rattle.record.specs.Finding.{number_of, maybe_of}
+use Rattle.record.proofs.find.four_of.Goals as goal
+
+pub returns-in-At : goal.returns-in-At
+unfolding number_of maybe_of
+returns-in-At c = rw (← c.span_of-span.ensures, c.in-At.is) c.four_at.ensures.is
+
+pub returns-in-Absent : goal.returns-in-Absent
+unfolding number_of maybe_of
+returns-in-Absent c = rw (← c.span_of-span.ensures, c.in-Absent.is)

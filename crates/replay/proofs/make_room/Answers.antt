@@ -1,0 +1,8 @@
+-- `make_room` meets its contract: what is written lies in the buffer. Assumes nothing.
+use lib.Seq.{length-take-le}
+use mathlib.Core.Path.{sym}
+use native.Mathlib.Omega.{arith}
+use Rattle.replay.proofs.make_room.Goals as goal
+
+pub slice_bounds-write_all-end : goal.slice_bounds-write_all-end
+slice_bounds-write_all-end c = sym (length-take-le _ _ (omega (arith, c.requires)))

@@ -1,0 +1,21 @@
+-- `say_event` meets its contract: a printed name is the start of its bytes, and is said behind the word. Assumes nothing.
+use Rattle.entry.proofs.Pads.{name_within, name_start}
+use Rattle.saying.proofs.Telling.{said_told, told_then, told_same, nothing_told}
+use Rattle.saying.specs.Telling.{event_text}
+use lib.Seq.{length-take-le}
+use mathlib.Core.Path.{sym}
+use Rattle.saying.proofs.say_event.Goals as goal
+
+pub slice_bounds-bytes-end : goal.slice_bounds-bytes-end
+slice_bounds-bytes-end c = name_within _ c.name_of-name.ensures
+
+pub slice_bounds-say-end : goal.slice_bounds-say-end
+slice_bounds-say-end c = sym (length-take-le _ _ (name_within _ c.name_of-name.ensures))
+
+pub returns-in-Is : goal.returns-in-Is
+unfolding event_text
+returns-in-Is c = rw c.in-Is.is (told_then (said_told c.say-worded.ensures) (told_same (name_start _ c.name_of-name.ensures) (said_told c.say.ensures)))
+
+pub returns-in-Absent : goal.returns-in-Absent
+unfolding event_text
+returns-in-Absent c = rw c.in-Absent.is nothing_told

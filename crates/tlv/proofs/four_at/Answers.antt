@@ -1,0 +1,12 @@
+-- `tlv::four_at` meets its contract: two reads of two bytes, by the law over the width.
+-- Assumes nothing.
+use Rattle.tlv.proofs.Numbers.{read_past, read_twice}
+use Rattle.tlv.proofs.four_at.Goals as goal
+
+pub returns-then-s-i : goal.returns-then-s-i
+returns-then-s-i c = read_past 4 _ _ c.if-s-i.true
+
+pub returns : goal.returns
+returns c =
+    let a = c.args in
+    read_twice 2 a.s.now a.i _ _ c.two_at-low.ensures c.two_at-high.ensures

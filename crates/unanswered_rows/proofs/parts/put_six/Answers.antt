@@ -1,0 +1,6 @@
+-- `put_six` meets its contract: the last six digits of twenty, or more. Assumes nothing.
+use Rattle.unanswered_rows.proofs.Digits.{six_part}
+use Rattle.unanswered_rows.proofs.parts.put_six.Goals as goal
+
+pub returns : goal.returns
+returns c = six_part c.digits_of-digits.ensures c.least-from.ensures c.requires c.put.ensures

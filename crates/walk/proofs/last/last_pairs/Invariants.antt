@@ -1,0 +1,11 @@
+-- `last::last_pairs` meets its contract: the walk keeps for each row what is to be kept of its last pair so far. Assumes nothing.
+use Prim.Native.Nat.{suc, ◌-◌, ◌≤◌}
+use Rattle.walk.proofs.Walks.{Walked}
+use lib.ListN.{length}
+use Rattle.walk.proofs.last.last_pairs.Given as goal
+
+abbrev pub invariant-loop-tail : goal.invariant-loop-tail
+invariant-loop-tail l = (l.at ≤ suc (length l.s)) × Walked l.s l.values l.ends l.at
+
+abbrev pub decreases-loop-tail : goal.decreases-loop-tail
+decreases-loop-tail l = suc (length l.s) - l.at

@@ -101,7 +101,7 @@ module _ {lent part : Slice} (place : ℕ) {text : List ℕ} where
       own_from (some_place place text (omega (arith, long, some))) o
 
   -- no text: the empty part at the start
-  pub no_text : part.now ≡ [] → part.ref_ptr.0 ≡ lent.ptr.0 → part.ref_ptr.1 ≡ lent.ptr.1 → [] ≡ text → OwnText lent place text part
+  pub no_text : part.now ≡ [] → part.ref_ptr.0 ≡ lent.ref_ptr.0 → part.ref_ptr.1 ≡ lent.ref_ptr.1 → [] ≡ text → OwnText lent place text part
   unfolding or_start
   no_text none memory there is =
       subst (λ (t : List ℕ). OwnText lent place t part) is (own_cut 0 none memory (omega (arith, there)) (omega arith) none)

@@ -2,7 +2,7 @@
 use Rattle.std.specs.Prelude.{ℕ, ◌+◌, ◌*◌, ◌≤◌, ◌≡◌, List, [], ◌∷◌, length, take, drop}
 use Rattle.std.specs.Borrow.{Bor}
 
--- a slice as a contract sees it: its elements, `now`, and where the first of them lies, `ptr`, a memory and a byte in it
+-- a slice as a contract sees it: its elements, `now`, and where the first of them lies, `ref_ptr`, a memory and a byte in it
 abbrev pub Slice : Type 0
 Slice = Bor (List ℕ)
 
@@ -11,9 +11,9 @@ pub record OwnPart (size : ℕ) (lent : Slice) (from : ℕ) (elements : List ℕ
   -- the part has these elements and no others
   pub is : part.now ≡ elements
   -- it lies in the memory that is lent
-  pub memory : part.ptr.0 ≡ lent.ptr.0
+  pub memory : part.ref_ptr.0 ≡ lent.ref_ptr.0
   -- it starts so many elements behind the start of what is lent
-  pub place : part.ptr.1 ≡ lent.ptr.1 + from * size
+  pub place : part.ref_ptr.1 ≡ lent.ref_ptr.1 + from * size
   -- it ends within what is lent
   pub within : from + length elements ≤ length lent.now
   -- what is lent has these elements from there onward

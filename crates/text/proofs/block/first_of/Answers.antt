@@ -4,10 +4,10 @@ use Rattle.text.proofs.Blocks.{front_hit, front_miss}
 use Rattle.text.specs.Place.{first_of}
 use borrow.Author.Rules.{rules}
 use borrow.Author.Tests.{eq-eqb, ne_eqb}
-use mathlib.Core.Logic.{⊎_elim}
 use mathlib.Core.Path.{◌≡◌, ap, ◌∙◌}
 use native.Mathlib.Omega.{arith}
 use Rattle.text.proofs.block.first_of.Goals as goal
+use Rattle.text.proofs.block.first_of.Goals.{then-s-at, else-s-at}
 
 pub loop-k-init : goal.loop-k-init
 unfolding first_of
@@ -16,9 +16,10 @@ loop-k-init c = search rules
 pub loop-k-preserved : goal.loop-k-preserved
 loop-k-preserved c = (
   omega (arith, c.loop-k-test.true),
-  ⊎_elim (λ t. ap (◌+◌ _) t.1 ∙ front_hit _ 16 _ _ c.loop-k-test.true (eq-eqb _ _ t.0.taken))
-      (λ t. ap (◌+◌ _) t.1 ∙ c.loop-k.invariant.1 ∙ front_miss _ 16 _ _ c.loop-k-test.true (ne_eqb _ _ t.0.left))
-      c.if-s-at.branch,
+  elim c.if-s-at.branch [
+    | then-s-at w ↦ ap (◌+◌ _) w.found-is ∙ front_hit _ 16 _ _ c.loop-k-test.true (eq-eqb _ _ w.if-s-at.true)
+    | else-s-at w ↦ ap (◌+◌ _) w.found-is ∙ c.loop-k.invariant.1 ∙ front_miss _ 16 _ _ c.loop-k-test.true (ne_eqb _ _ w.if-s-at.false)
+  ],
 )
 
 pub returns : goal.returns

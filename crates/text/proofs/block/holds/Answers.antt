@@ -4,10 +4,10 @@ use Rattle.text.proofs.Blocks.{none_yet, one_more, some_of, flag_tells}
 use Rattle.text.proofs.Places.{clash}
 use borrow.Author.Tests.{eq-eqb, ne_eqb}
 use mathlib.Core.Bool.{true, false}
-use mathlib.Core.Logic.{⊎_elim}
 use mathlib.Core.Path.{◌≡◌, refl, sym, ◌∙◌}
 use native.Mathlib.Omega.{arith}
 use Rattle.text.proofs.block.holds.Goals as goal
+use Rattle.text.proofs.block.holds.Goals.{then-s-at, else-s-at}
 
 pub loop-k-init : goal.loop-k-init
 loop-k-init c = (omega arith, λ e. none_yet _, λ e. absurd (clash e refl))
@@ -15,13 +15,14 @@ loop-k-init c = (omega arith, λ e. none_yet _, λ e. absurd (clash e refl))
 pub loop-k-preserved : goal.loop-k-preserved
 loop-k-preserved c = (
   omega (arith, c.loop-k-test.true),
-  ⊎_elim (λ t e. absurd (clash {b = c.if-s-at.any} t.1 e))
-      (λ t e. one_more _ _ _ (c.loop-k.invariant.1 (sym t.1 ∙ e)) (ne_eqb _ _ t.0.left))
-      c.if-s-at.branch,
-  ⊎_elim (λ t e. some_of _ 16 {j = c.args.at + c.loop-k.k}
-      (omega arith) (omega (arith, c.loop-k-test.true)) (eq-eqb _ _ t.0.taken))
-      (λ t e. c.loop-k.invariant.2 (sym t.1 ∙ e))
-      c.if-s-at.branch,
+  λ e. elim c.if-s-at.branch [
+    | then-s-at w ↦ absurd (clash {b = c.if-s-at.any} w.any-is e)
+    | else-s-at w ↦ one_more _ _ _ (c.loop-k.invariant.1 (sym w.any-is ∙ e)) (ne_eqb _ _ w.if-s-at.false)
+  ],
+  λ e. elim c.if-s-at.branch [
+    | then-s-at w ↦ some_of _ 16 {j = c.args.at + c.loop-k.k} (omega arith) (omega (arith, c.loop-k-test.true)) (eq-eqb _ _ w.if-s-at.true)
+    | else-s-at w ↦ c.loop-k.invariant.2 (sym w.any-is ∙ e)
+  ],
 )
 
 pub returns : goal.returns

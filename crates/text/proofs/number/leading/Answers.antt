@@ -1,19 +1,14 @@
 -- `number::leading` meets its contract: what is read so far is a `ReadTo`, and digits that no further one follows are the whole run. Assumes nothing.
 use Prim.Native.Nat.{ℕ, ◌<◌, ◌-◌}
 use Rattle.text.proofs.DigitRuns.{read_starts, read_fits, read_steps, digit_above, leading_none, leading_some}
-use Rattle.text.proofs.number.leading.Lts as lts
 use Rattle.text.specs.Class.{is_digit, in_class}
 use Rattle.text.specs.Number.{number_of}
 use lib.ListN.{length, get_or, take, drop}
 use mathlib.Core.Bool.{false}
-use mathlib.Core.Logic.{⊎_elim}
 use mathlib.Core.Path.{◌≡◌, ap, ◌∙◌}
 use native.Mathlib.Omega.{arith}
 use Rattle.text.proofs.number.leading.Goals as goal
-
--- the loop is left at the text's end or at a byte that is no digit
-stops : (c : lts.Left-loop-i invariant-loop decreases-loop) → c.loop-i.i < length c.args.s.now → is_digit (get_or c.args.s.now c.loop-i.i 0) ≡ false
-stops c h = ⊎_elim (λ w. absurd (omega (arith, w.left))) (λ w. digit_above _ (w.2.ensures.1 w.3.taken)) c.loop-i-test.branch
+use Rattle.text.proofs.number.leading.Goals.{else-loop-i-test, then-loop-i-test+then-d-ge-TEN}
 
 pub loop-i-init : goal.loop-i-init
 loop-i-init c = read_starts _ _ _ c.requires
@@ -35,7 +30,13 @@ pub loop-i-preserved : goal.loop-i-preserved
 loop-i-preserved c = read_steps _ _ _ c.loop-i.invariant c.loop-i-test.true (omega arith) (c.digit_in-d.ensures.0 c.if-d-ge-TEN.false) c.if-d-ge-TEN.false
 
 pub returns-then-i-from : goal.returns-then-i-from
-returns-then-i-from c = leading_none _ _ _ c.loop-i.invariant (stops c.before) c.if-i-from.true
+returns-then-i-from c = leading_none _ _ _ c.loop-i.invariant (λ h. elim c.loop-i-test.branch [
+  | else-loop-i-test w ↦ absurd (omega (arith, w.loop-i-test.false))
+  | then-loop-i-test+then-d-ge-TEN w ↦ digit_above _ (w.digit_in-d.ensures.1 w.if-d-ge-TEN.true)
+]) c.if-i-from.true
 
 pub returns : goal.returns
-returns c = c.within.ensures ∙ leading_some _ _ _ c.loop-i.invariant (stops c.before.before) c.if-i-from.false
+returns c = c.within.ensures ∙ leading_some _ _ _ c.loop-i.invariant (λ h. elim c.loop-i-test.branch [
+  | else-loop-i-test w ↦ absurd (omega (arith, w.loop-i-test.false))
+  | then-loop-i-test+then-d-ge-TEN w ↦ digit_above _ (w.digit_in-d.ensures.1 w.if-d-ge-TEN.true)
+]) c.if-i-from.false

@@ -2,14 +2,10 @@
 use Prim.Native.Nat.{ℕ}
 use mathlib.Core.Path.{◌≡◌, refl}
 use mathlib.Core.Bool.{cond}
-use mathlib.Core.List.{[], ◌∷◌}
 use mathlib.Core.Logic.{◌⊎◌, inl, inr, ⊎_elim}
 use native.Mathlib.Omega.{arith}
 use borrow.Author.Tests.{eq-eqb, ne_eqb}
-use denote.Enum.Declared
 use lib.Dec.{eqb}
-use types.Run.{OneOf}
-use Rattle.tlv.specs.contracts.Step
 use Rattle.tlv.specs.declared.Step.{Step}
 use Rattle.tlv.specs.declared.Step.TheVariants.{Field, Stray, Overrun, End}
 use Rattle.tlv.specs.Reading.{refusal_of}
@@ -20,8 +16,8 @@ abbrev pub Bare : Step → Type 0
 Bare r = (r ≡ End) ⊎ (refusal_of r ≡ 31)
 
 -- what a match on the answer says where it is no field
-pub bare : (r : Step) → OneOf (1 ∷ 2 ∷ 3 ∷ []) (Declared.tag_of Step.the_type r) → Bare r
-bare (Field tag from to) h = absurd (⊎_elim (λ k. omega arith) (λ k. ⊎_elim (λ k. omega arith) (λ k. omega arith) k) h)
+pub bare : (r : Step) → ((t from to : ℕ) → r ≡ Field t from to → ⊥) → Bare r
+bare (Field t from to) h = absurd (h t from to refl)
 bare Stray h = inr refl
 bare Overrun h = inr refl
 bare End h = inl refl

@@ -271,18 +271,18 @@ module _ (s : List ℕ) (p : Part) where
     pub table_wanted : (w : Owner) → t.owner ≡ w → wanted (owner_want w) [] s p ≡ true
     table_wanted w e = ap (λ (v : Owner). wanted (owner_want v) [] s p) (sym e) ∙ owner_wanted t.owner table_reads
 
-    table_want : table_want (take p.to s) p.tag p.from ≡ owner_want t.owner
-    table_want = want_is t.owner p.tag (take p.to s) p.from table_reads
+    table_want_lem : table_want (take p.to s) p.tag p.from ≡ owner_want t.owner
+    table_want_lem = want_is t.owner p.tag (take p.to s) p.from table_reads
 
 module _ (s : List ℕ) where
   module _ (p q : Part) (t v : Table) (o : PartOf table_piece GoodTable s p t) (r : PartOf table_piece GoodTable s q v) where
     table_clashing : t.owner ≡ v.owner → same_table s p q ≡ true
     unfolding same_table
-    table_clashing h = rw (table_want s p t o) (table_wanted s q v r t.owner (sym h))
+    table_clashing h = rw (table_want_lem s p t o) (table_wanted s q v r t.owner (sym h))
 
     table_telling : same_table s p q ≡ true → t.owner ≡ v.owner
     unfolding same_table
-    table_telling h = sym (table_told s q v r t.owner (rw (table_want s p t o) at h))
+    table_telling h = sym (table_told s q v r t.owner (rw (table_want_lem s p t o) at h))
 
   -- tables that fill a text: each good, none twice
   pub record FromTables (at : ℕ) : Type 0 where

@@ -3,7 +3,7 @@ use Prim.Native.Nat.{ℕ, ◌+◌}
 use mathlib.Core.Path.{◌≡◌, ◌∙◌, sym, ap, refl}
 use mathlib.Core.List.{List, ◌++◌, map}
 use lib.ListN.{drop}
-use Rattle.tlv.specs.Number.{number, number_bytes}
+use Rattle.tlv.specs.Number.{number_bytes}
 use Rattle.tlv.specs.Grammar.{Piece, fields_bytes, All, Made}
 use Rattle.tlv.proofs.Numbers.{number_made}
 use Rattle.tlv.proofs.Pieces.{one_reading}

@@ -17,7 +17,7 @@ pub returns-in_default : goal.returns-in_default
 unfolding body_at
 returns-in_default c =
     no_text _ refl refl refl
-    (sym (tag_bare c.args.tag _ _ _ (subst Bare c.field_at-step.ensures (bare _ c.in_default.in_default-own.keys2))))
+    (sym (tag_bare c.args.tag _ _ _ (subst Bare c.field_at-step.ensures (bare _ c.in_default.not-Field))))
 
 pub returns-then-t-tag : goal.returns-then-t-tag
 unfolding body_at

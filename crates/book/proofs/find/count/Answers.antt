@@ -15,7 +15,7 @@ loop-to-init c = (search rules, search rules)
 
 pub returns-in_default : goal.returns-in_default
 returns-in_default c =
-    omega (arith, c.loop-to.invariant.1, count_bare c.args.s.now c.loop-to.at (subst Bare c.field_at-step.ensures (bare _ c.in_default.in_default-own.keys2)))
+    omega (arith, c.loop-to.invariant.1, count_bare c.args.s.now c.loop-to.at (subst Bare c.field_at-step.ensures (bare _ c.in_default.not-Field)))
 
 pub overflow_add-n : goal.overflow_add-n
 overflow_add-n c =

@@ -14,7 +14,7 @@ use Rattle.book.proofs.find.count_entries.Goals as goal
 pub returns-in_default : goal.returns-in_default
 unfolding count_inside
 returns-in_default c =
-    sym (field_bare _ _ (field_at c.args.book.now c.args.table) (subst Bare c.field_at-step.ensures (bare _ c.in_default.in_default-own.keys2)))
+    sym (field_bare _ _ (field_at c.args.book.now c.args.table) (subst Bare c.field_at-step.ensures (bare _ c.in_default.not-Field)))
 
 pub slice_bounds-body-end : goal.slice_bounds-body-end
 slice_bounds-body-end c =

@@ -20,7 +20,7 @@ pub returns-in_default : goal.returns-in_default
 unfolding name_of
 returns-in_default c =
     no_text _ refl refl refl
-    (sym (field_bare _ _ (field_at c.args.book.now c.args.place) (subst Bare c.field_at-step.ensures (bare _ c.in_default.in_default-own.keys2))))
+    (sym (field_bare _ _ (field_at c.args.book.now c.args.place) (subst Bare c.field_at-step.ensures (bare _ c.in_default.not-Field))))
 
 pub slice_bounds-body-end : goal.slice_bounds-body-end
 slice_bounds-body-end c =

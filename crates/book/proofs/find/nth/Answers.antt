@@ -15,7 +15,7 @@ loop-to-init c = refl
 
 pub returns-in_default : goal.returns-in_default
 returns-in_default c =
-    (sym (c.loop-to.invariant ∙ nth_bare c.args.s.now c.loop-to.left c.loop-to.at (subst Bare c.field_at-step.ensures (bare _ c.in_default.in_default-own.keys2))), search rules)
+    (sym (c.loop-to.invariant ∙ nth_bare c.args.s.now c.loop-to.left c.loop-to.at (subst Bare c.field_at-step.ensures (bare _ c.in_default.not-Field))), search rules)
 
 pub returns-then-left-eq0 : goal.returns-then-left-eq0
 returns-then-left-eq0 c =

@@ -15,7 +15,7 @@ use Rattle.book.proofs.find.nth_range.Goals as goal
 pub returns-in_default : goal.returns-in_default
 unfolding nth_inside
 returns-in_default c =
-    (sym (field_bare _ _ (field_at c.args.book.now c.args.entry) (subst Bare c.field_at-step.ensures (bare _ c.in_default.in_default-own.keys2))), search rules)
+    (sym (field_bare _ _ (field_at c.args.book.now c.args.entry) (subst Bare c.field_at-step.ensures (bare _ c.in_default.not-Field))), search rules)
 
 pub slice_bounds-body-end : goal.slice_bounds-body-end
 slice_bounds-body-end c =

@@ -17,7 +17,7 @@ use Rattle.book.proofs.find.seek.Goals as goal
 pub returns-in_default : goal.returns-in_default
 unfolding seek_of
 returns-in_default c =
-    (sym (ap place_of (field_bare _ _ (field_at c.args.book.now c.args.place) (subst Bare c.field_at-step.ensures (bare _ c.in_default.in_default-own.keys2)))), search rules)
+    (sym (ap place_of (field_bare _ _ (field_at c.args.book.now c.args.place) (subst Bare c.field_at-step.ensures (bare _ c.in_default.not-Field)))), search rules)
 
 pub slice_bounds-body-end : goal.slice_bounds-body-end
 slice_bounds-body-end c =

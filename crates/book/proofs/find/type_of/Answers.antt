@@ -14,7 +14,7 @@ pub returns-in_default : goal.returns-in_default
 unfolding type_of
 returns-in_default c =
     no_text _ refl refl refl
-    (sym (field_bare _ _ (field_at c.args.book.now c.args.entry) (subst Bare c.field_at-step.ensures (bare _ c.in_default.in_default-own.keys2))))
+    (sym (field_bare _ _ (field_at c.args.book.now c.args.entry) (subst Bare c.field_at-step.ensures (bare _ c.in_default.not-Field))))
 
 pub slice_bounds-type_at-end : goal.slice_bounds-type_at-end
 slice_bounds-type_at-end c =

@@ -9,7 +9,7 @@ use Rattle.book.proofs.grammar.optional_name.Goals as goal
 
 pub returns-in_default : goal.returns-in_default
 unfolding optional_name
-returns-in_default c = sym (tag_bare c.args.tag _ _ _ (subst Bare c.field_at-step.ensures (bare _ c.in_default.in_default-own.keys2)))
+returns-in_default c = sym (tag_bare c.args.tag _ _ _ (subst Bare c.field_at-step.ensures (bare _ c.in_default.not-Field)))
 
 pub returns-then-t-tag : goal.returns-then-t-tag
 unfolding optional_name

@@ -1,7 +1,7 @@
 -- `book::grammar::range` meets its contract: each test decides one part of the sentence. Assumes nothing.
 use Prim.Native.Nat.{◌+◌}
 use Rattle.book.specs.Reading.{is_name, values_fill, range_body}
-use Rattle.book.specs.Search.{body_at, after}
+use Rattle.book.specs.Search.{body_at}
 use borrow.Author.Tests.{le-leb, lt-leb, not-true, not-false}
 use lib.ListN.{length, get_or}
 use mathlib.Core.Bool.{true, false}

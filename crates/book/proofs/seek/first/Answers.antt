@@ -14,7 +14,7 @@ loop-tag-init c = refl
 
 pub returns-in_default : goal.returns-in_default
 unfolding first_wanted
-returns-in_default c = sym (c.loop-tag.invariant ∙ first_none _ c.args.s.now c.loop-tag.at (subst Bare c.field_at-step.ensures (bare _ c.in_default.in_default-own.keys2)))
+returns-in_default c = sym (c.loop-tag.invariant ∙ first_none _ c.args.s.now c.loop-tag.at (subst Bare c.field_at-step.ensures (bare _ c.in_default.not-Field)))
 
 pub slice_bounds-is_wanted-end : goal.slice_bounds-is_wanted-end
 slice_bounds-is_wanted-end c =

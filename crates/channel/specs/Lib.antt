@@ -2,3 +2,4 @@
 pub mod Moving
 pub mod Sink
 pub mod Sentence
+pub mod Status

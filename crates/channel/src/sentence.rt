@@ -3,41 +3,41 @@ ghost use Rattle.print.specs.Put.{Placed};
 ghost use Rattle.channel.specs.Sentence.{Laid, reason_of, failed_parts, count_parts};
 
 use crate::writing::write_whole;
-use libc::STDERR_FILENO;
 use print::put::{put, put_decimal};
+use std::io::Stderr;
 
 // `WHO: WHAT failed (error N: REASON)`, and how many units were written whole.
-pub fn tell_fault(who: &[u8], what: &[u8], errno: u32, units: &[u8], whole: u64) {
+pub fn tell_fault(to: Stderr, who: &[u8], what: &[u8], errno: u32, units: &[u8], whole: u64) {
     let mut text = [0u8; 256];
     let end = put_failed(&mut text, 0, who, what, errno);
     let behind = put_count(&mut text, end, units, whole);
-    tell_end(&mut text, behind);
+    tell_end(to, &mut text, behind);
 }
 
 // `WHO: WHAT failed (error N: REASON)` alone.
-pub fn tell_failed(who: &[u8], what: &[u8], errno: u32) {
+pub fn tell_failed(to: Stderr, who: &[u8], what: &[u8], errno: u32) {
     let mut text = [0u8; 256];
     let end = put_failed(&mut text, 0, who, what, errno);
-    tell_end(&mut text, end);
+    tell_end(to, &mut text, end);
 }
 
 // A number between two texts.
-pub fn tell_numbered(before: &[u8], n: u64, behind: &[u8]) {
+pub fn tell_numbered(to: Stderr, before: &[u8], n: u64, behind: &[u8]) {
     let mut text = [0u8; 256];
     let a = put(&mut text, 0, before);
     let b = put_decimal(&mut text, a, n);
     let c = put(&mut text, b, behind);
-    tell_end(&mut text, c);
+    tell_end(to, &mut text, c);
 }
 
-pub fn tell(sentence: &[u8]) {
-    write_whole(STDERR_FILENO, sentence);
+pub fn tell(mut to: Stderr, sentence: &[u8]) {
+    write_whole(&mut to, sentence);
 }
 
-fn tell_end(text: &mut [u8], at: usize) {
+fn tell_end(mut to: Stderr, text: &mut [u8], at: usize) {
     let end = put(text, at, b"\n");
     if end <= text.len() {
-        write_whole(STDERR_FILENO, &text[..end]);
+        write_whole(&mut to, &text[..end]);
     }
 }
 

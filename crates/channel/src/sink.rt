@@ -3,8 +3,8 @@ ghost use Rattle.std.specs.Prelude.{◌≡◌, ◌+◌, ◌-◌, ◌^◌, ◌≤
 ghost use Rattle.channel.specs.Sink.{row_end, rows_in, Passed, Flushed, Waits, Said};
 
 use crate::writing::write_whole;
-use libc::STDOUT_FILENO;
 use print::put::put;
+use std::io::Stdout;
 
 // How much waits in the buffer, how many rows were written whole so far, and 0 or the errno of the write that failed.
 #[derive(Clone, Copy)]
@@ -15,7 +15,7 @@ pub struct Sink {
 }
 
 // Puts a text behind what waits; where there is no room, what waits is written first. After a write that failed nothing is put or written.
-pub fn say(out: &mut [u8], sink: Sink, text: &[u8]) -> Sink
+pub fn say(to: Stdout, out: &mut [u8], sink: Sink, text: &[u8]) -> Sink
     ensures { Said out.old sink text.now out.new result }
 {
     if 0 < sink.errno {
@@ -25,25 +25,25 @@ pub fn say(out: &mut [u8], sink: Sink, text: &[u8]) -> Sink
     if text.len() <= out.len() - at {
         return wait(out, sink.whole, at, text);
     }
-    let clear = flush(out, sink);
+    let clear = flush(to, out, sink);
     if 0 < clear.errno {
         return clear;
     }
     if out.len() < text.len() {
-        return pass(text, clear.whole);
+        return pass(to, text, clear.whole);
     }
     wait(out, clear.whole, 0, text)
 }
 
 // Writes what waits.
-pub fn flush(out: &[u8], sink: Sink) -> Sink
+pub fn flush(to: Stdout, out: &[u8], sink: Sink) -> Sink
     ensures { Flushed out.now sink result }
 {
     if 0 < sink.errno {
         return sink;
     }
     let at = least(sink.at, out.len());
-    pass(&out[..at], sink.whole)
+    pass(to, &out[..at], sink.whole)
 }
 
 fn wait(out: &mut [u8], whole: u64, at: usize, text: &[u8]) -> Sink
@@ -59,10 +59,10 @@ fn wait(out: &mut [u8], whole: u64, at: usize, text: &[u8]) -> Sink
 }
 
 // Writes a text, and counts the rows that it ends.
-fn pass(text: &[u8], whole: u64) -> Sink
+fn pass(mut to: Stdout, text: &[u8], whole: u64) -> Sink
     ensures { Passed text.now whole result }
 {
-    let wrote = write_whole(STDOUT_FILENO, text);
+    let wrote = write_whole(&mut to, text);
     let bytes = wrote.bytes;
     Sink {
         at: 0,

@@ -3,7 +3,8 @@ ghost use Rattle.std.specs.Prelude.{length};
 ghost use Rattle.channel.specs.Moving.{Read, Written};
 
 use crate::fault::{NO_REASON, fault};
-use crate::reading::Got;
+use crate::reading::{Got, moved};
+use std::io;
 
 // How many bytes were written, and 0 or the errno of the write that failed.
 #[derive(Clone, Copy)]
@@ -13,12 +14,12 @@ pub struct Wrote {
 }
 
 // All of the buffer, from one write to the next.
-pub fn write_whole(fd: i32, buf: &[u8]) -> Wrote
+pub fn write_whole<W: io::Write>(to: &mut W, buf: &[u8]) -> Wrote
     ensures { Written (length buf.now) result }
 {
     let mut done: usize = 0;
     while done < buf.len() {
-        match write_some(fd, &buf[done..]) {
+        match write_some(to, &buf[done..]) {
             Got::Bytes(n) => {
                 done += n;
             }
@@ -43,22 +44,19 @@ pub fn write_whole(fd: i32, buf: &[u8]) -> Wrote
 }
 
 // Some of the buffer. A write that takes nothing is an end: made again, it might take nothing for ever.
-fn write_some(fd: i32, buf: &[u8]) -> Got
+fn write_some<W: io::Write>(to: &mut W, buf: &[u8]) -> Got
     ensures { Read (length buf.now) result }
 {
     let mut turns = u64::MAX;
     while 0 < turns {
-        let got = libc::write(fd, buf);
-        if got == 0 {
-            return Got::End;
-        }
-        let n = io::count(got, buf);
-        if 0 < n {
-            return Got::Bytes(n);
-        }
-        let why = fault();
-        if 0 < why {
-            return Got::Failed(why);
+        match to.write(buf) {
+            Ok(n) => return moved(n),
+            Err(error) => {
+                let why = fault(&error);
+                if 0 < why {
+                    return Got::Failed(why);
+                }
+            }
         }
         turns -= 1;
     }

@@ -4,13 +4,13 @@ use native.Mathlib.Omega.{arith}
 use Rattle.channel.proofs.reading.read_whole.Goals as goal
 
 pub overflow_add-done : goal.overflow_add-done
-overflow_add-done c = omega (arith, c.loop-done.invariant, got_bytes c.read_some.ensures c.in-Bytes.is)
+overflow_add-done g c = omega (arith, c.loop-done.invariant, got_bytes c.read_some.ensures c.in-Bytes.is)
 
 pub loop-done-smaller : goal.loop-done-smaller
-loop-done-smaller c = omega (arith, c.loop-done.invariant, got_bytes c.read_some.ensures c.in-Bytes.is)
+loop-done-smaller g c = omega (arith, c.loop-done.invariant, got_bytes c.read_some.ensures c.in-Bytes.is)
 
 pub loop-done-preserved : goal.loop-done-preserved
-loop-done-preserved c = omega (arith, c.loop-done.invariant, got_bytes c.read_some.ensures c.in-Bytes.is)
+loop-done-preserved g c = omega (arith, c.loop-done.invariant, got_bytes c.read_some.ensures c.in-Bytes.is)
 
 pub returns-in-Failed : goal.returns-in-Failed
-returns-in-Failed c = got_failed _ c.read_some.ensures c.in-Failed.is
+returns-in-Failed g c = got_failed _ c.read_some.ensures c.in-Failed.is

@@ -1,31 +1,9 @@
 -- `sentence::put_reason` meets its contract: each arm puts the words that the definition gives, and the last one none. Assumes nothing.
-use Rattle.channel.proofs.sentence.put_reason.Lts as lts
 use Rattle.channel.specs.Sentence.{reason_of}
 use Rattle.print.proofs.Copying.{placed_same}
-use borrow.Author.Tests.{ne_eqb}
-use mathlib.Core.List.{[]}
-use mathlib.Core.Path.{◌≡◌}
+use Rattle.channel.proofs.Sentences.{no_reason}
+use native.Mathlib.Omega.{arith}
 use Rattle.channel.proofs.sentence.put_reason.Goals as goal
-
-unnamed : (c : lts.In_default) → [] ≡ reason_of c.args.errno
-unfolding reason_of
-unnamed c =
-    rw (
-      ne_eqb _ _ c.in_default.in_default-own.rest.0.0.0.0.0.0.0.0.0.0.0.0.0.1,
-      ne_eqb _ _ c.in_default.in_default-own.rest.0.0.0.0.0.0.0.0.0.0.0.0.1,
-      ne_eqb _ _ c.in_default.in_default-own.rest.0.0.0.0.0.0.0.0.0.0.0.1,
-      ne_eqb _ _ c.in_default.in_default-own.rest.0.0.0.0.0.0.0.0.0.0.1,
-      ne_eqb _ _ c.in_default.in_default-own.rest.0.0.0.0.0.0.0.0.0.1,
-      ne_eqb _ _ c.in_default.in_default-own.rest.0.0.0.0.0.0.0.0.1,
-      ne_eqb _ _ c.in_default.in_default-own.rest.0.0.0.0.0.0.0.1,
-      ne_eqb _ _ c.in_default.in_default-own.rest.0.0.0.0.0.0.1,
-      ne_eqb _ _ c.in_default.in_default-own.rest.0.0.0.0.0.1,
-      ne_eqb _ _ c.in_default.in_default-own.rest.0.0.0.0.1,
-      ne_eqb _ _ c.in_default.in_default-own.rest.0.0.0.1,
-      ne_eqb _ _ c.in_default.in_default-own.rest.0.0.1,
-      ne_eqb _ _ c.in_default.in_default-own.rest.0.1,
-      ne_eqb _ _ c.in_default.in_default-own.rest.1,
-    )
 
 pub returns-in-1 : goal.returns-in-1
 unfolding reason_of
@@ -84,4 +62,20 @@ unfolding reason_of
 returns-in-40 c = rw c.in-40.is c.put-in-40.ensures
 
 pub returns-in_default : goal.returns-in_default
-returns-in_default c = placed_same (unnamed c.before.before.before.before.before) c.put-in_default.ensures
+returns-in_default c =
+    placed_same (no_reason (
+      λ e. omega arith,
+      λ e. omega arith,
+      λ e. omega arith,
+      λ e. omega arith,
+      λ e. omega arith,
+      λ e. omega arith,
+      λ e. omega arith,
+      λ e. omega arith,
+      λ e. omega arith,
+      λ e. omega arith,
+      λ e. omega arith,
+      λ e. omega arith,
+      λ e. omega arith,
+      λ e. omega arith,
+    )) c.put-in_default.ensures

@@ -6,4 +6,5 @@ pub mod reading;
 pub mod sentence;
 pub mod sink;
 pub mod status;
+pub mod streams;
 pub mod writing;

@@ -1,8 +1,8 @@
 -- A record whose first three bytes are there, up to the length that it says: what is put is kept of the longer record. Assumes nothing.
 use Prim.Native.Nat.{ℕ, min, ◌+◌, ◌-◌, ◌≤◌, ◌<◌}
-use mathlib.Core.Path.{◌≡◌, refl, sym, ap, subst, ◌∙◌}
+use mathlib.Core.Path.{◌≡◌, sym, ap, subst, ◌∙◌}
 use mathlib.Core.Bool.{true}
-use mathlib.Core.List.{List, ◌++◌, append_assoc}
+use mathlib.Core.List.{List, ◌++◌}
 use native.Mathlib.Omega.{arith}
 use lib.ListN.{length, get_or, take, drop, length-append, length-take, take-append-drop}
 use lib.Seq.{take-append-le, get_or-take, length-take-le}
@@ -12,7 +12,7 @@ use Rattle.units.specs.declared.Unit.TheVariants as U
 use Rattle.units.specs.declared.Fed as F
 use Rattle.units.specs.Units.{marked, is_record, stated, Whole, Open, Rest}
 use Rattle.units.specs.Kept.{most, kept_text, kept_count, stood, Keeps}
-use Rattle.units.specs.Feeding.{between, unit_of, wants_at, ends_at, Answered, FedOn, Ready}
+use Rattle.units.specs.Feeding.{between, wants_at, ends_at, Answered, FedOn, Ready}
 use Rattle.units.proofs.Firsts.{record_append, stated_take, stated_append}
 use Rattle.units.proofs.WhatIsKept.{long_kept, short_kept, whole_unit, kept_first, kept_stated, length_between, Added, placed_added, added_stands}
 

@@ -1,21 +1,21 @@
 -- A call takes the stream one step on: what was open is open still and kept, or has ended; and no second answer keeps the contract. Assumes nothing.
-use Prim.Native.Nat.{ℕ, ◌+◌, ◌-◌, ◌≤◌, ◌<◌}
+use Prim.Native.Nat.{ℕ, ◌≤◌, ◌<◌}
 use mathlib.Core.Path.{◌≡◌, refl, sym, ap, subst, ◌∙◌}
 use mathlib.Core.Bool.{Bool, true, false}
 use mathlib.Core.List.{List, [], ◌∷◌, ◌++◌, append_assoc, append-nil}
 use native.Mathlib.Omega.{arith}
 use lib.ListN.{length, length-append}
-use Rattle.text.proofs.Places.{clash, by_order}
+use Rattle.text.proofs.Places.{by_order}
 use Rattle.units.specs.declared.Framing.{Framing}
 use Rattle.units.specs.declared.State.{State}
 use Rattle.units.specs.declared.Unit as UnitModule
 use Rattle.units.specs.declared.Unit.TheVariants as U
 use Rattle.units.specs.declared.Fed as F
-use Rattle.units.specs.Units.{Whole, Open, Rest, Sofar}
+use Rattle.units.specs.Units.{Whole, Rest, Sofar}
 use Rattle.units.specs.Kept.{kept_text, kept_count, stood, Keeps, is_kept}
-use Rattle.units.specs.Feeding.{between, unit_of, end_of, wants_at, ends_at, Answered, FedOn, FedFor, FeedDone, FinishDone}
-use Rattle.units.proofs.Streams.{goes_on, ends_one, no_open, open_some, one_first_unit, never_whole, whole_some}
-use Rattle.units.proofs.WhatIsKept.{stood_keeps, stood_size, keeps_nothing, whole_fits, rest_fits, between_then, between_none, length_between}
+use Rattle.units.specs.Feeding.{between, unit_of, ends_at, Answered, FedOn, FeedDone, FinishDone}
+use Rattle.units.proofs.Streams.{goes_on, ends_one, no_open, one_first_unit, never_whole, whole_some}
+use Rattle.units.proofs.WhatIsKept.{stood_keeps, stood_size, keeps_nothing, whole_fits, rest_fits, between_then, length_between}
 use Rattle.units.proofs.States.{kept_some}
 
 module _ (f : Framing) where

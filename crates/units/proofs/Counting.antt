@@ -1,8 +1,8 @@
 -- Each whole unit that is found is the first of what is left, so their number is that of the units that have ended. Assumes nothing.
 use Prim.Native.Nat.{ℕ, ◌+◌, ◌-◌, ◌≤◌, ◌<◌}
 use mathlib.Core.Path.{◌≡◌, refl, sym, ap, subst, ◌∙◌}
-use mathlib.Core.Bool.{Bool, true, false}
-use mathlib.Core.List.{List, [], ◌∷◌, ◌++◌}
+use mathlib.Core.Bool.{true, false}
+use mathlib.Core.List.{List, [], ◌++◌}
 use native.Mathlib.Omega.{arith}
 use lib.ListN.{length, get_or, take, drop, length-append, length-drop, take-append-drop}
 use lib.Seq.{take_all, drop-drop, drop-length, get_or-drop, get_or-take, length-take-le}
@@ -13,12 +13,11 @@ use Rattle.text.specs.declared.place.Found.TheVariants.{At, Nothing}
 use Rattle.text.specs.Place.{first_byte, is_at}
 use Rattle.units.specs.declared.Framing.{Framing}
 use Rattle.units.specs.declared.growing.LineEnd.{LineEnd}
-use Rattle.units.specs.Units.{marked, is_record, stated, Bare, Whole, Open, Rest, Sofar}
+use Rattle.units.specs.Units.{marked, stated, Whole, Open, Rest, Sofar}
 use Rattle.units.specs.Feeding.{between, LineEnds, end_by, is_found}
 use Rattle.units.specs.Counting.{UnitEnds, RecordEnds}
 use Rattle.units.proofs.Firsts.{record_take, states_three, stated_take}
-use Rattle.units.proofs.Streams.{whole_some, open_some, no_open, one_first_unit}
-use Rattle.units.proofs.WhatIsKept.{length_between}
+use Rattle.units.proofs.Streams.{whole_some, no_open, one_first_unit}
 
 module _ (f : Framing) where
   -- the first unit is the one that was found

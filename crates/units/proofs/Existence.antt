@@ -14,7 +14,7 @@ use Rattle.units.specs.declared.Fed as F
 use Rattle.units.specs.Units.{is_record, stated, Bare, Whole, Open, Units, Rest, Sofar, closing}
 use Rattle.units.specs.Feeding.{between, Answered, FedOn}
 use Rattle.units.proofs.Firsts.{record_append, states_three, stated_append}
-use Rattle.units.proofs.Streams.{rest_left, goes_on, ends_one, at_end, open_some, never_whole}
+use Rattle.units.proofs.Streams.{rest_left, goes_on, ends_one, at_end, never_whole}
 use Rattle.units.proofs.WhatIsKept.{between_none}
 use Rattle.units.proofs.LinesOn.{bare_rest}
 

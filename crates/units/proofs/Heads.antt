@@ -10,11 +10,11 @@ use Rattle.text.proofs.Places.{clash, stands_within}
 use Rattle.print.specs.Put.{Placed}
 use Rattle.units.specs.declared.Framing.{Framing}
 use Rattle.units.specs.declared.Fed as F
-use Rattle.units.specs.Units.{marked, is_record, stated, Open, Rest}
+use Rattle.units.specs.Units.{marked, is_record, Open, Rest}
 use Rattle.units.specs.Kept.{kept_text, kept_count, stood, Keeps}
 use Rattle.units.specs.Feeding.{between, wants_at, Answered, FedOn, Ready, BodyFed, first_of}
 use Rattle.units.proofs.Firsts.{none_marked, states_three}
-use Rattle.units.proofs.WhatIsKept.{kept_few, kept_all, kept_three, stood_then, stood_keeps, stood_front, length_between, between_then, Added, placed_added, added_stands}
+use Rattle.units.proofs.WhatIsKept.{kept_few, kept_all, kept_three, stood_then, stood_keeps, length_between, between_then, Added, placed_added, added_stands}
 
 -- a call that goes on behind another
 pub fed_then : (f : Framing) (u s : List ℕ) (a b : ℕ) (rest mid exit : List ℕ) (r : F.Fed) → a ≤ b → length (u ++ between s a b) ≡ 3 → length (kept_text f (u ++ between s a b)) ≤ 3 → mid ≡ stood f (u ++ between s a b) rest → FedOn f (u ++ between s a b) s b mid exit r → FedOn f u s a rest exit r

@@ -17,9 +17,9 @@ use Rattle.units.specs.declared.Unit.TheVariants as U
 use Rattle.units.specs.declared.Fed as F
 use Rattle.units.specs.declared.growing.LineEnd.{LineEnd}
 use Rattle.units.specs.Units.{marked, is_record, Bare, Whole, Open, Rest}
-use Rattle.units.specs.Kept.{kept_text, kept_count, stood, Keeps}
+use Rattle.units.specs.Kept.{kept_text, stood, Keeps}
 use Rattle.units.specs.Feeding.{between, wants_at, ends_at, Answered, FedOn, first_of, LineEnds, end_by, is_found}
-use Rattle.units.proofs.Firsts.{none_marked, record_some, record_append}
+use Rattle.units.proofs.Firsts.{record_some, record_append}
 use Rattle.units.proofs.WhatIsKept.{line_kept, kept_first, nothing_kept, length_between, Added, placed_added, added_stands}
 
 pub take_keep : (cap : ℕ) (x y : List ℕ) → take cap (take cap x ++ y) ≡ take cap (x ++ y)

@@ -3,7 +3,7 @@
 use Prim.Native.Nat.{ℕ, ◌+◌, ◌-◌, ◌≤◌, ◌<◌}
 use mathlib.Core.Path.{◌≡◌, refl, sym, ap, subst, ◌∙◌}
 use mathlib.Core.Bool.{Bool, true, false, cond}
-use mathlib.Core.List.{List, [], ◌∷◌, ◌++◌, append-nil}
+use mathlib.Core.List.{List, [], ◌++◌, append-nil}
 use native.Mathlib.Omega.{arith}
 use lib.Dec.{eqb, ltb, leb}
 use lib.ListN.{length, get_or, take, drop, replicate, length-append, length-take, length-replicate, get_or-append, get_or-eq_default}
@@ -14,11 +14,10 @@ use Rattle.text.specs.declared.place.Found.{Found}
 use Rattle.text.specs.declared.place.Found.TheVariants.{At, Nothing}
 use Rattle.text.specs.Place.{first_byte, is_at}
 use Rattle.units.specs.declared.Framing.{Framing}
-use Rattle.units.specs.Units.{marked, is_record, stated, Bare, Open, Rest, Sofar}
-use Rattle.units.specs.Kept.{most, is_long, kept_text, kept_count, Keeps, Leaves, LeftBy, none_found, line_left, is_left, is_kept}
+use Rattle.units.specs.Units.{marked, is_record, stated, Bare, Open, Rest}
+use Rattle.units.specs.Kept.{most, is_long, kept_text, kept_count, Keeps, LeftBy, none_found, line_left, is_left, is_kept}
 use Rattle.units.specs.Feeding.{first_of, Ready}
 use Rattle.units.proofs.Firsts.{none_marked, record_some, record_append, states_three, stated_take, stated_append}
-use Rattle.units.proofs.Streams.{rest_left}
 use Rattle.units.proofs.WhatIsKept.{long_kept, short_kept, line_kept, kept_record, kept_stated, nothing_kept}
 use Rattle.units.proofs.LinesOn.{rest_of}
 

@@ -1,11 +1,11 @@
 -- What is kept of a unit of each kind, and that bytes put behind the held ones are kept of the longer unit. Assumes nothing.
-use Prim.Native.Nat.{ℕ, min, ◌+◌, ◌-◌, ◌≤◌, ◌<◌}
-use mathlib.Core.Path.{◌≡◌, refl, sym, ap, subst, ◌∙◌}
+use Prim.Native.Nat.{ℕ, ◌+◌, ◌-◌, ◌≤◌, ◌<◌}
+use mathlib.Core.Path.{◌≡◌, refl, sym, ap, ◌∙◌}
 use mathlib.Core.Bool.{Bool, true, false, cond}
-use mathlib.Core.List.{List, [], ◌∷◌, ◌++◌, append_assoc}
+use mathlib.Core.List.{List, [], ◌++◌}
 use native.Mathlib.Omega.{arith}
 use lib.ListN.{length, get_or, take, drop, length-append, length-take, length-drop}
-use lib.Seq.{take_all, take-nil, take_at, get_or-take, length-take-le, sets, sets-eq, take-add, drop-drop, drop_at}
+use lib.Seq.{take_all, take-nil, take_at, length-take-le, sets, sets-eq, take-add, drop-drop, drop_at}
 use borrow.Author.Tests.{lt-ltb, le-ltb, le-leb}
 use Rattle.text.proofs.Places.{by_order, clash}
 use Rattle.print.specs.Put.{Placed, buffer_after, place_after}
@@ -14,7 +14,7 @@ use Rattle.units.specs.declared.Unit.TheVariants as U
 use Rattle.units.specs.Units.{marked, is_record, stated, Whole, Open, Rest}
 use Rattle.units.specs.Kept.{most, is_long, kept_text, kept_count, stood, Keeps}
 use Rattle.units.specs.Feeding.{between, unit_of}
-use Rattle.units.proofs.Firsts.{none_marked, first_take, states_three, stated_take}
+use Rattle.units.proofs.Firsts.{none_marked, first_take, stated_take}
 
 module _ (f : Framing) (w : List ℕ) where
   -- a unit of each kind

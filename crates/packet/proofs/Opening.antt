@@ -9,7 +9,6 @@ use Rattle.text.specs.Told as T
 use Rattle.text.specs.Quote.{bytes}
 use Rattle.text.specs.declared.place.Found.{Found}
 use Rattle.text.specs.declared.place.Found.TheVariants.{At, Nothing}
-use Rattle.entry.specs.declared.optional.MaybeWord.{MaybeWord}
 use Rattle.entry.specs.declared.optional.MaybeWord.TheVariants as W
 use Rattle.book.specs.Finders.{place_of, control_table, uuid_table, entry_count}
 use Rattle.packet.specs.declared.field.Ask.TheVariants.{Holds}

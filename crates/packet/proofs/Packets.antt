@@ -25,7 +25,8 @@ use Rattle.packet.specs.declared.Opened.TheVariants as O
 use Rattle.packet.specs.declared.MaybeUuid.{MaybeUuid}
 use Rattle.packet.specs.declared.MaybeUuid.TheVariants.{Is, Absent}
 use Rattle.packet.specs.declared.fill.Pick.TheVariants.{Any, Typed}
-use Rattle.packet.specs.Steps.{entry_of, filled, control_places, header_places, gathered, places_in, places_by, uuid_places, protocol_places, protocol_from}
+use Rattle.packet.specs.Steps.{entry_of, filled, control_places, header_places, gathered, places_in, places_by, uuid_places, protocol_places, protocol_from, fitting, latch_behind}
+use Rattle.packet.specs.Field.{or_else}
 use Rattle.packet.specs.Packet.{
   is_xdomain,
   zero_uuid,
@@ -78,7 +79,7 @@ pub length_protocol : (s : List ℕ) (table latched i : ℕ) (ds ps : List ℕ) 
 unfolding protocol_from
 length_protocol s table latched i [] ps = refl
 length_protocol s table latched i (d ∷ ds) [] = refl
-length_protocol s table latched i (d ∷ ds) (p ∷ ps) = ap suc (length_protocol s table _ (suc i) ds ps)
+length_protocol s table latched i (d ∷ ds) (p ∷ ps) = ap suc (length_protocol s table (latch_behind s (fitting s table i latched) (or_else p (fitting s table i latched)) d latched) (suc i) ds ps)
 
 length_by : (s : List ℕ) (u : MaybeUuid) (ds ps : List ℕ) → length (places_by s u ds ps) ≡ length ps
 unfolding protocol_places
@@ -209,14 +210,14 @@ module _ (kind : ℕ) (s : List ℕ) (count room : ℕ) where
 
 module _ (kind : ℕ) (s ds : List ℕ) {t : Tables} {room : ℕ} (o : Open kind s (length ds) room t) where
   -- kinds 8 and 9 have the header table, all others none
-  header_at : (b : Bool) → is_xdomain kind ≡ b → t.header ≡ cond b (H.At (header_at s)) H.Unasked
+  header_at_lem : (b : Bool) → is_xdomain kind ≡ b → t.header ≡ cond b (H.At (header_at s)) H.Unasked
   unfolding header_for header_at
-  header_at true x = o.header ∙ rw x (by (uuid_table s zero_uuid) (subst (λ b. (b && is_nothing (uuid_table s zero_uuid)) ≡ false) x o.there))
+  header_at_lem true x = o.header ∙ rw x (by (uuid_table s zero_uuid) (subst (λ b. (b && is_nothing (uuid_table s zero_uuid)) ≡ false) x o.there))
     where
       by : (f : Found) → is_nothing f ≡ false → header_of f ≡ H.At (place_of f)
       by (At p) e = refl
       by Nothing e = absurd (let q : ◌≡◌ {A = ℕ} 0 1 = cc in omega arith)
-  header_at false x = o.header ∙ rw x
+  header_at_lem false x = o.header ∙ rw x
 
   control_is : control_places s t.control ds ≡ control_places s (control_at s kind) ds
   control_is = ap (λ (c : ℕ). control_places s c ds) o.control
@@ -226,12 +227,12 @@ module _ (kind : ℕ) (s ds : List ℕ) {t : Tables} {room : ℕ} (o : Open kind
       × (uuid_with t.header s ds (control_places s t.control ds) ≡ uuid_of kind s ds)
   unfolding places_of uuid_of step_one
   with_header true x = (
-    ap₂ (λ (h : Header) (l : List ℕ). places_with h s ds l) (header_at true x) control_is ∙ rw x,
-    ap₂ (λ (h : Header) (l : List ℕ). uuid_with h s ds l) (header_at true x) control_is ∙ rw x,
+    ap₂ (λ (h : Header) (l : List ℕ). places_with h s ds l) (header_at_lem true x) control_is ∙ rw x,
+    ap₂ (λ (h : Header) (l : List ℕ). uuid_with h s ds l) (header_at_lem true x) control_is ∙ rw x,
   )
   with_header false x = (
-    ap₂ (λ (h : Header) (l : List ℕ). places_with h s ds l) (header_at false x) control_is ∙ rw x,
-    ap₂ (λ (h : Header) (l : List ℕ). uuid_with h s ds l) (header_at false x) control_is ∙ rw x,
+    ap₂ (λ (h : Header) (l : List ℕ). places_with h s ds l) (header_at_lem false x) control_is ∙ rw x,
+    ap₂ (λ (h : Header) (l : List ℕ). uuid_with h s ds l) (header_at_lem false x) control_is ∙ rw x,
   )
 
   pub described_places : places_with t.header s ds (control_places s t.control ds) ≡ places_of kind s ds

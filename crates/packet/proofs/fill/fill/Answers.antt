@@ -11,7 +11,7 @@ use native.Mathlib.Omega.{arith}
 use Rattle.packet.proofs.fill.fill.Goals as goal
 
 pub returns-in_default : goal.returns-in_default
-returns-in_default c = sym (fill_no_table c.args.name.now c.args.book.now c.args.table c.args.pick (subst Bare c.field_at-step.ensures (bare _ c.in_default.in_default-own.keys2)) c.args.places.now)
+returns-in_default c = sym (fill_no_table c.args.name.now c.args.book.now c.args.table c.args.pick (subst Bare c.field_at-step.ensures (bare _ c.in_default.not-Field)) c.args.places.now)
 
 pub slice_bounds-body-end : goal.slice_bounds-body-end
 slice_bounds-body-end c =

@@ -18,7 +18,7 @@ pub shape_of-places-in_default : goal.shape_of-places-in_default
 shape_of-places-in_default c = c.loop-tag.invariant.1
 
 pub returns-in_default : goal.returns-in_default
-returns-in_default c = sym (c.loop-tag.invariant.2 ∙ fill_end c.args.pick c.args.name.now c.args.s.now c.loop-tag.at (subst Bare c.field_at-step.ensures (bare _ c.in_default.in_default-own.keys2)) c.loop-tag.places)
+returns-in_default c = sym (c.loop-tag.invariant.2 ∙ fill_end c.args.pick c.args.name.now c.args.s.now c.loop-tag.at (subst Bare c.field_at-step.ensures (bare _ c.in_default.not-Field)) c.loop-tag.places)
 
 pub slice_bounds-put_entry-end : goal.slice_bounds-put_entry-end
 slice_bounds-put_entry-end c =

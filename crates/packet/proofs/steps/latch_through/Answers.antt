@@ -7,9 +7,6 @@ use mathlib.Core.List.{List}
 use mathlib.Core.Path.{sym}
 use Rattle.packet.proofs.steps.latch_through.Goals as goal
 
--- left: slice-aggregate-fill-2 : tie.Need-slice-aggregate-fill-2
--- left: slice-aggregate-fill-2 c = let zeros : List ℕ = replicate 256 0 in sym (length-take-le (length c.before.before.before.before.before.args.dwords.now) (replicate 256 0) c.before.before.before.before.before.requires.1)
-
 pub slice_bounds-plain-end-2 : goal.slice_bounds-plain-end-2
 slice_bounds-plain-end-2 c = laid_room c.args.book.now c.args.table c.args.dwords.now c.requires.1 c.fill.ensures
 

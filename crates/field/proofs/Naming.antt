@@ -1,5 +1,5 @@
 -- A name is handed out as the book's own bytes, so where it lies and how many bytes it has is the span that holds it. Assumes nothing.
-use Prim.Native.Nat.{ℕ, ◌+◌, ◌-◌, ◌≤◌, ◌<◌}
+use Prim.Native.Nat.{ℕ, ◌+◌, ◌-◌, ◌≤◌}
 use mathlib.Core.Path.{◌≡◌, refl, sym, ap, ap₂, subst, ◌∙◌}
 use mathlib.Core.List.{List, [], ◌∷◌}
 use native.Mathlib.Omega.{arith}
@@ -7,7 +7,6 @@ use borrow.Author.Tests.{eq-eqb, ne_eqb}
 use lib.ListN.{length, get_or, take, drop}
 use Rattle.text.specs.Part.{Slice, or_start}
 use Rattle.text.proofs.OwnParts.{some_place}
-use Rattle.tlv.specs.Reading.{between}
 use Rattle.tlv.proofs.Places.{between_is}
 use Rattle.book.specs.Finders.{name_place, OwnName}
 use Rattle.packet.specs.Field.{name_in}

@@ -21,7 +21,6 @@ use Rattle.text.proofs.Places.{by_order, clash, first_is, first_all, first_none,
 use Rattle.text.proofs.Runs.{run_is, run_all, back_is, back_all}
 use Rattle.text.proofs.Texts.{both_left, both_right}
 use Rattle.text.proofs.Numbers.{number_is, number_all}
-use Rattle.header.specs.declared.stamp.Stamp.{Stamp}
 use Rattle.header.specs.declared.stamp.Stamp.TheVariants as S
 use Rattle.header.specs.declared.stamp.Parts.{Parts}
 use Rattle.header.specs.declared.stamp.Parts.TheVariants as P

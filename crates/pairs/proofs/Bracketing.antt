@@ -2,14 +2,13 @@
 -- end where the value does. Assumes nothing.
 use Prim.Native.Nat.{ℕ, zero, suc, ◌+◌, ◌-◌, ◌≤◌, ◌<◌}
 use mathlib.Core.Path.{◌≡◌, refl, sym, ap, ◌∙◌}
-use mathlib.Core.Bool.{false}
 use mathlib.Core.List.{List, [], ◌∷◌}
 use native.Mathlib.Omega.{arith}
 use lib.ListN.{length, get_or, take, drop, length-drop}
 use lib.Seq.{take-nil, get_or-take, get_or-drop, drop-drop, length-take-le}
 use Rattle.text.specs.declared.class.Class.TheVariants.{NotClose}
 use Rattle.text.specs.Class.{is_word, in_class}
-use Rattle.text.specs.Run.{Inside, Run, run_end}
+use Rattle.text.specs.Run.{Inside, Run}
 use Rattle.text.proofs.Places.{clash}
 use Rattle.text.proofs.Runs.{run_all}
 use Rattle.pairs.specs.declared.pair.Span.TheVariants.{At, Nothing}

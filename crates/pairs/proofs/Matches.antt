@@ -156,5 +156,5 @@ module _ (s : List ℕ) where
       (f.up, f.here.some, value_up s _ f.here.value, value_within s _ f.here.value)
 
   -- what a caller is told of an answer
-  pub next_pair : {from : ℕ} {r : Pair} → r ≡ next_pair s from → NextPair s from r
-  next_pair q = record { is = q; rise = λ i m e h. next_rise (sym q ∙ h) }
+  pub next_pair_lem : {from : ℕ} {r : Pair} → r ≡ next_pair s from → NextPair s from r
+  next_pair_lem q = record { is = q; rise = λ i m e h. next_rise (sym q ∙ h) }

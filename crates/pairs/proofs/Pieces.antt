@@ -10,7 +10,6 @@ use lib.ListN.{length, drop, length-append, length-drop}
 use lib.Seq.{length-take-le}
 use borrow.Author.Tests.{lt-ltb, le-ltb, ltb-true}
 use Rattle.text.proofs.Places.{by_order}
-use Rattle.pairs.specs.declared.pair.Span.{Span}
 use Rattle.pairs.specs.declared.pair.Span.TheVariants.{At, Nothing}
 use Rattle.pairs.specs.Pair.{part}
 use Rattle.pairs.specs.Data.{cut, joined, PieceIn, piece_end, nth_piece, EndsPiece, NthPiece}

@@ -1,9 +1,9 @@
 -- A piece as the kernel prints it, read by its places: the sum of eight entries is below 128 only where each is a digit's, and neither `0x` nor a
 -- digit is a comma, so the piece ends behind its ten bytes. Assumes nothing.
-use Prim.Native.Nat.{ℕ, zero, suc, ◌+◌, ◌*◌, ◌-◌, ◌^◌, ◌≤◌, ◌<◌}
+use Prim.Native.Nat.{ℕ, suc, ◌+◌, ◌*◌, ◌-◌, ◌^◌, ◌≤◌, ◌<◌}
 use mathlib.Core.Path.{◌≡◌, refl, sym, ap, ◌∙◌}
 use mathlib.Core.Bool.{true}
-use mathlib.Core.List.{List, [], ◌∷◌}
+use mathlib.Core.List.{List, ◌∷◌}
 use native.Mathlib.Omega.{arith}
 use native.Mathlib.Numerals.{add-one}
 use native.Mathlib.Nat.{pow-suc, pow-le-pow_right}
@@ -20,8 +20,7 @@ use Rattle.text.proofs.Numbers.{SoFar, so_far_starts, so_far_steps, whole_value,
 use Rattle.text.proofs.Hexes.{hex_all}
 use Rattle.text.proofs.Words.{two_are}
 use Rattle.pairs.specs.declared.dwords.Piece.TheVariants.{Dword, Bad}
-use Rattle.pairs.specs.Pair.{part}
-use Rattle.pairs.specs.Data.{comma_space, piece_end, piece_of, piece_for, EndsPiece, PieceHere}
+use Rattle.pairs.specs.Data.{comma_space, piece_end, piece_for, PieceHere}
 use Rattle.pairs.proofs.Cuts.{comma_space_none, comma_space_by, ends_piece}
 use Rattle.pairs.proofs.Slots.{piece_dword}
 
@@ -114,6 +113,9 @@ pub comma_space_is : (l : List ℕ) {k : ℕ} → Word 2 l k 0x202c → comma_sp
 comma_space_is l {k} w =
     let both = two_are l k w (omega arith) comma_space_number in
     comma_space_by l k both.0 ∙ eq-eqb _ _ both.1
+
+pub comma_space_at : (l : List ℕ) (k : ℕ) {v : ℕ} → Word 2 l k v → v ≡ 0x202c → comma_space l k ≡ true
+comma_space_at l k w e = comma_space_is l (rw e at w)
 
 -- the piece of ten bytes
 module _ (l : List ℕ) (at : ℕ) {v : ℕ} (room : at + 10 ≤ length l) (front : Word 2 l at 0x7830)

@@ -1,36 +1,26 @@
 -- `cpu::parse_cpu` meets its contract: a CPU starts with a bracket, so the first from the start is the first from here. Assumes nothing.
-use Prim.Native.Nat.{◌+◌, ◌<◌}
 use Rattle.header.proofs.Cpus.{seeking_starts, next_bracket, seeking_hits, seeking_steps, seeking_ends, cpu_within, cpu_some, cpu_none, three_long}
-use Rattle.header.proofs.cpu.parse_cpu.Lts as lts
-use Rattle.text.specs.Place.{First, is_at}
-use lib.ListN.{length}
 use mathlib.Core.Path.{sym, ◌∙◌}
 use native.Mathlib.Omega.{arith}
 use Rattle.header.proofs.cpu.parse_cpu.Goals as goal
-
-bracket : (c : lts.In-At-2 invariant-loop decreases-loop) → First (is_at 91 c.args.h.now) c.loop-k.i (length c.args.h.now) c.in-At.k
-bracket c = next_bracket c.args.h.now (sym c.first.ensures ∙ c.in-At.is)
-
-inside : (c : lts.Then-is_cpu invariant-loop decreases-loop) → c.in-At.k + 4 < length c.args.h.now
-inside c = cpu_within _ _ (sym c.is_cpu.ensures ∙ c.if-is_cpu.true)
 
 pub loop-k-init : goal.loop-k-init
 loop-k-init c = seeking_starts _
 
 pub is_cpu-requires : goal.is_cpu-requires
-is_cpu-requires c = (bracket c.before).within
+is_cpu-requires c = (next_bracket c.args.h.now (sym c.first.ensures ∙ c.in-At.is)).within
 
 pub overflow_add-from : goal.overflow_add-from
-overflow_add-from c = omega (arith, (bracket c.before.before.before).within)
+overflow_add-from c = omega (arith, (next_bracket c.args.h.now (sym c.first.ensures ∙ c.in-At.is)).within)
 
 pub overflow_add-end : goal.overflow_add-end
-overflow_add-end c = omega (arith, inside c)
+overflow_add-end c = omega (arith, cpu_within _ _ (sym c.is_cpu.ensures ∙ c.if-is_cpu.true))
 
 pub slice_bounds-decimal-count : goal.slice_bounds-decimal-count
 slice_bounds-decimal-count c = omega arith
 
 pub slice_bounds-decimal-end : goal.slice_bounds-decimal-end
-slice_bounds-decimal-end c = omega (arith, inside c)
+slice_bounds-decimal-end c = omega (arith, cpu_within _ _ (sym c.is_cpu.ensures ∙ c.if-is_cpu.true))
 
 pub returns-then-is_cpu : goal.returns-then-is_cpu
 returns-then-is_cpu c =
@@ -39,10 +29,10 @@ returns-then-is_cpu c =
     ∙ cpu_some _ (seeking_hits _ c.loop-k.invariant (sym c.first.ensures ∙ c.in-At.is) (sym c.is_cpu.ensures ∙ c.if-is_cpu.true))
 
 pub overflow_add-i : goal.overflow_add-i
-overflow_add-i c = omega (arith, (bracket c.before.before.before).within)
+overflow_add-i c = omega (arith, (next_bracket c.args.h.now (sym c.first.ensures ∙ c.in-At.is)).within)
 
 pub loop-k-smaller : goal.loop-k-smaller
-loop-k-smaller c = omega (arith, (bracket c.before.before.before).from, (bracket c.before.before.before).within)
+loop-k-smaller c = omega (arith, (next_bracket c.args.h.now (sym c.first.ensures ∙ c.in-At.is)).from, (next_bracket c.args.h.now (sym c.first.ensures ∙ c.in-At.is)).within)
 
 pub loop-k-preserved : goal.loop-k-preserved
 loop-k-preserved c = seeking_steps _ c.loop-k.invariant (sym c.first.ensures ∙ c.in-At.is) (sym c.is_cpu.ensures ∙ c.if-is_cpu.false)

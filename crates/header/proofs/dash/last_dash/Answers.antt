@@ -1,7 +1,6 @@
 -- `dash::last_dash` meets its contract: the last dash of the whole is the last dash below here. Assumes nothing.
 use Rattle.text.proofs.Places.{last_hit_below, last_miss_below, last_zero}
 use Rattle.text.specs.Place.{last_place}
-use mathlib.Core.Bool.{true}
 use mathlib.Core.Path.{◌≡◌, sym, ap, ◌∙◌}
 use native.Mathlib.Omega.{arith}
 use Rattle.header.proofs.dash.last_dash.Goals as goal

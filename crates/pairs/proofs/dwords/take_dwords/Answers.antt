@@ -4,13 +4,12 @@ use Prim.Native.Nat.{◌<◌}
 use Rattle.pairs.proofs.BadPieces.{BadUpTo, bad_starts, bad_goes_on, bad_past_dword, bad_met}
 use Rattle.pairs.proofs.Printed.{stands_dword, stands_bad}
 use Rattle.pairs.proofs.Slots.{UpTo, before_starts, before_next, up_to_bad, up-to-dword, dword-slot, dword-value, Kept, kept_starts, kept_stored, kept_passed, kept_all}
-use Rattle.pairs.proofs.dwords.take_dwords.Lts as lts
 use Rattle.pairs.specs.Data.{dwords_of}
 use lib.ListN.{length}
-use mathlib.Core.Logic.{⊎_elim}
 use mathlib.Core.Path.{sym, ◌∙◌}
 use native.Mathlib.Omega.{arith}
 use Rattle.pairs.proofs.dwords.take_dwords.Goals as goal
+use Rattle.pairs.proofs.dwords.take_dwords.Goals.{then-piece-lt-NO_DWORD, then-n-lt256, else-n-lt256, else-piece-lt-NO_DWORD}
 
 pub loop-own-init : goal.loop-own-init
 loop-own-init c = (before_starts _, bad_starts _, kept_starts _ _)
@@ -21,34 +20,27 @@ piece_at-piece-requires c = (c.requires.0, c.loop-own.invariant.0.within)
 pub overflow_add-n : goal.overflow_add-n
 overflow_add-n c = omega (arith, c.loop-own.invariant.0.few, c.loop-own.invariant.0.within)
 
--- whichever way the piece went, it is counted, judged and kept
-met : (c : lts.Joined-piece-lt-NO_DWORD invariant-loop decreases-loop) →
-    UpTo c.args.inner.now c.if-piece-lt-NO_DWORD.n c.piece_at-piece.result.end × BadUpTo c.args.inner.now c.if-piece-lt-NO_DWORD.bad c.piece_at-piece.result.end
-    × Kept (dwords_of c.args.inner.now) c.args.own.now c.if-piece-lt-NO_DWORD.n c.if-piece-lt-NO_DWORD.own
-met c =
-    ⊎_elim
-    (λ w.
-    let q = stands_dword w.0.taken ∙ sym c.piece_at-piece.ensures.is in (
-      rw w.3 (up-to-dword _ c.loop-own.invariant.0 c.piece_at-piece.ensures.ends.is c.piece_at-piece.ensures.ends.up c.piece_at-piece.ensures.ends.within q),
-      rw w.4 (bad_past_dword _ c.loop-own.invariant.1 c.loop-own.invariant.0.within c.piece_at-piece.ensures.ends.is q),
-      rw (w.2, w.3) (⊎_elim
-          (λ x. rw x.2 (kept_stored _ _ c.loop-own.invariant.2 x.0.taken c.requires.1
-          (dword-slot _ c.loop-own.invariant.0 c.piece_at-piece.ensures.ends.is c.piece_at-piece.ensures.ends.up c.piece_at-piece.ensures.ends.within q)
-          (dword-value _ c.loop-own.invariant.0 c.piece_at-piece.ensures.ends.is c.piece_at-piece.ensures.ends.up c.piece_at-piece.ensures.ends.within q)))
-          (λ x. rw x.1 (kept_passed _ _ c.loop-own.invariant.2 x.0.left))
-          w.1.came),
-    ))
-    (λ w.
-    let q = stands_bad w.0.left ∙ sym c.piece_at-piece.ensures.is in (
-      rw w.2 (up_to_bad _ c.loop-own.invariant.0 c.piece_at-piece.ensures.ends.is c.piece_at-piece.ensures.ends.up c.piece_at-piece.ensures.ends.within q),
-      rw w.3 (bad_met _ c.loop-own.invariant.1 c.loop-own.invariant.0.within c.piece_at-piece.ensures.ends.is q),
-      rw (w.1, w.2) c.loop-own.invariant.2,
-    ))
-    c.if-piece-lt-NO_DWORD.branch
-
 pub returns-then-piece-inner : goal.returns-then-piece-inner
 returns-then-piece-inner c =
-    let m = met c.before.before in
+    let m : UpTo c.args.inner.now c.if-piece-lt-NO_DWORD.n c.piece_at-piece.result.end × BadUpTo c.args.inner.now c.if-piece-lt-NO_DWORD.bad c.piece_at-piece.result.end × Kept (dwords_of c.args.inner.now) c.args.own.now c.if-piece-lt-NO_DWORD.n c.if-piece-lt-NO_DWORD.own = elim c.if-piece-lt-NO_DWORD.branch [
+      | then-piece-lt-NO_DWORD w ↦
+          let q = stands_dword w.if-piece-lt-NO_DWORD.true ∙ sym c.piece_at-piece.ensures.is in (
+            rw w.n-is (up-to-dword _ c.loop-own.invariant.0 c.piece_at-piece.ensures.ends.is c.piece_at-piece.ensures.ends.up c.piece_at-piece.ensures.ends.within q),
+            rw w.bad-is (bad_past_dword _ c.loop-own.invariant.1 c.loop-own.invariant.0.within c.piece_at-piece.ensures.ends.is q),
+            rw (w.own-is, w.n-is) (elim w.if-n-lt256.branch [
+              | then-n-lt256 x ↦ rw x.own-is (kept_stored _ _ c.loop-own.invariant.2 x.if-n-lt256.true c.requires.1
+                  (dword-slot _ c.loop-own.invariant.0 c.piece_at-piece.ensures.ends.is c.piece_at-piece.ensures.ends.up c.piece_at-piece.ensures.ends.within q)
+                  (dword-value _ c.loop-own.invariant.0 c.piece_at-piece.ensures.ends.is c.piece_at-piece.ensures.ends.up c.piece_at-piece.ensures.ends.within q))
+              | else-n-lt256 x ↦ rw x.own-is (kept_passed _ _ c.loop-own.invariant.2 x.if-n-lt256.false)
+            ]),
+          )
+      | else-piece-lt-NO_DWORD w ↦
+          let q = stands_bad w.if-piece-lt-NO_DWORD.false ∙ sym c.piece_at-piece.ensures.is in (
+            rw w.n-is (up_to_bad _ c.loop-own.invariant.0 c.piece_at-piece.ensures.ends.is c.piece_at-piece.ensures.ends.up c.piece_at-piece.ensures.ends.within q),
+            rw w.bad-is (bad_met _ c.loop-own.invariant.1 c.loop-own.invariant.0.within c.piece_at-piece.ensures.ends.is q),
+            rw (w.own-is, w.n-is) c.loop-own.invariant.2,
+          )
+    ] in
     record {
       tally = record { dwords_are = m.0.over c.if-piece-inner.true; bad_is = sym (m.1.over c.if-piece-inner.true) };
       kept = kept_all _ _ m.2 (m.0.over c.if-piece-inner.true);
@@ -67,6 +59,24 @@ loop-own-smaller c =
 
 pub loop-own-preserved : goal.loop-own-preserved
 loop-own-preserved c =
-    let m = met c.before.before.before in
+    let m : UpTo c.args.inner.now c.if-piece-lt-NO_DWORD.n c.piece_at-piece.result.end × BadUpTo c.args.inner.now c.if-piece-lt-NO_DWORD.bad c.piece_at-piece.result.end × Kept (dwords_of c.args.inner.now) c.args.own.now c.if-piece-lt-NO_DWORD.n c.if-piece-lt-NO_DWORD.own = elim c.if-piece-lt-NO_DWORD.branch [
+      | then-piece-lt-NO_DWORD w ↦
+          let q = stands_dword w.if-piece-lt-NO_DWORD.true ∙ sym c.piece_at-piece.ensures.is in (
+            rw w.n-is (up-to-dword _ c.loop-own.invariant.0 c.piece_at-piece.ensures.ends.is c.piece_at-piece.ensures.ends.up c.piece_at-piece.ensures.ends.within q),
+            rw w.bad-is (bad_past_dword _ c.loop-own.invariant.1 c.loop-own.invariant.0.within c.piece_at-piece.ensures.ends.is q),
+            rw (w.own-is, w.n-is) (elim w.if-n-lt256.branch [
+              | then-n-lt256 x ↦ rw x.own-is (kept_stored _ _ c.loop-own.invariant.2 x.if-n-lt256.true c.requires.1
+                  (dword-slot _ c.loop-own.invariant.0 c.piece_at-piece.ensures.ends.is c.piece_at-piece.ensures.ends.up c.piece_at-piece.ensures.ends.within q)
+                  (dword-value _ c.loop-own.invariant.0 c.piece_at-piece.ensures.ends.is c.piece_at-piece.ensures.ends.up c.piece_at-piece.ensures.ends.within q))
+              | else-n-lt256 x ↦ rw x.own-is (kept_passed _ _ c.loop-own.invariant.2 x.if-n-lt256.false)
+            ]),
+          )
+      | else-piece-lt-NO_DWORD w ↦
+          let q = stands_bad w.if-piece-lt-NO_DWORD.false ∙ sym c.piece_at-piece.ensures.is in (
+            rw w.n-is (up_to_bad _ c.loop-own.invariant.0 c.piece_at-piece.ensures.ends.is c.piece_at-piece.ensures.ends.up c.piece_at-piece.ensures.ends.within q),
+            rw w.bad-is (bad_met _ c.loop-own.invariant.1 c.loop-own.invariant.0.within c.piece_at-piece.ensures.ends.is q),
+            rw (w.own-is, w.n-is) c.loop-own.invariant.2,
+          )
+    ] in
     let short : c.piece_at-piece.result.end < length c.args.inner.now = omega (arith, c.if-piece-inner.false, c.piece_at-piece.ensures.ends.within) in
     (before_next _ m.0 short (c.piece_at-piece.ensures.ends.more short), bad_goes_on _ m.1 short, m.2)

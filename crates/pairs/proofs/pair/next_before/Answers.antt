@@ -1,4 +1,4 @@
-use Rattle.pairs.proofs.Matches.{seeking_starts, seeking_hits, seeking_steps, seeking_ends, next_pair}
+use Rattle.pairs.proofs.Matches.{seeking_starts, seeking_hits, seeking_steps, seeking_ends, next_pair_lem}
 use Rattle.text.specs.Class.{in_class}
 use mathlib.Core.Path.{sym, ◌∙◌}
 use native.Mathlib.Omega.{arith}
@@ -25,12 +25,12 @@ loop-i-preserved c =
     (sym c.try_at-pair.ensures ∙ c.in_default.is)
 
 pub returns-then-s-i : goal.returns-then-s-i
-returns-then-s-i c = next_pair _ (sym (seeking_ends _ c.loop-i.invariant c.if-s-i.true))
+returns-then-s-i c = next_pair_lem _ (sym (seeking_ends _ c.loop-i.invariant c.if-s-i.true))
 
 pub returns-in-Hit : goal.returns-in-Hit
 unfolding in_class
 returns-in-Hit c =
-    next_pair _
+    next_pair_lem _
     (c.in-Hit.is ∙ sym (seeking_hits _ c.loop-i.invariant
     c.if-s-i.false c.run_end-m.ensures.is
     (sym c.try_at-pair.ensures ∙ c.in-Hit.is)))

@@ -1,11 +1,10 @@
 -- Where the open unit ends: a line at the first newline, since its last byte alone tells; a record where its first three bytes say, since
 -- they are the same in every front that has them. Assumes nothing.
-use Prim.Native.Nat.{ℕ, zero, suc, min, ◌+◌, ◌*◌, ◌-◌, ◌≤◌, ◌<◌}
+use Prim.Native.Nat.{ℕ, suc, min, ◌+◌, ◌*◌, ◌-◌, ◌≤◌, ◌<◌}
 use mathlib.Core.Path.{◌≡◌, refl, sym, ap, ◌∙◌}
 use mathlib.Core.Bool.{Bool, true, false, cond, ◌&&◌}
 use mathlib.Core.List.{List, [], ◌∷◌, ◌++◌, append_assoc}
 use native.Mathlib.Omega.{arith}
-use native.Mathlib.Numerals.{add-one}
 use lib.Dec.{eqb, leb}
 use lib.ListN.{length, get_or, take, drop, length-append, length-drop, get_or-append}
 use lib.Seq.{take-suc, take-append-add, length-take-le, get_or-take, get_or-drop, get_or-append-add}
@@ -14,7 +13,6 @@ use Rattle.text.specs.declared.place.Found.TheVariants.{At, Nothing}
 use Rattle.text.specs.Place.{First, first_byte, is_at}
 use Rattle.text.proofs.Places.{clash, first_is, first_free}
 use Rattle.framing.specs.declared.Framing.TheVariants as F
-use Rattle.framing.specs.declared.UnitEnd.{UnitEnd}
 use Rattle.framing.specs.Units.{stated_size, is_whole}
 use Rattle.framing.specs.Feeding.{between, Ends}
 use Rattle.framing.proofs.Parts.{and_false, line_whole}

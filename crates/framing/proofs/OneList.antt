@@ -5,8 +5,8 @@ use mathlib.Core.Path.{◌≡◌, refl, sym, ap, ◌∙◌}
 use mathlib.Core.Bool.{Bool, true, false, cond}
 use mathlib.Core.List.{List, [], ◌∷◌, ◌++◌, append_assoc, append-nil}
 use native.Mathlib.Omega.{arith}
-use lib.ListN.{length, get_or, take, drop, length-append}
-use lib.Seq.{take_all, take-suc, take-append-le, take-append_seam, take-append-add}
+use lib.ListN.{length, get_or, take, length-append}
+use lib.Seq.{take_all, take-suc, take-append-le, take-append-add}
 use Rattle.text.proofs.Places.{clash, by_order}
 use Rattle.framing.specs.declared.Framing.{Framing}
 use Rattle.framing.specs.declared.Framing.TheVariants as F

@@ -1,8 +1,7 @@
-"""Processor time of whole programs: programs.py ROOM PROGRAMS BOOK START..
+"""Processor time of whole programs: programs.py ROOM PROGRAMS BOOK
 
 ROOM holds lines.bin, frames of kernel-like lines, which are repeated to some 200 MB of text; the text and its records are there for as long as this runs.
-PROGRAMS is the folder of the programs, START what a program is started by (./run says why). A file in, /dev/null out, user and system time, the best of
-three. Prints a table; ends with 1 where a program fails.
+PROGRAMS is the folder of the programs. A file in, /dev/null out, user and system time, the best of three. Prints a table; ends with 1 where a program fails.
 """
 
 import os
@@ -30,36 +29,36 @@ def write_text(made, path):
     return times * len(some)
 
 
-def spent(words, given, status, to=NOWHERE):
-    """Seconds of user and system time that a command takes from one file to another. A program of ours tells its status on descriptor 3."""
+def spent(words, given, to=NOWHERE):
+    """Seconds of user and system time that a command takes from one file to another."""
     def opened(descriptor, path, how):
         return os.POSIX_SPAWN_OPEN, descriptor, path, how, 0o666
     new = os.O_WRONLY | os.O_CREAT | os.O_TRUNC
     child = os.posix_spawn(words[0], words, os.environ, file_actions=[
-        opened(0, given, os.O_RDONLY), opened(1, to, new), opened(2, NOWHERE, os.O_WRONLY), opened(3, status, new)])
+        opened(0, given, os.O_RDONLY), opened(1, to, new), opened(2, NOWHERE, os.O_WRONLY)])
     _, code, used = os.wait4(child, 0)
-    if code or status.read_bytes():
+    if code:
         sys.exit(f"programs: {' '.join(words)} fails")
     return used.ru_utime + used.ru_stime
 
 
-def main(room, programs, book, *start):
+def main(room, programs, book):
     room = Path(room)
-    text, records, status = room / "lines.txt", room / "records.bin", room / "status"
+    text, records = room / "lines.txt", room / "records.bin"
     count = write_text(room / "lines.bin", text)
 
     def called(name, *words):
-        return [*start, os.path.join(programs, name), *words]
+        return [os.path.join(programs, name), *words]
 
-    spent(called("pack"), text, status, records)
+    spent(called("pack"), text, records)
     print("| program | given | MB | processor time, s | MB a second |\n|---|---|---|---|---|")
     for name, words, given, what in (
             ("listing", (), text, f"{count:,} kernel-like lines"), ("pack", (), text, "the same"),
             ("unpack", (), records, "what `pack` makes of them"), ("show", (book,), text, f"the lines, over {book}")):
         size = os.path.getsize(given) / 1e6
-        best = min(spent(called(name, *words), given, status) for _ in range(ROUNDS))
+        best = min(spent(called(name, *words), given) for _ in range(ROUNDS))
         print(f"| `{name}` | {what} | {size:,.1f} | {best:.2f} | {size / best:,.0f} |", flush=True)
-    for made in (text, records, status):
+    for made in (text, records):
         made.unlink()
 
 

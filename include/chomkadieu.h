@@ -1,15 +1,15 @@
 /* Chomkadieu: USB4 trace lines and records as entries, entries as records, packets described by a book of fields, requests matched to their
  * responses, streams fed in parts, and why a hex number of a line was unreadable.
  *
- * Build the archive with `rt staticlib capi` (target/staticlib/libcapi.a, x86-64 Linux) and link it; of its surroundings it asks for memcpy and
+ * Build the archive with `tools/archive` (target/staticlib/libcapi.a, x86-64 Linux) and link it; of its surroundings it asks for memcpy and
  * memset alone.
  *
  * Every call takes any input. It keeps no memory, makes none, and writes only what is lent to it for writing. A slice is a pointer and the
  * number of its elements; the pointer is valid for that many, also for none (not NULL), and what is lent for writing overlaps nothing else that
  * is lent. Slots, places, codes and bytes are written from the first on, as many as the answer says, and no others
  * (ck_packet_all says where its places stand, ck_stream_feed what is written of its buffer).
- * Within that, each call is proved to answer as said here: the contracts stand in crates/capi/src, their definitions in
- * crates/capi/specs and crates/c_entry/specs/Flat.antt.
+ * Within that, each call is proved to answer as said here: the contracts stand in crates/capi/src and again at the symbols, in crates/capi_c/src,
+ * their definitions in crates/capi/specs and crates/c_entry/specs/Flat.antt.
  */
 #ifndef CHOMKADIEU_H
 #define CHOMKADIEU_H

@@ -1,4 +1,4 @@
-//! Finds the proved archive: in the folder that CHOMKADIEU_ARCHIVE names, else where `rt staticlib capi` puts it.
+//! Finds the proved archive: in the folder that CHOMKADIEU_ARCHIVE names, else where `tools/archive` puts it.
 use std::env;
 use std::path::{Path, PathBuf};
 
@@ -11,7 +11,7 @@ fn main() {
     println!("cargo:rerun-if-changed={}", archive.display());
     assert!(
         archive.is_file(),
-        "there is no {}: run `rt staticlib capi` at the repository's top, or name the archive's folder in CHOMKADIEU_ARCHIVE",
+        "there is no {}: run `tools/archive` at the repository's top, or name the archive's folder in CHOMKADIEU_ARCHIVE",
         archive.display()
     );
     println!("cargo:rustc-link-search=native={}", folder.display());

@@ -1,9 +1,7 @@
-"""Starting the programs: by `run`, and by themselves with a pipe for their status."""
+"""Starting the programs: by `run`, and by themselves."""
 
 import fcntl
 import os
-import platform
-import shutil
 import subprocess
 import threading
 import time
@@ -12,20 +10,13 @@ TOP = os.path.realpath(os.path.join(os.path.dirname(os.path.abspath(__file__)), 
 LONGEST = 120  # seconds that a program may take; one that hangs is a failure
 
 
-def tools():
-    home = os.environ.get("RATTLE_HOME") or os.path.dirname(os.path.dirname(os.path.realpath(shutil.which("rt"))))
-    return os.path.join(home, "on", platform.machine(), "toolchain")
-
-
-def alone(program, top=TOP, before=()):
-    """The words that start a program without `run`; `before` are words for the loader."""
-    emulator, loader = os.path.join(tools(), "bin/qemu-x86_64"), os.path.join(tools(), "lib/ld-linux-x86-64.so.2")
-    words = [loader, "--library-path", os.path.join(tools(), "lib"), *before, os.path.join(top, "target/bin", program)]
-    return [emulator, *words] if os.access(emulator, os.X_OK) else words
+def alone(program, top=TOP):
+    """The words that start a program without `run`, which has built it."""
+    return [os.path.join(top, "crates", program, "out", program)]
 
 
 class Ended:
-    """What a program wrote, and its status; that of one started by itself is what came by descriptor 3."""
+    """What a program wrote, and its status."""
 
     def __init__(self, status, out, told):
         self.status, self.out, self.told = status, out, told
@@ -49,22 +40,14 @@ def by_run(program, words=(), closed=(), first=None, **given):
     return Ended(status, done.stdout, (done.stderr or b"").decode("latin-1"))
 
 
-def by_itself(program, words=(), closed=(), first=None, top=TOP, before=(), **given):
+def by_itself(program, words=(), closed=(), first=None, top=TOP, preload=None, **given):
+    """`preload` is a library that is loaded before the C library."""
     given.setdefault("stdout", subprocess.PIPE)
     given.setdefault("stderr", subprocess.PIPE)
-    heard, status_end = os.pipe()
-
-    def take_status_end():
-        if status_end != 3:
-            os.dup2(status_end, 3)
-        os.set_inheritable(3, True)
-        prepared(closed, first)()
-
-    done = subprocess.run([*alone(program, top, before), *words], preexec_fn=take_status_end, close_fds=False, timeout=LONGEST, **given)
-    os.close(status_end)
-    digit = os.read(heard, 16).decode()
-    os.close(heard)
-    status = 128 - done.returncode if done.returncode < 0 else int(digit or 0)
+    if preload:
+        given["env"] = {**os.environ, "LD_PRELOAD": preload}
+    done = subprocess.run([*alone(program, top), *words], preexec_fn=prepared(closed, first), timeout=LONGEST, **given)
+    status = done.returncode if done.returncode >= 0 else 128 - done.returncode
     return Ended(status, done.stdout, (done.stderr or b"").decode("latin-1"))
 
 

@@ -12,24 +12,21 @@ use packet::field::Ask;
 use questions::described;
 
 // The first dword above the second; 27 if there are fewer than two.
-#[unsafe(no_mangle)]
-pub extern "C" fn ck_described_route(dwords: &[u32]) -> ValueTold
+pub fn ck_described_route(dwords: &[u32]) -> ValueTold
     ensures { result ≡ value_by (route_in dwords.now) }
 {
     tell_wide(described::route_in(dwords))
 }
 
 // The top bit of the route.
-#[unsafe(no_mangle)]
-pub extern "C" fn ck_described_cm(dwords: &[u32]) -> ValueTold
+pub fn ck_described_cm(dwords: &[u32]) -> ValueTold
     ensures { result ≡ value_by (as_number (top_bit (route_in dwords.now))) }
 {
     tell_flag(described::cm_in(dwords))
 }
 
 // The value of the first bit range of that name.
-#[unsafe(no_mangle)]
-pub extern "C" fn ck_described_value(
+pub fn ck_described_value(
     book: &[u8],
     dwords: &[u32],
     places: &[u32],
@@ -41,16 +38,14 @@ pub extern "C" fn ck_described_value(
 }
 
 // The adapter number, cut to 8 bits.
-#[unsafe(no_mangle)]
-pub extern "C" fn ck_described_adapter_num(book: &[u8], dwords: &[u32], places: &[u32]) -> ValueTold
+pub fn ck_described_adapter_num(book: &[u8], dwords: &[u32], places: &[u32]) -> ValueTold
     ensures { result ≡ value_by (adapter_in book.now dwords.now places.now) }
 {
     tell_byte(described::adapter_in(book, dwords, places))
 }
 
 // The address, or for kinds 8 and 9 the offset, cut to 16 bits.
-#[unsafe(no_mangle)]
-pub extern "C" fn ck_described_data_address(
+pub fn ck_described_data_address(
     kind: u8,
     book: &[u8],
     dwords: &[u32],
@@ -62,8 +57,7 @@ pub extern "C" fn ck_described_data_address(
 }
 
 // The size that the kind has, cut to 16 bits.
-#[unsafe(no_mangle)]
-pub extern "C" fn ck_described_data_size(
+pub fn ck_described_data_size(
     kind: u8,
     book: &[u8],
     dwords: &[u32],
@@ -75,8 +69,7 @@ pub extern "C" fn ck_described_data_size(
 }
 
 // The values of the dwords of that name, if there are exactly four.
-#[unsafe(no_mangle)]
-pub extern "C" fn ck_described_uuid_by_name(
+pub fn ck_described_uuid_by_name(
     book: &[u8],
     dwords: &[u32],
     places: &[u32],
@@ -88,16 +81,14 @@ pub extern "C" fn ck_described_uuid_by_name(
 }
 
 // The packet type; 28 where its value has no name.
-#[unsafe(no_mangle)]
-pub extern "C" fn ck_described_type(book: &[u8], dwords: &[u32], places: &[u32]) -> TypeTold
+pub fn ck_described_type(book: &[u8], dwords: &[u32], places: &[u32]) -> TypeTold
     ensures { result ≡ type_by (type_in book.now dwords.now places.now) }
 {
     tell_type(described::type_in(book, dwords, places))
 }
 
 // The field at an offset.
-#[unsafe(no_mangle)]
-pub extern "C" fn ck_described_field(
+pub fn ck_described_field(
     kind: u8,
     book: &[u8],
     dwords: &[u32],
@@ -110,8 +101,7 @@ pub extern "C" fn ck_described_field(
 }
 
 // The first field of that name.
-#[unsafe(no_mangle)]
-pub extern "C" fn ck_described_field_by_name(
+pub fn ck_described_field_by_name(
     kind: u8,
     book: &[u8],
     dwords: &[u32],
@@ -124,8 +114,7 @@ pub extern "C" fn ck_described_field_by_name(
 }
 
 // The first field with a bit range of that name.
-#[unsafe(no_mangle)]
-pub extern "C" fn ck_described_field_by_range(
+pub fn ck_described_field_by_range(
     kind: u8,
     book: &[u8],
     dwords: &[u32],

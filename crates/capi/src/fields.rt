@@ -11,8 +11,7 @@ use packet::field::name_in;
 use print::put::put;
 
 // The field of a dword at an offset, described by the entry at the place.
-#[unsafe(no_mangle)]
-pub extern "C" fn ck_field(
+pub fn ck_field(
     kind: u8,
     book: &[u8],
     offset: u16,
@@ -25,24 +24,21 @@ pub extern "C" fn ck_field(
 }
 
 // How many bit ranges the entry has.
-#[unsafe(no_mangle)]
-pub extern "C" fn ck_range_count(book: &[u8], entry: usize) -> usize
+pub fn ck_range_count(book: &[u8], entry: usize) -> usize
     ensures { result ≡ range_count book.now (field_with entry 0) }
 {
     field::count_ranges(book, field_with(entry, 0))
 }
 
 // The entry's bit range with `k` before it, and its value in a dword.
-#[unsafe(no_mangle)]
-pub extern "C" fn ck_range(book: &[u8], entry: usize, dword: u32, k: usize) -> RangeTold
+pub fn ck_range(book: &[u8], entry: usize, dword: u32, k: usize) -> RangeTold
     ensures { result ≡ range_by (nth_range book.now (field_with entry dword) k) }
 {
     tell_range(field::nth_range(book, field_with(entry, dword), k))
 }
 
 // The entry's first bit range of that name, likewise.
-#[unsafe(no_mangle)]
-pub extern "C" fn ck_range_named(book: &[u8], entry: usize, dword: u32, name: &[u8]) -> RangeTold
+pub fn ck_range_named(book: &[u8], entry: usize, dword: u32, name: &[u8]) -> RangeTold
     ensures { result ≡ range_by (range_named book.now (field_with entry dword) name.now) }
 {
     tell_range(field::range_named(book, field_with(entry, dword), name))
@@ -60,8 +56,7 @@ fn field_with(entry: usize, value: u32) -> Field
 }
 
 // Where the name of the entry, bit range or value at the place stands in the book, for whoever need not copy it.
-#[unsafe(no_mangle)]
-pub extern "C" fn ck_name_at(book: &[u8], place: usize) -> NameTold
+pub fn ck_name_at(book: &[u8], place: usize) -> NameTold
     ensures { NamePart book.now place result }
 {
     let span = field::name_at(book, place);
@@ -72,8 +67,7 @@ pub extern "C" fn ck_name_at(book: &[u8], place: usize) -> NameTold
 }
 
 // The place of the value that a bit range gives to a number, 0 for none.
-#[unsafe(no_mangle)]
-pub extern "C" fn ck_value_at(book: &[u8], range: usize, number: u32) -> usize
+pub fn ck_value_at(book: &[u8], range: usize, number: u32) -> usize
     ensures { result ≡ value_place book.now range number }
 {
     field::value_at(book, range, number)
@@ -81,8 +75,7 @@ pub extern "C" fn ck_value_at(book: &[u8], range: usize, number: u32) -> usize
 
 // The name of the entry, bit range or value at the place into the first bytes of the buffer, if all of it fits. The answer is its length, 0 where
 // there is none.
-#[unsafe(no_mangle)]
-pub extern "C" fn ck_name(book: &[u8], place: usize, out: &mut [u8]) -> usize
+pub fn ck_name(book: &[u8], place: usize, out: &mut [u8]) -> usize
     ensures { Copied (name_in book.now place) out.old out.new result }
 {
     let name = name_in(book, place);
@@ -91,8 +84,7 @@ pub extern "C" fn ck_name(book: &[u8], place: usize, out: &mut [u8]) -> usize
 }
 
 // The name that a bit range gives to a number, likewise.
-#[unsafe(no_mangle)]
-pub extern "C" fn ck_value_name(book: &[u8], range: usize, number: u32, out: &mut [u8]) -> usize
+pub fn ck_value_name(book: &[u8], range: usize, number: u32, out: &mut [u8]) -> usize
     ensures { Copied (value_name book.now (range_with range number)) out.old out.new result }
 {
     let name = field::value_name(book, range_with(range, number));

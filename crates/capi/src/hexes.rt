@@ -28,8 +28,7 @@ pub enum MaybeKey {
 }
 
 // What the line's last pair of a key says. A number that names no key is absent on every line that has a payload.
-#[unsafe(no_mangle)]
-pub extern "C" fn ck_hex_key(line: &[u8], key: u8) -> HexAnswer
+pub fn ck_hex_key(line: &[u8], key: u8) -> HexAnswer
     ensures { result ≡ hex_by (key_told line.now (key_numbered key)) }
 {
     match key_of(key) {
@@ -39,8 +38,7 @@ pub extern "C" fn ck_hex_key(line: &[u8], key: u8) -> HexAnswer
 }
 
 // What a piece of the line's data says, by its number from 0.
-#[unsafe(no_mangle)]
-pub extern "C" fn ck_hex_piece(line: &[u8], piece: usize) -> HexAnswer
+pub fn ck_hex_piece(line: &[u8], piece: usize) -> HexAnswer
     ensures { result ≡ hex_by (piece_answer line.now piece) }
 {
     hex_answer(ask_piece(line, piece))

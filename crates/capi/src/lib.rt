@@ -78,24 +78,21 @@ pub struct EventName {
 }
 
 // The entry of a line, its dwords in the first slots. A bad piece of its data refuses it: 18.
-#[unsafe(no_mangle)]
-pub extern "C" fn ck_parse(line: &[u8], slots: &mut [u32]) -> EntryAnswer
+pub fn ck_parse(line: &[u8], slots: &mut [u32]) -> EntryAnswer
     ensures { LineRead P.Strict line.now slots.old slots.new result }
 {
     answer_of(parse(line, Pieces::Strict, slots))
 }
 
 // The same, but bad pieces are left out.
-#[unsafe(no_mangle)]
-pub extern "C" fn ck_parse_lenient(line: &[u8], slots: &mut [u32]) -> EntryAnswer
+pub fn ck_parse_lenient(line: &[u8], slots: &mut [u32]) -> EntryAnswer
     ensures { LineRead P.Lenient line.now slots.old slots.new result }
 {
     answer_of(parse(line, Pieces::Lenient, slots))
 }
 
 // The entry of a record, its dwords in the first slots.
-#[unsafe(no_mangle)]
-pub extern "C" fn ck_record_read(text: &[u8], slots: &mut [u32]) -> EntryAnswer
+pub fn ck_record_read(text: &[u8], slots: &mut [u32]) -> EntryAnswer
     ensures { Read (read_of text.now (length slots.old)) (dwords_of text.now) slots.old slots.new result }
 {
     match record::read(text, slots) {
@@ -105,16 +102,14 @@ pub extern "C" fn ck_record_read(text: &[u8], slots: &mut [u32]) -> EntryAnswer
 }
 
 // The entry of a text that is a record if it starts with A1, else a line. A bad piece of a line's data refuses it: 18.
-#[unsafe(no_mangle)]
-pub extern "C" fn ck_read(text: &[u8], slots: &mut [u32]) -> EntryAnswer
+pub fn ck_read(text: &[u8], slots: &mut [u32]) -> EntryAnswer
     ensures { EitherRead P.Strict text.now slots.old slots.new result }
 {
     read_by(text, Pieces::Strict, slots)
 }
 
 // The same, but bad pieces are left out.
-#[unsafe(no_mangle)]
-pub extern "C" fn ck_read_lenient(text: &[u8], slots: &mut [u32]) -> EntryAnswer
+pub fn ck_read_lenient(text: &[u8], slots: &mut [u32]) -> EntryAnswer
     ensures { EitherRead P.Lenient text.now slots.old slots.new result }
 {
     read_by(text, Pieces::Lenient, slots)
@@ -128,16 +123,14 @@ fn read_by(text: &[u8], pieces: Pieces, slots: &mut [u32]) -> EntryAnswer
 }
 
 // What a text is, by the strict grammar of lines.
-#[unsafe(no_mangle)]
-pub extern "C" fn ck_what(text: &[u8]) -> WhatAnswer
+pub fn ck_what(text: &[u8]) -> WhatAnswer
     ensures { result ≡ what_by (what_of P.Strict text.now) }
 {
     tell_what(text, Pieces::Strict)
 }
 
 // The same by the lenient one.
-#[unsafe(no_mangle)]
-pub extern "C" fn ck_what_lenient(text: &[u8]) -> WhatAnswer
+pub fn ck_what_lenient(text: &[u8]) -> WhatAnswer
     ensures { result ≡ what_by (what_of P.Lenient text.now) }
 {
     tell_what(text, Pieces::Lenient)
@@ -158,8 +151,7 @@ fn tell_what(text: &[u8], pieces: Pieces) -> WhatAnswer
 }
 
 // The record of an entry into the first bytes of the buffer. Numbers that no entry has are out of the record's ranges: 37.
-#[unsafe(no_mangle)]
-pub extern "C" fn ck_record_write(
+pub fn ck_record_write(
     text: &[u8],
     entry: Flat,
     dwords: &[u32],
@@ -174,8 +166,7 @@ pub extern "C" fn ck_record_write(
 }
 
 // 0 for a book that belongs to the grammar, else 20.
-#[unsafe(no_mangle)]
-pub extern "C" fn ck_book_check(book: &[u8]) -> u8
+pub fn ck_book_check(book: &[u8]) -> u8
     ensures { result ≡ number_in (check_of book.now) }
 {
     match check(book) {
@@ -185,8 +176,7 @@ pub extern "C" fn ck_book_check(book: &[u8]) -> u8
 }
 
 // The name of an event's code.
-#[unsafe(no_mangle)]
-pub extern "C" fn ck_event_name(code: u8) -> EventName
+pub fn ck_event_name(code: u8) -> EventName
     ensures { result ≡ name_by code }
 {
     let name = name_of(from_code(code));
@@ -198,16 +188,14 @@ pub extern "C" fn ck_event_name(code: u8) -> EventName
 }
 
 // The adapter of an entry, or ABSENT.
-#[unsafe(no_mangle)]
-pub extern "C" fn ck_adapter_num(entry: Flat) -> u32
+pub fn ck_adapter_num(entry: Flat) -> u32
     ensures { result ≡ flat_told (adapter_of (byte_of entry.code) (byte_of entry.port)) }
 {
     flat_byte(adapter_num(entry_of(entry)))
 }
 
 // 1 if the entry reports an unplug, 0 if not, or ABSENT.
-#[unsafe(no_mangle)]
-pub extern "C" fn ck_unplug(entry: Flat) -> u32
+pub fn ck_unplug(entry: Flat) -> u32
     ensures { result ≡ flat_told (as_number (unplug_of (byte_of entry.unplug))) }
 {
     flat_flag(unplug(entry_of(entry)))

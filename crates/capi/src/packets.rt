@@ -26,8 +26,7 @@ pub struct PacketAnswer {
 }
 
 // The packet of a kind over a book, the place of each dword's entry in the first places.
-#[unsafe(no_mangle)]
-pub extern "C" fn ck_packet(
+pub fn ck_packet(
     kind: u8,
     book: &[u8],
     dwords: &[u32],
@@ -39,8 +38,7 @@ pub extern "C" fn ck_packet(
 }
 
 // The same over a book that was checked before, and is not again. Any other book is taken too.
-#[unsafe(no_mangle)]
-pub extern "C" fn ck_checked_packet(
+pub fn ck_checked_packet(
     kind: u8,
     book: &[u8],
     dwords: &[u32],
@@ -52,8 +50,7 @@ pub extern "C" fn ck_checked_packet(
 }
 
 // Many packets over one book, which is checked once.
-#[unsafe(no_mangle)]
-pub extern "C" fn ck_packet_all(
+pub fn ck_packet_all(
     book: &[u8],
     kinds: &[u8],
     counts: &[u32],
@@ -127,8 +124,7 @@ pub struct TextPacket {
 
 // The packet of a text that is a record if it starts with A1, else a line: its dwords in the first slots, the places of their entries in the
 // first places. Numbers of the text come before those of the packet. A bad piece of a line's data refuses it: 18.
-#[unsafe(no_mangle)]
-pub extern "C" fn ck_read_packet(
+pub fn ck_read_packet(
     text: &[u8],
     book: &[u8],
     slots: &mut [u32],
@@ -140,8 +136,7 @@ pub extern "C" fn ck_read_packet(
 }
 
 // The same, but bad pieces are left out.
-#[unsafe(no_mangle)]
-pub extern "C" fn ck_read_packet_lenient(
+pub fn ck_read_packet_lenient(
     text: &[u8],
     book: &[u8],
     slots: &mut [u32],

@@ -36,16 +36,14 @@ pub struct PlaceAnswer {
 }
 
 // Makes an empty table.
-#[unsafe(no_mangle)]
-pub extern "C" fn ck_pending_clear(slots: &mut [Slot])
+pub fn ck_pending_clear(slots: &mut [Slot])
     ensures { slots.new ≡ replicate (length slots.old) free_slot }
 {
     clear(slots);
 }
 
 // One entry over the table.
-#[unsafe(no_mangle)]
-pub extern "C" fn ck_pending_step(f: Flat, slots: &mut [Slot]) -> StepAnswer
+pub fn ck_pending_step(f: Flat, slots: &mut [Slot]) -> StepAnswer
     ensures { Stepped f slots.old result slots.new }
 {
     let entry = entry_of(f);
@@ -54,8 +52,7 @@ pub extern "C" fn ck_pending_step(f: Flat, slots: &mut [Slot]) -> StepAnswer
 }
 
 // How many requests wait.
-#[unsafe(no_mangle)]
-pub extern "C" fn ck_pending_waiting(slots: &[Slot]) -> CountAnswer
+pub fn ck_pending_waiting(slots: &[Slot]) -> CountAnswer
     ensures { Counted slots.now result }
 {
     let count = waiting(slots);
@@ -63,8 +60,7 @@ pub extern "C" fn ck_pending_waiting(slots: &[Slot]) -> CountAnswer
 }
 
 // Where the k-th oldest of them lies.
-#[unsafe(no_mangle)]
-pub extern "C" fn ck_pending_oldest(slots: &[Slot], k: u32) -> PlaceAnswer
+pub fn ck_pending_oldest(slots: &[Slot], k: u32) -> PlaceAnswer
     ensures { Placed slots.now k result }
 {
     let place = oldest(slots, k);

@@ -24,8 +24,7 @@ pub struct StreamAnswer {
 }
 
 // A part's bytes up to the end of the next unit, and its answer. A bad piece of a line's data refuses it: 18.
-#[unsafe(no_mangle)]
-pub extern "C" fn ck_stream_feed(
+pub fn ck_stream_feed(
     state: State,
     part: &[u8],
     rest: &mut [u8],
@@ -37,8 +36,7 @@ pub extern "C" fn ck_stream_feed(
 }
 
 // The same, but bad pieces are left out.
-#[unsafe(no_mangle)]
-pub extern "C" fn ck_stream_feed_lenient(
+pub fn ck_stream_feed_lenient(
     state: State,
     part: &[u8],
     rest: &mut [u8],
@@ -50,16 +48,14 @@ pub extern "C" fn ck_stream_feed_lenient(
 }
 
 // The stream's end: the open unit's answer, if there is one.
-#[unsafe(no_mangle)]
-pub extern "C" fn ck_stream_finish(state: State, rest: &[u8], slots: &mut [u32]) -> StreamAnswer
+pub fn ck_stream_finish(state: State, rest: &[u8], slots: &mut [u32]) -> StreamAnswer
     ensures { StreamEnded P.Strict rest.now slots.old state slots.new result }
 {
     finish_by(state, Pieces::Strict, rest, slots)
 }
 
 // The same, but bad pieces are left out.
-#[unsafe(no_mangle)]
-pub extern "C" fn ck_stream_finish_lenient(
+pub fn ck_stream_finish_lenient(
     state: State,
     rest: &[u8],
     slots: &mut [u32],

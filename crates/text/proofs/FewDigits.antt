@@ -14,7 +14,7 @@ use Rattle.text.specs.declared.number.Number.TheVariants as N
 use Rattle.text.specs.Class.{between, is_digit}
 use Rattle.text.specs.Number.{digit_of, value, bad_at, bad_first, value_within, reading_of, read_value}
 use Rattle.text.proofs.Places.{place_hit, place_end}
-use Rattle.text.proofs.Numbers.{at_least, Clean, clean_starts, clean_steps, is_bad, SoFar, whole_value}
+use Rattle.text.proofs.Numbers.{at_least, Clean, clean_starts, clean_steps, is_bad, whole_value}
 
 -- a decimal digit's value, and what any other byte is at least
 pub digit_is : (b : ℕ) → is_digit b ≡ true → digit_of b ≡ b - 48

@@ -1,21 +1,19 @@
 -- Hex numbers, and why a text is none: the digits start behind one `0x`, whose `x` is no digit, so each answer is the reading of what stands
 -- there; one proof over the limit serves every width. Assumes nothing.
-use Prim.Native.Nat.{ℕ, zero, suc, ◌+◌, ◌-◌, ◌≤◌, ◌<◌}
+use Prim.Native.Nat.{ℕ, ◌≤◌, ◌<◌}
 use mathlib.Core.Path.{◌≡◌, refl, sym, ap, ◌∙◌}
 use mathlib.Core.Bool.{Bool, true, false, cond, ◌&&◌}
 use mathlib.Core.List.{List, [], ◌∷◌}
 use mathlib.Core.Logic.{◌↔◌}
 use native.Mathlib.Omega.{arith}
-use lib.Dec.{leb, eqb}
-use lib.ListN.{length, get_or, drop, get_or-eq_default}
-use borrow.Author.Tests.{eq-eqb, ne_eqb, eqb-true, lt-leb, leb-false}
+use lib.ListN.{length, get_or, drop}
+use borrow.Author.Tests.{eq-eqb, ne_eqb, eqb-true}
 use Rattle.text.specs.declared.number.Number.TheVariants as N
 use Rattle.text.specs.declared.number.Reading.{Reading}
 use Rattle.text.specs.declared.number.Reading.TheVariants as R
 use Rattle.text.specs.Class.{between, is_digit}
-use Rattle.text.specs.Place.{is_at, First}
-use Rattle.text.specs.Number.{digit_of, value, Reads, HexNumber, DigitsFrom, EmptyHex, BadHex, WideHex, Means, bad_at, digits_from, hex_of, read_value, hex_number_of}
-use Rattle.text.proofs.Places.{by_order}
+use Rattle.text.specs.Place.{is_at}
+use Rattle.text.specs.Number.{digit_of, value, Reads, HexNumber, DigitsFrom, EmptyHex, Means, digits_from, hex_of, read_value, hex_number_of}
 use Rattle.text.proofs.Texts.{both_left, both_right}
 use Rattle.text.proofs.Numbers.{Judged, judged, judged_all, judged_reads, reads_judged, value_read}
 

@@ -17,10 +17,10 @@ use Rattle.text.specs.declared.number.Number.{Number}
 use Rattle.text.specs.declared.number.Number.TheVariants as N
 use Rattle.text.specs.declared.number.Reading.{Reading}
 use Rattle.text.specs.declared.number.Reading.TheVariants as R
-use Rattle.text.specs.Class.{between, is_digit}
+use Rattle.text.specs.Class.{between}
 use Rattle.text.specs.Place.{Free, First, first_place}
 use Rattle.text.specs.Number.{digit_of, value, Reads, all_digits, number_of, bad_at, bad_first, reason_of, value_within, reading_of, read_value}
-use Rattle.text.proofs.Places.{by_order, first_is, first_all, first_none, first_free, place_hit, place_miss, place_end}
+use Rattle.text.proofs.Places.{first_is, first_all, first_none, first_free, place_hit, place_miss, place_end}
 use Rattle.text.proofs.Texts.{both_left, both_right}
 
 -- a value only grows

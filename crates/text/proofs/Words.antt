@@ -5,14 +5,14 @@ use mathlib.Core.Bool.{Bool, true, false, ◌&&◌}
 use mathlib.Core.List.{List, [], ◌∷◌}
 use native.Mathlib.Omega.{arith}
 use native.Mathlib.Numerals.{add-one}
-use native.Mathlib.Nat.{pow-suc, pow-le-pow_right, mul_assoc, mul_comm, mul-le-mul_left}
+use native.Mathlib.Nat.{pow-suc, pow-le-pow_right, mul_assoc, mul_comm}
 use lib.Dec.{eqb, ltb}
 use lib.Arith.{digits_mod}
 use lib.Pow.{pow-add}
 use lib.Bits.{bit_and, and_mask}
 use lib.ListN.{length, get_or, take, drop, drop_of_length-le, get_or-eq_default}
 use lib.Seq.{drop-cons}
-use borrow.Author.Tests.{eq-eqb, ne_eqb, eqb-true, ltb-true}
+use borrow.Author.Tests.{eq-eqb, ne_eqb, ltb-true}
 use Rattle.text.specs.Same.{same_text}
 use Rattle.text.proofs.Places.{by_order}
 use Rattle.text.proofs.Texts.{both_left, both_right}

@@ -1,6 +1,5 @@
 -- Quoted texts as bytes, for the document's constants and for worked examples.
 use Rattle.std.specs.Prelude.{ℕ, List}
-use mathlib.Core.List as List
 use Prim.Native.String.{String, [], ◌∷◌}
 use Prim.Native.Char.{code}
 

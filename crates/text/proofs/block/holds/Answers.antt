@@ -3,7 +3,6 @@ use Prim.Native.Nat.{◌+◌}
 use Rattle.text.proofs.Blocks.{none_yet, one_more, some_of, flag_tells}
 use Rattle.text.proofs.Places.{clash}
 use borrow.Author.Tests.{eq-eqb, ne_eqb}
-use mathlib.Core.Bool.{true, false}
 use mathlib.Core.Path.{◌≡◌, refl, sym, ◌∙◌}
 use native.Mathlib.Omega.{arith}
 use Rattle.text.proofs.block.holds.Goals as goal

@@ -1,11 +1,10 @@
 -- `number::leading` meets its contract: what is read so far is a `ReadTo`, and digits that no further one follows are the whole run. Assumes nothing.
-use Prim.Native.Nat.{ℕ, ◌<◌, ◌-◌}
+use Prim.Native.Nat.{ℕ, ◌-◌}
 use Rattle.text.proofs.DigitRuns.{read_starts, read_fits, read_steps, digit_above, leading_none, leading_some}
-use Rattle.text.specs.Class.{is_digit, in_class}
+use Rattle.text.specs.Class.{in_class}
 use Rattle.text.specs.Number.{number_of}
-use lib.ListN.{length, get_or, take, drop}
-use mathlib.Core.Bool.{false}
-use mathlib.Core.Path.{◌≡◌, ap, ◌∙◌}
+use lib.ListN.{take, drop}
+use mathlib.Core.Path.{ap, ◌∙◌}
 use native.Mathlib.Omega.{arith}
 use Rattle.text.proofs.number.leading.Goals as goal
 use Rattle.text.proofs.number.leading.Goals.{else-loop-i-test, then-loop-i-test+then-d-ge-TEN}

@@ -1,6 +1,6 @@
 -- What is read is a record of the grammar: good fields with ascending tags are those found tag by tag, and each is the row of the value that they
 -- give. Assumes nothing.
-use Prim.Native.Nat.{ℕ, suc, ◌+◌, ◌-◌, ◌*◌, ◌/◌, ◌≤◌, ◌<◌}
+use Prim.Native.Nat.{ℕ, suc, ◌+◌, ◌*◌, ◌/◌, ◌≤◌, ◌<◌}
 use mathlib.Core.Path.{◌≡◌, ◌∙◌, sym, ap, refl}
 use mathlib.Core.Bool.{Bool, true, false, cond, not, false≢true}
 use mathlib.Core.List.{List, [], ◌∷◌, ◌++◌, append-nil}
@@ -17,7 +17,7 @@ use Rattle.tlv.specs.declared.Step.{Step}
 use Rattle.tlv.specs.declared.Step.TheVariants.{Field, Stray, Overrun, End}
 use Rattle.tlv.specs.Number.{Bytes, number, number_bytes}
 use Rattle.tlv.specs.Grammar.{Piece, field_bytes, fields_bytes, All}
-use Rattle.tlv.specs.Reading.{field_at, Part, between, fills, parts}
+use Rattle.tlv.specs.Reading.{field_at, Part, between, fills}
 use Rattle.tlv.proofs.Fields.{Found, field_found}
 use Rattle.tlv.proofs.Places.{between_end}
 use Rattle.tlv.proofs.Pieces.{part_made, fills_made}
@@ -264,20 +264,20 @@ module _ (t : List ℕ) (bytes : Bytes t) (p : Passes t) where
 
   dwords_are : dwords_of t ≡ dwords_at words.body 0 (length words.body / 4)
   unfolding dwords_of
-  dwords_are = rw count_is (dwords_read t words.has (length words.body / 4) word_size.0)
+  dwords_are = rw count_is (dwords_read t words.has (length words.body / 4) word_size_lem.0)
 
   pub dwords_count : length (dwords_of t) ≡ dword_count t
   dwords_count = ap length dwords_are ∙ dwords_length words.body 0 (length words.body / 4) ∙ sym count_is
 
   pub count_few : dword_count t ≤ 256
-  count_few = rw count_is word_size.1
+  count_few = rw count_is word_size_lem.1
 
   dwords_bytes_lem : dwords_bytes (dwords_of t) ≡ words.body
   dwords_bytes_lem =
       let n : ℕ = length words.body / 4 in
-      let whole : take (4 * n) words.body ≡ words.body = take_all (4 * n) words.body (omega (arith, word_size.0)) in
+      let whole : take (4 * n) words.body ≡ words.body = take_all (4 * n) words.body (omega (arith, word_size_lem.0)) in
       rw dwords_are
-      (sym (dwords_made words.body (body_bytes t words.has bytes) n 0 (omega (arith, word_size.0))) ∙ whole)
+      (sym (dwords_made words.body (body_bytes t words.has bytes) n 0 (omega (arith, word_size_lem.0))) ∙ whole)
 
   dwords_part : (value_in t).dwords ≡ dwords_of t
   unfolding value_in value_of entry_of dword_count

@@ -14,8 +14,8 @@ returns-then-not-is_known c =
 
 pub returns-then-fits : goal.returns-then-fits
 returns-then-fits c =
-    body-good _ _ _ _ c.if-tag-last.false (ap is_known (sym c.rule_of-rule.ensures) ∙ sym c.is_known.ensures ∙ not-false _ c.if-not-is_known.false-raw) (rw (← c.rule_of-rule.ensures, ← c.task_size.ensures.0) (sym c.fits2.ensures ∙ c.if-fits.true))
+    body-good _ _ _ _ c.if-tag-last.false (ap is_known (sym c.rule_of-rule.ensures) ∙ sym c.is_known.ensures ∙ not-false _ c.if-not-is_known.false-raw) (rw (← c.rule_of-rule.ensures, ← c.task_size.ensures.0) (sym c.fits.ensures ∙ c.if-fits.true))
 
 pub returns : goal.returns
 returns c =
-    body-bad _ _ _ _ c.if-tag-last.false (ap is_known (sym c.rule_of-rule.ensures) ∙ sym c.is_known.ensures ∙ not-false _ c.if-not-is_known.false-raw) (rw (← c.rule_of-rule.ensures, ← c.task_size.ensures.0) (sym c.fits2.ensures ∙ c.if-fits.false))
+    body-bad _ _ _ _ c.if-tag-last.false (ap is_known (sym c.rule_of-rule.ensures) ∙ sym c.is_known.ensures ∙ not-false _ c.if-not-is_known.false-raw) (rw (← c.rule_of-rule.ensures, ← c.task_size.ensures.0) (sym c.fits.ensures ∙ c.if-fits.false))

@@ -1,6 +1,5 @@
 -- `rule::fits_text` meets its contract: what is left to read is `Passed`, and each way out is one of its laws. Assumes nothing.
 use Rattle.record.proofs.Texts.{text_empty, passed_starts, passed-stops, passed-steps, passed-ends}
-use Rattle.record.specs.Rule.{is_letter}
 use borrow.Author.Tests.{not-true, not-false}
 use mathlib.Core.Path.{sym, ◌∙◌}
 use Rattle.record.proofs.rule.fits_text.Goals as goal

@@ -6,6 +6,7 @@ ghost use Rattle.std.specs.Prelude.{◌≡◌};
 ghost use Rattle.choice.specs.Words.{asked_by, NotStrict, StrictByNone};
 
 use scan::Pieces;
+use std::env::{Env, FillError};
 use text::same::same;
 
 // The choice, or that the arguments are none that the program takes.
@@ -16,11 +17,23 @@ pub enum Asked {
 }
 
 // What the arguments behind the first so many say, the program's name counted: nothing more is strict, `lenient` alone is lenient.
-pub fn ask_choice(before: usize) -> Asked {
-    ask_among(os::arg_count(), before)
+pub fn ask_choice<E: Env>(env: &E, before: usize) -> Asked {
+    ask_among(env, arg_count(env), before)
 }
 
-fn ask_among(count: usize, before: usize) -> Asked
+// How many arguments there are, the program's name counted. An argument is its bytes, whether they are text or not.
+pub fn arg_count<E: Env>(env: &E) -> usize {
+    let mut word = [0u8; 4096];
+    for i in 0..usize::MAX {
+        match env.arg(i, &mut word) {
+            Err(FillError::NotPresent) => return i,
+            _ => {}
+        }
+    }
+    usize::MAX
+}
+
+fn ask_among<E: Env>(env: &E, count: usize, before: usize) -> Asked
     ensures { StrictByNone count before result }
 {
     if count == before {
@@ -30,21 +43,20 @@ fn ask_among(count: usize, before: usize) -> Asked
         return Asked::Wrong;
     }
     if count - before == 1 {
-        return choice_at(before);
+        return choice_at(env, before);
     }
     Asked::Wrong
 }
 
 // An argument that is longer than the buffer is no word of ours.
-fn choice_at(place: usize) -> Asked
+fn choice_at<E: Env>(env: &E, place: usize) -> Asked
     ensures { NotStrict result }
 {
-    let mut word = io::buffer();
-    let n = os::arg(place, &mut word);
-    if os::errno() != 0 {
-        return Asked::Wrong;
+    let mut word = [0u8; 4096];
+    match env.arg(place, &mut word) {
+        Ok(n) => choice_of(&word[..n]),
+        Err(_) => Asked::Wrong,
     }
-    choice_of(&word[..n])
 }
 
 fn choice_of(word: &[u8]) -> Asked

@@ -2,7 +2,8 @@
 #![tactic(auto)]
 
 use moving::{Program, run_filter};
+use std::process::ExitCode;
 
-fn main() {
-    run_filter(Program::Listing);
+fn main(rt: HostRuntime) -> ExitCode {
+    run_filter(&rt, Program::Listing)
 }

@@ -10,12 +10,16 @@ use crate::part::show_cut;
 use crate::state::{State, closed, run_of, with_run};
 use channel::sentence::{tell, tell_fault};
 use channel::status::{Status, give_status};
+use channel::streams::Streams;
 use filters::{Filter, finish};
 use scan::Pieces;
+use std::io::{Stderr, Stdout};
+use std::process::ExitCode;
 use units::Framing;
 
 // What is open still, and the totals.
 pub fn end_input(
+    to: Streams,
     program: Program,
     book: &[u8],
     unit: &[u8],
@@ -26,11 +30,12 @@ pub fn end_input(
     requires { (5400 ≤ length out.old) × (400 ≤ length told.old) × (Fits (framing_by program) unit.now (length out.old) (length told.old) state) }
     ensures { Fits (framing_by program) unit.now (length out.old) (length told.old) result }
 {
-    let roomy = make_room(program, unit, out, told, state);
-    closed(end_by(program, book, unit, out, told, roomy))
+    let roomy = make_room(to, program, unit, out, told, state);
+    closed(end_by(to.output, program, book, unit, out, told, roomy))
 }
 
 fn end_by(
+    to: Stdout,
     program: Program,
     book: &[u8],
     unit: &[u8],
@@ -45,7 +50,7 @@ fn end_by(
         Program::Listing => end_filter(Filter::Listing, unit, out, told, state),
         Program::Pack(pieces) => end_filter(Filter::Pack(pieces), unit, out, told, state),
         Program::Unpack(pieces) => end_filter(Filter::Unpack(pieces), unit, out, told, state),
-        Program::Show(pieces) => end_show(book, pieces, unit, out, told, state),
+        Program::Show(pieces) => end_show(to, book, pieces, unit, out, told, state),
     }
 }
 
@@ -62,6 +67,7 @@ fn end_filter(filter: Filter, unit: &[u8], out: &mut [u8], told: &mut [u8], stat
 
 // A last unit that has not ended counts if it has a byte.
 fn end_show(
+    to: Stdout,
     book: &[u8],
     pieces: Pieces,
     unit: &[u8],
@@ -77,50 +83,51 @@ fn end_show(
         passed: state.passed,
     };
     let cut = units::finish(Framing::Both, kept, unit);
-    show_cut(book, pieces, cut, unit, out, state)
+    show_cut(to, book, pieces, cut, unit, out, state)
 }
 
-// One sentence for what kept the program from its work, and its status; nothing where all went well.
-pub fn tell_end(program: Program, state: State) {
+// One sentence for what kept the program from its work, and its status; success where all went well.
+pub fn tell_end(to: Stderr, program: Program, state: State) -> ExitCode {
     if 0 < state.unwritten {
         tell_moved(
+            to,
             program,
             b"writing standard output",
             state.unwritten,
             state.whole,
         );
-        give_status(Status::Fault);
-        return;
+        return give_status(Status::Fault);
     }
     if 0 < state.unread {
         tell_moved(
+            to,
             program,
             b"reading standard input",
             state.unread,
             state.whole,
         );
-        give_status(Status::Fault);
-        return;
+        return give_status(Status::Fault);
     }
     if state.untold {
-        give_status(Status::Fault);
+        return give_status(Status::Fault);
+    }
+    ExitCode::SUCCESS
+}
+
+fn tell_moved(to: Stderr, program: Program, what: &[u8], errno: u32, whole: u64) {
+    match program {
+        Program::Listing => tell_fault(to, b"listing", what, errno, b"rows", whole),
+        Program::Pack(_) => tell_fault(to, b"pack", what, errno, b"records", whole),
+        Program::Unpack(_) => tell_fault(to, b"unpack", what, errno, b"rows", whole),
+        Program::Show(_) => tell_fault(to, b"show", what, errno, b"rows", whole),
     }
 }
 
-fn tell_moved(program: Program, what: &[u8], errno: u32, whole: u64) {
+pub fn tell_usage(to: Stderr, program: Program) {
     match program {
-        Program::Listing => tell_fault(b"listing", what, errno, b"rows", whole),
-        Program::Pack(_) => tell_fault(b"pack", what, errno, b"records", whole),
-        Program::Unpack(_) => tell_fault(b"unpack", what, errno, b"rows", whole),
-        Program::Show(_) => tell_fault(b"show", what, errno, b"rows", whole),
-    }
-}
-
-pub fn tell_usage(program: Program) {
-    match program {
-        Program::Listing => tell(b"usage: listing < LINES\n"),
-        Program::Pack(_) => tell(b"usage: pack [lenient] < LINES-AND-RECORDS > RECORDS\n"),
-        Program::Unpack(_) => tell(b"usage: unpack [lenient] < LINES-AND-RECORDS\n"),
-        Program::Show(_) => tell(b"usage: show BOOK [lenient] < LINES-AND-RECORDS\n"),
+        Program::Listing => tell(to, b"usage: listing < LINES\n"),
+        Program::Pack(_) => tell(to, b"usage: pack [lenient] < LINES-AND-RECORDS > RECORDS\n"),
+        Program::Unpack(_) => tell(to, b"usage: unpack [lenient] < LINES-AND-RECORDS\n"),
+        Program::Show(_) => tell(to, b"usage: show BOOK [lenient] < LINES-AND-RECORDS\n"),
     }
 }

@@ -16,9 +16,11 @@ use crate::part::move_part;
 use crate::state::{State, begin, unread};
 use channel::reading::{Got, read_some};
 use channel::status::{Status, give_status};
-use choice::{Asked, ask_choice};
-use libc::STDIN_FILENO;
+use channel::streams::{Streams, streams_of};
+use choice::{Asked, arg_count, ask_choice};
 use scan::Pieces;
+use std::io::Stderr;
+use std::process::ExitCode;
 
 // All but the listing take lines and records, and read lines by a choice.
 #[derive(Clone, Copy)]
@@ -29,62 +31,66 @@ pub enum Program {
     Show(Pieces),
 }
 
-// A whole program that takes no argument.
-pub fn run_filter(program: Program) {
-    if os::arg_count() == 1 {
-        run_program(program, b"");
+// A whole program that takes no argument; the status that it ends with.
+pub fn run_filter(rt: &HostRuntime, program: Program) -> ExitCode {
+    if arg_count(rt) == 1 {
+        run_program(streams_of(rt), program, b"")
     } else {
-        give_usage(program);
+        give_usage(rt.stderr(), program)
     }
 }
 
 // The program `pack`, which may be told its choice.
-pub fn run_pack() {
-    match ask_choice(1) {
-        Asked::Choice(pieces) => run_program(Program::Pack(pieces), b""),
-        Asked::Wrong => give_usage(Program::Pack(Pieces::Strict)),
+pub fn run_pack(rt: &HostRuntime) -> ExitCode {
+    match ask_choice(rt, 1) {
+        Asked::Choice(pieces) => run_program(streams_of(rt), Program::Pack(pieces), b""),
+        Asked::Wrong => give_usage(rt.stderr(), Program::Pack(Pieces::Strict)),
     }
 }
 
 // The program `unpack`, which may be told its choice.
-pub fn run_unpack() {
-    match ask_choice(1) {
-        Asked::Choice(pieces) => run_program(Program::Unpack(pieces), b""),
-        Asked::Wrong => give_usage(Program::Unpack(Pieces::Strict)),
+pub fn run_unpack(rt: &HostRuntime) -> ExitCode {
+    match ask_choice(rt, 1) {
+        Asked::Choice(pieces) => run_program(streams_of(rt), Program::Unpack(pieces), b""),
+        Asked::Wrong => give_usage(rt.stderr(), Program::Unpack(Pieces::Strict)),
     }
 }
 
-pub fn give_usage(program: Program) {
-    tell_usage(program);
-    give_status(Status::BadCall);
+pub fn give_usage(to: Stderr, program: Program) -> ExitCode {
+    tell_usage(to, program);
+    give_status(Status::BadCall)
 }
 
 // A whole program, over a book that was checked; the filters have none.
-pub fn run_program(program: Program, book: &[u8]) {
-    let mut input = io::large_buffer();
+pub fn run_program(streams: Streams, program: Program, book: &[u8]) -> ExitCode {
+    let mut input = [0u8; 65536];
     let mut unit = [0u8; 8192];
-    let mut out = io::large_buffer();
-    let mut told = io::large_buffer();
-    move_input(program, book, &mut input, &mut unit, &mut out, &mut told);
+    let mut out = [0u8; 65536];
+    let mut told = [0u8; 65536];
+    move_input(
+        streams, program, book, &mut input, &mut unit, &mut out, &mut told,
+    )
 }
 
 fn move_input(
+    streams: Streams,
     program: Program,
     book: &[u8],
     input: &mut [u8],
     unit: &mut [u8],
     out: &mut [u8],
     told: &mut [u8],
-)
+) -> ExitCode
     requires { (length unit.old ≡ 8192) × (5400 ≤ length out.old) × (400 ≤ length told.old) }
 {
-    let end = move_all(program, book, input, unit, out, told);
-    let done = drain(program, out, told, end);
-    tell_end(program, done);
+    let end = move_all(streams, program, book, input, unit, out, told);
+    let done = drain(streams, program, out, told, end);
+    tell_end(streams.error, program, done)
 }
 
 // Part after part to the end of the input. No input lasts for all the turns.
 fn move_all(
+    streams: Streams,
     program: Program,
     book: &[u8],
     input: &mut [u8],
@@ -98,7 +104,7 @@ fn move_all(
     let mut state = begin();
     let mut turns = u64::MAX;
     while 0 < turns {
-        state = move_next(program, book, input, unit, out, told, state);
+        state = move_next(streams, program, book, input, unit, out, told, state);
         if !state.open {
             return state;
         }
@@ -109,6 +115,7 @@ fn move_all(
 
 // The next part, or the end.
 fn move_next(
+    streams: Streams,
     program: Program,
     book: &[u8],
     input: &mut [u8],
@@ -120,9 +127,10 @@ fn move_next(
     requires { (5400 ≤ length out.old) × (400 ≤ length told.old) × (Fits (framing_by program) unit.old (length out.old) (length told.old) state) }
     ensures { Fits (framing_by program) unit.new (length out.old) (length told.old) result }
 {
-    match read_some(STDIN_FILENO, input) {
-        Got::Bytes(n) => move_part(program, book, &input[..n], unit, out, told, state),
-        Got::End => end_input(program, book, unit, out, told, state),
+    let mut from = streams.input;
+    match read_some(&mut from, input) {
+        Got::Bytes(n) => move_part(streams, program, book, &input[..n], unit, out, told, state),
+        Got::End => end_input(streams, program, book, unit, out, told, state),
         Got::Failed(why) => unread(state, why),
     }
 }

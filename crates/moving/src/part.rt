@@ -10,13 +10,16 @@ use crate::Program;
 use crate::output::make_room;
 use crate::state::{State, closed, is_over, run_of, with_run};
 use channel::sink::{Sink, sum};
+use channel::streams::Streams;
 use filters::{Counts, Filter, take_some};
 use scan::Pieces;
 use shown::show_unit;
+use std::io::Stdout;
 use units::{Framing, Unit, feed_on};
 
 // All of it, with room made where too little is left.
 pub fn move_part(
+    to: Streams,
     program: Program,
     book: &[u8],
     part: &[u8],
@@ -31,8 +34,8 @@ pub fn move_part(
     let mut now = state;
     now.from = 0;
     while now.from < part.len() {
-        let roomy = make_room(program, unit, out, told, now);
-        now = move_some(program, book, part, unit, out, told, roomy);
+        let roomy = make_room(to, program, unit, out, told, now);
+        now = move_some(to.output, program, book, part, unit, out, told, roomy);
         if is_over(now) {
             return closed(now);
         }
@@ -41,6 +44,7 @@ pub fn move_part(
 }
 
 fn move_some(
+    to: Stdout,
     program: Program,
     book: &[u8],
     part: &[u8],
@@ -58,7 +62,7 @@ fn move_some(
         Program::Unpack(pieces) => {
             filter_some(Filter::Unpack(pieces), part, unit, out, told, state)
         }
-        Program::Show(pieces) => show_some(book, pieces, part, unit, out, told, state),
+        Program::Show(pieces) => show_some(to, book, pieces, part, unit, out, told, state),
     }
 }
 
@@ -79,6 +83,7 @@ fn filter_some(
 
 // Up to the end of the next unit.
 fn show_some(
+    to: Stdout,
     book: &[u8],
     pieces: Pieces,
     part: &[u8],
@@ -101,11 +106,12 @@ fn show_some(
     next.from = fed.at;
     next.held = left.held;
     next.passed = left.passed;
-    show_cut(book, pieces, cut, unit, out, next)
+    show_cut(to, book, pieces, cut, unit, out, next)
 }
 
 // What is shown of a unit that was cut off: nothing where none was. Asked for: that its bytes stand in the unit buffer.
 pub fn show_cut(
+    to: Stdout,
     book: &[u8],
     pieces: Pieces,
     cut: Unit,
@@ -121,6 +127,7 @@ pub fn show_cut(
     }
     let units = sum(state.counts.units, 1);
     let sink = show_unit(
+        to,
         book,
         cut,
         unit,

@@ -2,7 +2,8 @@
 #![tactic(auto)]
 
 use moving::run_pack;
+use std::process::ExitCode;
 
-fn main() {
-    run_pack();
+fn main(rt: HostRuntime) -> ExitCode {
+    run_pack(&rt)
 }

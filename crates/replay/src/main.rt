@@ -4,9 +4,12 @@
 
 ghost use Rattle.std.specs.Prelude.{◌≡◌, ◌+◌, ◌≤◌, ◌<◌, length};
 
-use libc::{STDIN_FILENO, STDOUT_FILENO};
+use channel::reading::{Filled, read_whole};
+use channel::streams::{Streams, streams_of};
+use channel::writing::write_whole;
 use oracle_line_rows::put_answer;
 use scan::Pieces;
+use std::io::{Stdin, Stdout};
 
 #[derive(Clone, Copy)]
 struct Head {
@@ -28,26 +31,27 @@ struct Step {
     more: bool,
 }
 
-fn main() {
+fn main(rt: HostRuntime) {
     let mut line = [0u8; 8192];
     let mut slots = [0u32; 1024];
-    let mut out = io::large_buffer();
-    answer_all(&mut line, &mut slots, &mut out);
+    let mut out = [0u8; 65536];
+    answer_all(streams_of(&rt), &mut line, &mut slots, &mut out);
 }
 
-fn answer_all(line: &mut [u8], slots: &mut [u32], out: &mut [u8]) {
-    let at = answer_frames(line, slots, out);
-    io::write_all(STDOUT_FILENO, &out[..at]);
+fn answer_all(streams: Streams, line: &mut [u8], slots: &mut [u32], out: &mut [u8]) {
+    let at = answer_frames(streams, line, slots, out);
+    let mut to = streams.output;
+    write_whole(&mut to, &out[..at]);
 }
 
 // Frame after frame to the end of the input. No input lasts for all the turns.
-fn answer_frames(line: &mut [u8], slots: &mut [u32], out: &mut [u8]) -> usize
+fn answer_frames(streams: Streams, line: &mut [u8], slots: &mut [u32], out: &mut [u8]) -> usize
     ensures { result ≤ length out.old }
 {
     let mut at = 0;
     let mut turns = u64::MAX;
     while 0 < turns {
-        let step = answer_next(line, slots, out, at);
+        let step = answer_next(streams, line, slots, out, at);
         at = step.at;
         if !step.more {
             return at;
@@ -57,12 +61,18 @@ fn answer_frames(line: &mut [u8], slots: &mut [u32], out: &mut [u8]) -> usize
     at
 }
 
-fn answer_next(line: &mut [u8], slots: &mut [u32], out: &mut [u8], at: usize) -> Step
+fn answer_next(
+    streams: Streams,
+    line: &mut [u8],
+    slots: &mut [u32],
+    out: &mut [u8],
+    at: usize,
+) -> Step
     requires { at ≤ length out.old }
     ensures { result.at ≤ length out.old }
 {
-    match read_head() {
-        HeadAnswer::Got(head) => answer_frame(line, slots, out, at, head),
+    match read_head(streams.input) {
+        HeadAnswer::Got(head) => answer_frame(streams, line, slots, out, at, head),
         HeadAnswer::End => Step {
             at: at,
             more: false,
@@ -71,7 +81,14 @@ fn answer_next(line: &mut [u8], slots: &mut [u32], out: &mut [u8], at: usize) ->
 }
 
 // A frame longer than the line buffer, or cut short, ends the run.
-fn answer_frame(line: &mut [u8], slots: &mut [u32], out: &mut [u8], at: usize, head: Head) -> Step
+fn answer_frame(
+    streams: Streams,
+    line: &mut [u8],
+    slots: &mut [u32],
+    out: &mut [u8],
+    at: usize,
+    head: Head,
+) -> Step
     requires { at ≤ length out.old }
     ensures { result.at ≤ length out.old }
 {
@@ -82,7 +99,7 @@ fn answer_frame(line: &mut [u8], slots: &mut [u32], out: &mut [u8], at: usize, h
             more: false,
         };
     }
-    let got = io::read_full(STDIN_FILENO, &mut line[..n]);
+    let got = read_full(streams.input, &mut line[..n]);
     if got < n {
         return Step {
             at: at,
@@ -90,7 +107,7 @@ fn answer_frame(line: &mut [u8], slots: &mut [u32], out: &mut [u8], at: usize, h
         };
     }
     let lent = least(head.slots, slots.len());
-    let room = make_room(out, at);
+    let room = make_room(streams.output, out, at);
     let pieces = head.pieces;
     let end = put_answer(out, room, &line[..n], pieces, &mut slots[..lent]);
     Step {
@@ -99,9 +116,19 @@ fn answer_frame(line: &mut [u8], slots: &mut [u32], out: &mut [u8], at: usize, h
     }
 }
 
-fn read_head() -> HeadAnswer {
+// How many bytes were read until the buffer was full or the input ended; none where a read failed.
+fn read_full(mut from: Stdin, buf: &mut [u8]) -> usize
+    ensures { result ≤ length buf.old }
+{
+    match read_whole(&mut from, buf) {
+        Filled::Bytes(n) => n,
+        Filled::Failed(_) => 0,
+    }
+}
+
+fn read_head(from: Stdin) -> HeadAnswer {
     let mut bytes = [0u8; 9];
-    let got = io::read_full(STDIN_FILENO, &mut bytes);
+    let got = read_full(from, &mut bytes);
     if got < 9 {
         return HeadAnswer::End;
     }
@@ -135,12 +162,12 @@ fn wide(x: u8) -> usize
 
 // Writes the output once less room is left than a row of the longest line takes: two digits a byte of task and function, nine
 // characters a dword, and some 400 for the rest.
-fn make_room(out: &[u8], at: usize) -> usize
+fn make_room(mut to: Stdout, out: &[u8], at: usize) -> usize
     requires { at ≤ length out.now }
     ensures { result ≤ length out.now }
 {
     if out.len() - at < 16_384 {
-        io::write_all(STDOUT_FILENO, &out[..at]);
+        write_whole(&mut to, &out[..at]);
         return 0;
     }
     at

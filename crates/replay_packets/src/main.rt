@@ -6,8 +6,11 @@
 
 ghost use Rattle.std.specs.Prelude.{◌≤◌, ◌<◌, length};
 
-use libc::{STDIN_FILENO, STDOUT_FILENO};
+use channel::reading::{Filled, read_whole};
+use channel::streams::{Streams, streams_of};
+use channel::writing::write_whole;
 use oracle_packet_rows::put_answer;
+use std::io::{Stdin, Stdout};
 use tlv::four_at;
 
 #[derive(Clone, Copy)]
@@ -42,26 +45,27 @@ struct Step {
     more: bool,
 }
 
-fn main() {
-    let mut book = io::large_buffer();
-    let mut names = io::large_buffer();
-    let mut out = io::large_buffer();
-    answer_all(&mut book, &mut names, &mut out);
+fn main(rt: HostRuntime) {
+    let mut book = [0u8; 65536];
+    let mut names = [0u8; 65536];
+    let mut out = [0u8; 65536];
+    answer_all(streams_of(&rt), &mut book, &mut names, &mut out);
 }
 
-fn answer_all(book: &mut [u8], names: &mut [u8], out: &mut [u8]) {
-    let at = answer_groups(book, names, out);
-    io::write_all(STDOUT_FILENO, &out[..at]);
+fn answer_all(streams: Streams, book: &mut [u8], names: &mut [u8], out: &mut [u8]) {
+    let at = answer_groups(streams, book, names, out);
+    let mut to = streams.output;
+    write_whole(&mut to, &out[..at]);
 }
 
 // Group after group to the end of the input. No input lasts for all the turns.
-fn answer_groups(book: &mut [u8], names: &mut [u8], out: &mut [u8]) -> usize
+fn answer_groups(streams: Streams, book: &mut [u8], names: &mut [u8], out: &mut [u8]) -> usize
     ensures { result ≤ length out.old }
 {
     let mut at = 0;
     let mut turns = u64::MAX;
     while 0 < turns {
-        let step = answer_next(book, names, out, at);
+        let step = answer_next(streams, book, names, out, at);
         at = step.at;
         if !step.more {
             return at;
@@ -71,12 +75,18 @@ fn answer_groups(book: &mut [u8], names: &mut [u8], out: &mut [u8]) -> usize
     at
 }
 
-fn answer_next(book: &mut [u8], names: &mut [u8], out: &mut [u8], at: usize) -> Step
+fn answer_next(
+    streams: Streams,
+    book: &mut [u8],
+    names: &mut [u8],
+    out: &mut [u8],
+    at: usize,
+) -> Step
     requires { at ≤ length out.old }
     ensures { result.at ≤ length out.old }
 {
-    match read_group() {
-        GroupAnswer::Got(group) => answer_group(book, names, out, at, group),
+    match read_group(streams.input) {
+        GroupAnswer::Got(group) => answer_group(streams, book, names, out, at, group),
         GroupAnswer::End => ended(at),
     }
 }
@@ -91,43 +101,57 @@ fn ended(at: usize) -> Step
     }
 }
 
-fn answer_group(book: &mut [u8], names: &mut [u8], out: &mut [u8], at: usize, group: Group) -> Step
+fn answer_group(
+    streams: Streams,
+    book: &mut [u8],
+    names: &mut [u8],
+    out: &mut [u8],
+    at: usize,
+    group: Group,
+) -> Step
     requires { at ≤ length out.old }
     ensures { result.at ≤ length out.old }
 {
-    let n = read_part(book, group.book);
+    let n = read_part(streams.input, book, group.book);
     if n < group.book {
         return ended(at);
     }
-    let m = read_part(names, group.names);
+    let m = read_part(streams.input, names, group.names);
     if m < group.names {
         return ended(at);
     }
-    answer_packets(&book[..n], &names[..m], out, at, group.packets)
+    answer_packets(streams, &book[..n], &names[..m], out, at, group.packets)
 }
 
 // So many bytes of the input, or none where the buffer is too small or the input ends; how many there are.
-fn read_part(buffer: &mut [u8], n: usize) -> usize
+fn read_part(from: Stdin, buffer: &mut [u8], n: usize) -> usize
     ensures { result ≤ length buffer.old }
 {
     if buffer.len() < n {
         return 0;
     }
-    let got = io::read_full(STDIN_FILENO, &mut buffer[..n]);
+    let got = read_full(from, &mut buffer[..n]);
     if got < n {
         return 0;
     }
     n
 }
 
-fn answer_packets(book: &[u8], names: &[u8], out: &mut [u8], start: usize, packets: usize) -> Step
+fn answer_packets(
+    streams: Streams,
+    book: &[u8],
+    names: &[u8],
+    out: &mut [u8],
+    start: usize,
+    packets: usize,
+) -> Step
     requires { start ≤ length out.old }
     ensures { result.at ≤ length out.old }
 {
     let mut at = start;
     let mut left = packets;
     while 0 < left {
-        let step = answer_packet(book, names, out, at);
+        let step = answer_packet(streams, book, names, out, at);
         at = step.at;
         if !step.more {
             return ended(at);
@@ -137,27 +161,34 @@ fn answer_packets(book: &[u8], names: &[u8], out: &mut [u8], start: usize, packe
     Step { at: at, more: true }
 }
 
-fn answer_packet(book: &[u8], names: &[u8], out: &mut [u8], at: usize) -> Step
+fn answer_packet(streams: Streams, book: &[u8], names: &[u8], out: &mut [u8], at: usize) -> Step
     requires { at ≤ length out.old }
     ensures { result.at ≤ length out.old }
 {
-    match read_head() {
-        HeadAnswer::Got(head) => answer_body(book, names, out, at, head),
+    match read_head(streams.input) {
+        HeadAnswer::Got(head) => answer_body(streams, book, names, out, at, head),
         HeadAnswer::End => ended(at),
     }
 }
 
 // A packet longer than its buffer, or cut short, ends the run.
-fn answer_body(book: &[u8], names: &[u8], out: &mut [u8], at: usize, head: Head) -> Step
+fn answer_body(
+    streams: Streams,
+    book: &[u8],
+    names: &[u8],
+    out: &mut [u8],
+    at: usize,
+    head: Head,
+) -> Step
     requires { at ≤ length out.old }
     ensures { result.at ≤ length out.old }
 {
     let mut body = [0u8; 4096];
-    let n = read_part(&mut body, head.length);
+    let n = read_part(streams.input, &mut body, head.length);
     if n < head.length {
         return ended(at);
     }
-    let end = answer_dwords(book, names, out, at, &body[..n], head.places);
+    let end = answer_dwords(streams, book, names, out, at, &body[..n], head.places);
     Step {
         at: end,
         more: true,
@@ -165,6 +196,7 @@ fn answer_body(book: &[u8], names: &[u8], out: &mut [u8], at: usize, head: Head)
 }
 
 fn answer_dwords(
+    streams: Streams,
     book: &[u8],
     names: &[u8],
     out: &mut [u8],
@@ -178,7 +210,7 @@ fn answer_dwords(
     let mut dwords = [0u32; 1024];
     let mut places = [0u32; 1024];
     let count = read_dwords(body, &mut dwords);
-    let room = make_room(out, at);
+    let room = make_room(streams.output, out, at);
     let kind = tlv::byte_at(body, 0);
     let m = least(lent, 1024);
     put_answer(
@@ -205,9 +237,19 @@ fn read_dwords(body: &[u8], dwords: &mut [u32]) -> usize
     count
 }
 
-fn read_group() -> GroupAnswer {
+// How many bytes were read until the buffer was full or the input ended; none where a read failed.
+fn read_full(mut from: Stdin, buf: &mut [u8]) -> usize
+    ensures { result ≤ length buf.old }
+{
+    match read_whole(&mut from, buf) {
+        Filled::Bytes(n) => n,
+        Filled::Failed(_) => 0,
+    }
+}
+
+fn read_group(from: Stdin) -> GroupAnswer {
     let mut bytes = [0u8; 12];
-    let got = io::read_full(STDIN_FILENO, &mut bytes);
+    let got = read_full(from, &mut bytes);
     if got < 12 {
         return GroupAnswer::End;
     }
@@ -218,9 +260,9 @@ fn read_group() -> GroupAnswer {
     })
 }
 
-fn read_head() -> HeadAnswer {
+fn read_head(from: Stdin) -> HeadAnswer {
     let mut bytes = [0u8; 8];
-    let got = io::read_full(STDIN_FILENO, &mut bytes);
+    let got = read_full(from, &mut bytes);
     if got < 8 {
         return HeadAnswer::End;
     }
@@ -231,12 +273,12 @@ fn read_head() -> HeadAnswer {
 }
 
 // Writes the output once less than half of the buffer is left for a row.
-fn make_room(out: &[u8], at: usize) -> usize
+fn make_room(mut to: Stdout, out: &[u8], at: usize) -> usize
     requires { at ≤ length out.now }
     ensures { result ≤ length out.now }
 {
     if out.len() - at < out.len() / 2 {
-        io::write_all(STDOUT_FILENO, &out[..at]);
+        write_whole(&mut to, &out[..at]);
         return 0;
     }
     at

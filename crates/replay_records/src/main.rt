@@ -5,9 +5,12 @@
 
 ghost use Rattle.std.specs.Prelude.{◌≤◌, length};
 
-use libc::{STDIN_FILENO, STDOUT_FILENO};
+use channel::reading::{Filled, read_whole};
+use channel::streams::{Streams, streams_of};
+use channel::writing::write_whole;
 use oracle_record_rows::put_record;
 use oracle_record_rows::set::Change;
+use std::io::{Stdin, Stdout};
 use tlv::{byte_at, eight_at, two_at};
 
 #[derive(Clone, Copy)]
@@ -31,25 +34,26 @@ struct Step {
     more: bool,
 }
 
-fn main() {
+fn main(rt: HostRuntime) {
     let mut text = [0u8; 8192];
-    let mut out = io::large_buffer();
-    answer_all(&mut text, &mut out);
+    let mut out = [0u8; 65536];
+    answer_all(streams_of(&rt), &mut text, &mut out);
 }
 
-fn answer_all(text: &mut [u8], out: &mut [u8]) {
-    let at = answer_frames(text, out);
-    io::write_all(STDOUT_FILENO, &out[..at]);
+fn answer_all(streams: Streams, text: &mut [u8], out: &mut [u8]) {
+    let at = answer_frames(streams, text, out);
+    let mut to = streams.output;
+    write_whole(&mut to, &out[..at]);
 }
 
 // Frame after frame to the end of the input. No input lasts for all the turns.
-fn answer_frames(text: &mut [u8], out: &mut [u8]) -> usize
+fn answer_frames(streams: Streams, text: &mut [u8], out: &mut [u8]) -> usize
     ensures { result ≤ length out.old }
 {
     let mut at = 0;
     let mut turns = u64::MAX;
     while 0 < turns {
-        let step = answer_next(text, out, at);
+        let step = answer_next(streams, text, out, at);
         at = step.at;
         if !step.more {
             return at;
@@ -59,12 +63,12 @@ fn answer_frames(text: &mut [u8], out: &mut [u8]) -> usize
     at
 }
 
-fn answer_next(text: &mut [u8], out: &mut [u8], at: usize) -> Step
+fn answer_next(streams: Streams, text: &mut [u8], out: &mut [u8], at: usize) -> Step
     requires { at ≤ length out.old }
     ensures { result.at ≤ length out.old }
 {
-    match read_head() {
-        HeadAnswer::Got(head) => answer_frame(text, out, at, head),
+    match read_head(streams.input) {
+        HeadAnswer::Got(head) => answer_frame(streams, text, out, at, head),
         HeadAnswer::End => Step {
             at: at,
             more: false,
@@ -73,7 +77,7 @@ fn answer_next(text: &mut [u8], out: &mut [u8], at: usize) -> Step
 }
 
 // A frame longer than the text buffer, or cut short, ends the run.
-fn answer_frame(text: &mut [u8], out: &mut [u8], at: usize, head: Head) -> Step
+fn answer_frame(streams: Streams, text: &mut [u8], out: &mut [u8], at: usize, head: Head) -> Step
     requires { at ≤ length out.old }
     ensures { result.at ≤ length out.old }
 {
@@ -84,14 +88,14 @@ fn answer_frame(text: &mut [u8], out: &mut [u8], at: usize, head: Head) -> Step
             more: false,
         };
     }
-    let got = io::read_full(STDIN_FILENO, &mut text[..n]);
+    let got = read_full(streams.input, &mut text[..n]);
     if got < n {
         return Step {
             at: at,
             more: false,
         };
     }
-    let begin = make_room(out, at);
+    let begin = make_room(streams.output, out, at);
     Step {
         at: answer_record(out, begin, &text[..n], head),
         more: true,
@@ -117,9 +121,19 @@ fn answer_record(out: &mut [u8], at: usize, text: &[u8], head: Head) -> usize
     )
 }
 
-fn read_head() -> HeadAnswer {
+// How many bytes were read until the buffer was full or the input ended; none where a read failed.
+fn read_full(mut from: Stdin, buf: &mut [u8]) -> usize
+    ensures { result ≤ length buf.old }
+{
+    match read_whole(&mut from, buf) {
+        Filled::Bytes(n) => n,
+        Filled::Failed(_) => 0,
+    }
+}
+
+fn read_head(from: Stdin) -> HeadAnswer {
     let mut bytes = [0u8; 15];
-    let got = io::read_full(STDIN_FILENO, &mut bytes);
+    let got = read_full(from, &mut bytes);
     if got < 15 {
         return HeadAnswer::End;
     }
@@ -136,12 +150,12 @@ fn read_head() -> HeadAnswer {
 
 // Writes the output once less room is left than a row of the longest record takes: two digits a byte of task and function, and of the record
 // again, nine characters a dword, and some 400 for the rest.
-fn make_room(out: &[u8], at: usize) -> usize
+fn make_room(mut to: Stdout, out: &[u8], at: usize) -> usize
     requires { at ≤ length out.now }
     ensures { result ≤ length out.now }
 {
     if out.len() - at < 24_576 {
-        io::write_all(STDOUT_FILENO, &out[..at]);
+        write_whole(&mut to, &out[..at]);
         return 0;
     }
     at

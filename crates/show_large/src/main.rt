@@ -2,7 +2,8 @@
 #![tactic(auto)]
 
 use showing::run_show;
+use std::process::ExitCode;
 
-fn main() {
-    run_show();
+fn main(rt: HostRuntime) -> ExitCode {
+    run_show(&rt)
 }

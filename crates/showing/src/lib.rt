@@ -7,75 +7,89 @@ use channel::fault::last_fault;
 use channel::reading::{Filled, read_whole};
 use channel::sentence::{tell, tell_failed};
 use channel::status::{Status, give_status};
+use channel::streams::{Streams, streams_of};
 use choice::{Asked, ask_choice};
 use moving::{Program, give_usage, run_program};
 use scan::Pieces;
+use std::env::{Env, FillError};
+use std::fs::File;
+use std::io::Stderr;
+use std::process::ExitCode;
 use text::same::same;
 
-// The whole program.
-pub fn run_show() {
-    match ask_choice(2) {
-        Asked::Choice(pieces) => show_named(pieces),
-        Asked::Wrong => give_usage(Program::Show(Pieces::Strict)),
+// EINVAL, for a path that is no text: std opens none by it.
+const NO_TEXT: u32 = 22;
+
+// ENAMETOOLONG.
+const TOO_LONG: u32 = 36;
+
+// The whole program; the status that it ends with.
+pub fn run_show(rt: &HostRuntime) -> ExitCode {
+    match ask_choice(rt, 2) {
+        Asked::Choice(pieces) => show_named(rt, pieces),
+        Asked::Wrong => give_usage(rt.stderr(), Program::Show(Pieces::Strict)),
     }
 }
 
-fn show_named(pieces: Pieces) {
-    let mut path = io::buffer();
-    let n = os::arg(1, &mut path);
-    // An argument that is longer than a path may be is none of the file's names.
-    if os::errno() != 0 {
-        refuse_with(b"opening the book");
-        return;
+fn show_named(rt: &HostRuntime, pieces: Pieces) -> ExitCode {
+    let mut path = [0u8; 4096];
+    match rt.arg(1, &mut path) {
+        Ok(n) => show_asked(rt, &path[..n], pieces),
+        // An argument that is longer than a path may be is none of the file's names.
+        Err(FillError::TooLong) => refuse_with(rt.stderr(), b"opening the book", TOO_LONG),
+        Err(FillError::NotPresent) => refuse_with(rt.stderr(), b"opening the book", NO_TEXT),
     }
-    if same(&path[..n], b"--help") {
-        give_usage(Program::Show(pieces));
-        return;
-    }
-    show_by(&path[..n], pieces);
 }
 
-fn show_by(path: &[u8], pieces: Pieces) {
-    let fd = os::open_read(path);
-    if fd < 0 {
-        refuse_with(b"opening the book");
-        return;
+fn show_asked(rt: &HostRuntime, path: &[u8], pieces: Pieces) -> ExitCode {
+    if same(path, b"--help") {
+        return give_usage(rt.stderr(), Program::Show(pieces));
     }
-    let mut book = io::large_buffer();
-    let filled = read_whole(fd, &mut book);
-    libc::close(fd);
-    show_filled(&book, pieces, filled);
+    match str::from_utf8(path) {
+        Ok(name) => show_by(rt, name, pieces),
+        Err(_) => refuse_with(rt.stderr(), b"opening the book", NO_TEXT),
+    }
 }
 
-fn show_filled(book: &[u8], pieces: Pieces, filled: Filled) {
+fn show_by(rt: &HostRuntime, path: &str, pieces: Pieces) -> ExitCode {
+    match File::open(rt, path) {
+        Ok(file) => show_file(streams_of(rt), file, pieces),
+        Err(error) => refuse_with(rt.stderr(), b"opening the book", last_fault(&error)),
+    }
+}
+
+fn show_file(streams: Streams, mut file: File, pieces: Pieces) -> ExitCode {
+    let mut book = [0u8; 65536];
+    let filled = read_whole(&mut file, &mut book);
+    drop(file);
+    show_filled(streams, &book, pieces, filled)
+}
+
+fn show_filled(streams: Streams, book: &[u8], pieces: Pieces, filled: Filled) -> ExitCode {
     match filled {
-        Filled::Bytes(n) => show_book(book, n, pieces),
-        Filled::Failed(errno) => {
-            tell_failed(b"show", b"reading the book", errno);
-            give_status(Status::BadCall);
-        }
+        Filled::Bytes(n) => show_book(streams, book, n, pieces),
+        Filled::Failed(errno) => refuse_with(streams.error, b"reading the book", errno),
     }
 }
 
 // A book has at most 65,535 bytes, so one that fills the buffer is too long.
-fn show_book(buffer: &[u8], n: usize, pieces: Pieces) {
+fn show_book(streams: Streams, buffer: &[u8], n: usize, pieces: Pieces) -> ExitCode {
     if buffer.len() <= n {
-        refuse(b"show: the book has more than 65535 bytes\n");
-        return;
+        return refuse(streams.error, b"show: the book has more than 65535 bytes\n");
     }
     let book = &buffer[..n];
     match book::check(book) {
-        Checked::Accepted => run_program(Program::Show(pieces), book),
-        Checked::Refused(_) => refuse(b"show: the book breaks its grammar (20)\n"),
+        Checked::Accepted => run_program(streams, Program::Show(pieces), book),
+        Checked::Refused(_) => refuse(streams.error, b"show: the book breaks its grammar (20)\n"),
     }
 }
 
-fn refuse(sentence: &[u8]) {
-    tell(sentence);
-    give_status(Status::BadCall);
+fn refuse(to: Stderr, sentence: &[u8]) -> ExitCode {
+    tell(to, sentence);
+    give_status(Status::BadCall)
 }
 
-fn refuse_with(what: &[u8]) {
-    tell_failed(b"show", what, last_fault());
-    give_status(Status::BadCall);
+fn refuse_with(to: Stderr, what: &[u8], errno: u32) -> ExitCode {
+    tell_failed(to, b"show", what, errno);
+    give_status(Status::BadCall)
 }

@@ -12,60 +12,84 @@ use channel::reading::{Got, read_some};
 use channel::sentence::{tell, tell_fault};
 use channel::sink::flush;
 use channel::status::{Status, give_status};
+use channel::streams::{Streams, streams_of};
 use choice::{Asked, ask_choice};
 use framing::{Fed, Framing, feed};
-use libc::STDIN_FILENO;
 use rows::{say_end, say_line};
 use scan::Pieces;
 use state::{State, begun, closed, unread};
+use std::io::{Stderr, Stdout};
+use std::process::ExitCode;
 
-fn main() {
-    match ask_choice(1) {
-        Asked::Choice(pieces) => start(pieces),
-        Asked::Wrong => refuse_call(),
+fn main(rt: HostRuntime) -> ExitCode {
+    match ask_choice(&rt, 1) {
+        Asked::Choice(pieces) => start(streams_of(&rt), pieces),
+        Asked::Wrong => refuse_call(rt.stderr()),
     }
 }
 
-fn refuse_call() {
-    tell(b"usage: unanswered [lenient] < LINES\n");
-    give_status(Status::BadCall);
+fn refuse_call(to: Stderr) -> ExitCode {
+    tell(to, b"usage: unanswered [lenient] < LINES\n");
+    give_status(Status::BadCall)
 }
 
-fn start(pieces: Pieces) {
-    let mut input = io::large_buffer();
+fn start(streams: Streams, pieces: Pieces) -> ExitCode {
+    let mut input = [0u8; 65536];
     let mut unit = [0u8; 65539];
-    let mut out = io::large_buffer();
-    run(&mut input, &mut unit, &mut out, pieces);
+    let mut out = [0u8; 65536];
+    run(streams, &mut input, &mut unit, &mut out, pieces)
 }
 
-fn run(input: &mut [u8], unit: &mut [u8], out: &mut [u8], pieces: Pieces)
+fn run(
+    streams: Streams,
+    input: &mut [u8],
+    unit: &mut [u8],
+    out: &mut [u8],
+    pieces: Pieces,
+) -> ExitCode
     requires { 65539 ≤ length unit.old }
 {
-    let end = read_all(input, unit, out, pieces);
-    let sink = flush(out, end.sink);
+    let end = read_all(streams, input, unit, out, pieces);
+    let sink = flush(streams.output, out, end.sink);
     if 0 < sink.errno {
-        fail(b"writing standard output", sink.errno, sink.whole);
-        return;
+        return fail(
+            streams.error,
+            b"writing standard output",
+            sink.errno,
+            sink.whole,
+        );
     }
     if 0 < end.unread {
-        fail(b"reading standard input", end.unread, sink.whole);
+        return fail(
+            streams.error,
+            b"reading standard input",
+            end.unread,
+            sink.whole,
+        );
     }
+    ExitCode::SUCCESS
 }
 
-fn fail(call: &[u8], errno: u32, whole: u64) {
-    tell_fault(b"unanswered", call, errno, b"rows", whole);
-    give_status(Status::Fault);
+fn fail(to: Stderr, call: &[u8], errno: u32, whole: u64) -> ExitCode {
+    tell_fault(to, b"unanswered", call, errno, b"rows", whole);
+    give_status(Status::Fault)
 }
 
 // Part after part to the end of the input. No input lasts for all the turns.
-fn read_all(input: &mut [u8], unit: &mut [u8], out: &mut [u8], pieces: Pieces) -> State
+fn read_all(
+    streams: Streams,
+    input: &mut [u8],
+    unit: &mut [u8],
+    out: &mut [u8],
+    pieces: Pieces,
+) -> State
     requires { 65539 ≤ length unit.old }
     ensures { result.held ≤ length unit.old }
 {
     let mut state = begun();
     let mut turns = u64::MAX;
     while 0 < turns {
-        state = read_next(input, unit, out, pieces, state);
+        state = read_next(streams, input, unit, out, pieces, state);
         if !state.open {
             return state;
         }
@@ -76,6 +100,7 @@ fn read_all(input: &mut [u8], unit: &mut [u8], out: &mut [u8], pieces: Pieces) -
 
 // The next part, or the end.
 fn read_next(
+    streams: Streams,
     input: &mut [u8],
     unit: &mut [u8],
     out: &mut [u8],
@@ -85,15 +110,23 @@ fn read_next(
     requires { (65539 ≤ length unit.old) × (state.held ≤ length unit.old) }
     ensures { result.held ≤ length unit.old }
 {
-    match read_some(STDIN_FILENO, input) {
-        Got::Bytes(n) => take_part(&input[..n], unit, out, pieces, state),
-        Got::End => end_input(unit, out, pieces, state),
+    let mut from = streams.input;
+    match read_some(&mut from, input) {
+        Got::Bytes(n) => take_part(streams.output, &input[..n], unit, out, pieces, state),
+        Got::End => end_input(streams.output, unit, out, pieces, state),
         Got::Failed(why) => unread(state, why),
     }
 }
 
 // All lines that end in a part; what is open is held. After a write that failed nothing more is read.
-fn take_part(part: &[u8], unit: &mut [u8], out: &mut [u8], pieces: Pieces, state: State) -> State
+fn take_part(
+    to: Stdout,
+    part: &[u8],
+    unit: &mut [u8],
+    out: &mut [u8],
+    pieces: Pieces,
+    state: State,
+) -> State
     requires { (65539 ≤ length unit.old) × (state.held ≤ length unit.old) }
     ensures { result.held ≤ length unit.old }
 {
@@ -102,7 +135,7 @@ fn take_part(part: &[u8], unit: &mut [u8], out: &mut [u8], pieces: Pieces, state
     while from < part.len() {
         let fed = feed(Framing::Lines, part, from, unit, now.held);
         from = fed.at;
-        now = take_fed(fed, unit, out, pieces, now);
+        now = take_fed(to, fed, unit, out, pieces, now);
         if 0 < now.sink.errno {
             return closed(now);
         }
@@ -110,25 +143,32 @@ fn take_part(part: &[u8], unit: &mut [u8], out: &mut [u8], pieces: Pieces, state
     now
 }
 
-fn take_fed(fed: Fed, unit: &[u8], out: &mut [u8], pieces: Pieces, state: State) -> State
+fn take_fed(
+    to: Stdout,
+    fed: Fed,
+    unit: &[u8],
+    out: &mut [u8],
+    pieces: Pieces,
+    state: State,
+) -> State
     requires { fed.held ≤ length unit.now }
     ensures { result.held ≤ length unit.now }
 {
     let mut next = state;
     next.held = fed.held;
     if fed.whole {
-        return take_held(unit, out, pieces, next);
+        return take_held(to, unit, out, pieces, next);
     }
     next
 }
 
 // The line that is held. One that starts with A1 is refused as every other text that is no line.
-fn take_held(unit: &[u8], out: &mut [u8], pieces: Pieces, state: State) -> State
+fn take_held(to: Stdout, unit: &[u8], out: &mut [u8], pieces: Pieces, state: State) -> State
     requires { state.held ≤ length unit.now }
     ensures { result.held ≡ 0 }
 {
     let held = state.held;
-    let said = say_line(&unit[..held], pieces, state.desk, out, state.sink);
+    let said = say_line(to, &unit[..held], pieces, state.desk, out, state.sink);
     let desk = said.desk;
     let sink = said.sink;
     State {
@@ -141,13 +181,13 @@ fn take_held(unit: &[u8], out: &mut [u8], pieces: Pieces, state: State) -> State
 }
 
 // A last line with no newline counts if it has a byte. Then what waits, and the totals.
-fn end_input(unit: &[u8], out: &mut [u8], pieces: Pieces, state: State) -> State
+fn end_input(to: Stdout, unit: &[u8], out: &mut [u8], pieces: Pieces, state: State) -> State
     requires { state.held ≤ length unit.now }
     ensures { result.held ≤ length unit.now }
 {
-    let last = take_last(unit, out, pieces, state);
+    let last = take_last(to, unit, out, pieces, state);
     let desk = last.desk;
-    let sink = say_end(desk, out, last.sink);
+    let sink = say_end(to, desk, out, last.sink);
     State {
         held: last.held,
         sink: sink,
@@ -157,12 +197,12 @@ fn end_input(unit: &[u8], out: &mut [u8], pieces: Pieces, state: State) -> State
     }
 }
 
-fn take_last(unit: &[u8], out: &mut [u8], pieces: Pieces, state: State) -> State
+fn take_last(to: Stdout, unit: &[u8], out: &mut [u8], pieces: Pieces, state: State) -> State
     requires { state.held ≤ length unit.now }
     ensures { result.held ≤ length unit.now }
 {
     if 0 < state.held {
-        return take_held(unit, out, pieces, state);
+        return take_held(to, unit, out, pieces, state);
     }
     state
 }

@@ -5,7 +5,8 @@
 #![tactic(auto)]
 
 use moving::run_unpack;
+use std::process::ExitCode;
 
-fn main() {
-    run_unpack();
+fn main(rt: HostRuntime) -> ExitCode {
+    run_unpack(&rt)
 }

@@ -9,49 +9,54 @@ ghost use Rattle.std.specs.Prelude.{◌≤◌, length};
 use channel::reading::{Filled, read_whole};
 use channel::sentence::{tell, tell_failed};
 use channel::status::{Status, give_status};
+use channel::streams::{Streams, streams_of};
 use channel::writing::write_whole;
 use choice::{Asked, ask_choice};
-use libc::{STDIN_FILENO, STDOUT_FILENO};
 use row::put_answer;
 use scan::Pieces;
+use std::io::Stderr;
+use std::process::ExitCode;
 
-fn main() {
-    match ask_choice(1) {
-        Asked::Choice(pieces) => start(pieces),
-        Asked::Wrong => refuse_call(),
+fn main(rt: HostRuntime) -> ExitCode {
+    match ask_choice(&rt, 1) {
+        Asked::Choice(pieces) => start(streams_of(&rt), pieces),
+        Asked::Wrong => refuse_call(rt.stderr()),
     }
 }
 
-fn refuse_call() {
-    tell(b"usage: what [lenient] < TEXT\n");
-    give_status(Status::BadCall);
+fn refuse_call(to: Stderr) -> ExitCode {
+    tell(to, b"usage: what [lenient] < TEXT\n");
+    give_status(Status::BadCall)
 }
 
-fn start(pieces: Pieces) {
+fn start(streams: Streams, pieces: Pieces) -> ExitCode {
     let mut text = [0u8; 65539];
-    answer(&mut text, pieces);
+    answer(streams, &mut text, pieces)
 }
 
 // The first 65,539 bytes tell what a text is, however long it is (`row_of_the_whole`), so no more is read.
-fn answer(text: &mut [u8], pieces: Pieces)
+fn answer(streams: Streams, text: &mut [u8], pieces: Pieces) -> ExitCode
     requires { 65539 ≤ length text.old }
 {
-    match read_whole(STDIN_FILENO, text) {
-        Filled::Bytes(n) => write_answer(&text[..n], pieces),
-        Filled::Failed(why) => fail(b"reading standard input", why),
+    let mut from = streams.input;
+    match read_whole(&mut from, text) {
+        Filled::Bytes(n) => write_answer(streams, &text[..n], pieces),
+        Filled::Failed(why) => fail(streams.error, b"reading standard input", why),
     }
 }
 
-fn write_answer(text: &[u8], pieces: Pieces) {
+fn write_answer(streams: Streams, text: &[u8], pieces: Pieces) -> ExitCode {
     let mut row = [0u8; 32];
     let end = put_answer(&mut row, text, pieces);
-    let wrote = write_whole(STDOUT_FILENO, &row[..end]);
+    let mut to = streams.output;
+    let wrote = write_whole(&mut to, &row[..end]);
     if 0 < wrote.errno {
-        fail(b"writing standard output", wrote.errno);
+        return fail(streams.error, b"writing standard output", wrote.errno);
     }
+    ExitCode::SUCCESS
 }
 
-fn fail(call: &[u8], errno: u32) {
-    tell_failed(b"what", call, errno);
-    give_status(Status::Fault);
+fn fail(to: Stderr, call: &[u8], errno: u32) -> ExitCode {
+    tell_failed(to, b"what", call, errno);
+    give_status(Status::Fault)
 }

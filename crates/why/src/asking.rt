@@ -13,6 +13,7 @@ use pairs::dwords::piece_end;
 use pairs::pair::Span;
 use reasons::payload::{Payload, find_data, payload_of};
 use reasons::{Answer, Key, key_in};
+use std::io::Stdout;
 use text::number::{MAX_32, Reading, hex};
 use why_rows::tally::{Counts, count_line, count_payload, count_reason};
 use why_rows::{Reason, What, put_row, put_totals};
@@ -25,7 +26,7 @@ pub struct Done {
 }
 
 // The rows of a line's unreadable numbers. Asked for: room for a row of the longest line, which `main` lends.
-pub fn say_line(line: &[u8], row: &mut [u8], out: &mut [u8], done: Done) -> Done
+pub fn say_line(output: Stdout, line: &[u8], row: &mut [u8], out: &mut [u8], done: Done) -> Done
     requires { 20736 ≤ length row.old }
     ensures { LineSaid line.now done out.old out.new result }
 {
@@ -40,7 +41,7 @@ pub fn say_line(line: &[u8], row: &mut [u8], out: &mut [u8], done: Done) -> Done
                 sink: sink,
                 counts: count_payload(counts),
             };
-            say_payload(&line[from..to], n, row, out, begun)
+            say_payload(output, &line[from..to], n, row, out, begun)
         }
         Payload::Refused(_) => Done {
             sink: sink,
@@ -50,35 +51,64 @@ pub fn say_line(line: &[u8], row: &mut [u8], out: &mut [u8], done: Done) -> Done
 }
 
 // Each key's, then those of the data.
-fn say_payload(payload: &[u8], n: u64, row: &mut [u8], out: &mut [u8], done: Done) -> Done
+fn say_payload(
+    output: Stdout,
+    payload: &[u8],
+    n: u64,
+    row: &mut [u8],
+    out: &mut [u8],
+    done: Done,
+) -> Done
     requires { 256 + 5 * length payload.now ≤ length row.old }
     ensures { Gone n done (found_in payload.now) out.old out.new result }
 {
-    let a = say_address(payload, n, row, out, done);
-    let b = say_small(payload, n, row, out, a);
-    say_data(payload, n, row, out, b)
+    let a = say_address(output, payload, n, row, out, done);
+    let b = say_small(output, payload, n, row, out, a);
+    say_data(output, payload, n, row, out, b)
 }
 
 // Where a packet goes.
-fn say_address(payload: &[u8], n: u64, row: &mut [u8], out: &mut [u8], done: Done) -> Done
+fn say_address(
+    output: Stdout,
+    payload: &[u8],
+    n: u64,
+    row: &mut [u8],
+    out: &mut [u8],
+    done: Done,
+) -> Done
     requires { 256 + 5 * length payload.now ≤ length row.old }
     ensures { Gone n done (key_found payload.now K.Route ++ key_found payload.now K.Offset) out.old out.new result }
 {
-    let a = say_key(payload, n, Key::Route, row, out, done);
-    say_key(payload, n, Key::Offset, row, out, a)
+    let a = say_key(output, payload, n, Key::Route, row, out, done);
+    say_key(output, payload, n, Key::Offset, row, out, a)
 }
 
 // The keys of 8 bits.
-fn say_small(payload: &[u8], n: u64, row: &mut [u8], out: &mut [u8], done: Done) -> Done
+fn say_small(
+    output: Stdout,
+    payload: &[u8],
+    n: u64,
+    row: &mut [u8],
+    out: &mut [u8],
+    done: Done,
+) -> Done
     requires { 256 + 5 * length payload.now ≤ length row.old }
     ensures { Gone n done (key_found payload.now K.Error ++ (key_found payload.now K.Config ++ key_found payload.now K.Unplug)) out.old out.new result }
 {
-    let a = say_key(payload, n, Key::Error, row, out, done);
-    let b = say_key(payload, n, Key::Config, row, out, a);
-    say_key(payload, n, Key::Unplug, row, out, b)
+    let a = say_key(output, payload, n, Key::Error, row, out, done);
+    let b = say_key(output, payload, n, Key::Config, row, out, a);
+    say_key(output, payload, n, Key::Unplug, row, out, b)
 }
 
-fn say_key(payload: &[u8], n: u64, key: Key, row: &mut [u8], out: &mut [u8], done: Done) -> Done
+fn say_key(
+    output: Stdout,
+    payload: &[u8],
+    n: u64,
+    key: Key,
+    row: &mut [u8],
+    out: &mut [u8],
+    done: Done,
+) -> Done
     requires { 256 + 5 * length payload.now ≤ length row.old }
     ensures { Gone n done (key_found payload.now key) out.old out.new result }
 {
@@ -88,6 +118,7 @@ fn say_key(payload: &[u8], n: u64, key: Key, row: &mut [u8], out: &mut [u8], don
             let to = text.to;
             let reading = text.reading;
             say_text(
+                output,
                 &payload[from..to],
                 n,
                 What::Key(key),
@@ -102,17 +133,31 @@ fn say_key(payload: &[u8], n: u64, key: Key, row: &mut [u8], out: &mut [u8], don
     }
 }
 
-fn say_data(payload: &[u8], n: u64, row: &mut [u8], out: &mut [u8], done: Done) -> Done
+fn say_data(
+    output: Stdout,
+    payload: &[u8],
+    n: u64,
+    row: &mut [u8],
+    out: &mut [u8],
+    done: Done,
+) -> Done
     requires { 256 + 5 * length payload.now ≤ length row.old }
     ensures { Gone n done (data_found payload.now (data_span payload.now)) out.old out.new result }
 {
     match find_data(payload) {
-        Span::At { from, to } => say_pieces(&payload[from..to], n, row, out, done),
+        Span::At { from, to } => say_pieces(output, &payload[from..to], n, row, out, done),
         Span::Nothing => done,
     }
 }
 
-fn say_pieces(inner: &[u8], n: u64, row: &mut [u8], out: &mut [u8], done: Done) -> Done
+fn say_pieces(
+    output: Stdout,
+    inner: &[u8],
+    n: u64,
+    row: &mut [u8],
+    out: &mut [u8],
+    done: Done,
+) -> Done
     requires { 256 + 5 * length inner.now ≤ length row.old }
     ensures { Gone n done (pieces_found 0 (cut inner.now)) out.old out.new result }
 {
@@ -122,7 +167,16 @@ fn say_pieces(inner: &[u8], n: u64, row: &mut [u8], out: &mut [u8], done: Done) 
     loop {
         let to = piece_end(inner, at);
         let reading = hex(&inner[at..to], MAX_32);
-        said = say_text(&inner[at..to], n, What::Piece(i), reading, row, out, said);
+        said = say_text(
+            output,
+            &inner[at..to],
+            n,
+            What::Piece(i),
+            reading,
+            row,
+            out,
+            said,
+        );
         if to == inner.len() {
             return said;
         }
@@ -133,6 +187,7 @@ fn say_pieces(inner: &[u8], n: u64, row: &mut [u8], out: &mut [u8], done: Done) 
 
 // A row for a text that is no number, and nothing for one that is.
 fn say_text(
+    output: Stdout,
     text: &[u8],
     n: u64,
     what: What,
@@ -146,13 +201,23 @@ fn say_text(
 {
     match reading {
         Reading::Value(_) => done,
-        Reading::Empty => say_row(text, n, what, Reason::Empty, row, out, done),
-        Reading::BadDigit(place) => say_row(text, n, what, Reason::BadDigit(place), row, out, done),
-        Reading::TooWide => say_row(text, n, what, Reason::TooWide, row, out, done),
+        Reading::Empty => say_row(output, text, n, what, Reason::Empty, row, out, done),
+        Reading::BadDigit(place) => say_row(
+            output,
+            text,
+            n,
+            what,
+            Reason::BadDigit(place),
+            row,
+            out,
+            done,
+        ),
+        Reading::TooWide => say_row(output, text, n, what, Reason::TooWide, row, out, done),
     }
 }
 
 fn say_row(
+    output: Stdout,
     text: &[u8],
     n: u64,
     what: What,
@@ -165,7 +230,7 @@ fn say_row(
     ensures { Gone n done (finding what text.now reason ∷ []) out.old out.new result }
 {
     let end = put_row(row, n, what, text, reason);
-    let sink = say(out, done.sink, &row[..end]);
+    let sink = say(output, out, done.sink, &row[..end]);
     Done {
         sink: sink,
         counts: count_reason(done.counts, reason),
@@ -173,13 +238,13 @@ fn say_row(
 }
 
 // The totals.
-pub fn say_end(out: &mut [u8], done: Done) -> Done
+pub fn say_end(output: Stdout, out: &mut [u8], done: Done) -> Done
     ensures { TotalsSaid done out.old out.new result }
 {
     let counts = done.counts;
     let mut row = [0u8; 256];
     let end = put_totals(&mut row, counts);
-    let sink = say(out, done.sink, &row[..end]);
+    let sink = say(output, out, done.sink, &row[..end]);
     Done {
         sink: sink,
         counts: counts,

@@ -12,65 +12,90 @@ use channel::reading::{Got, read_some};
 use channel::sentence::{tell, tell_fault, tell_numbered};
 use channel::sink::flush;
 use channel::status::{Status, give_status};
+use channel::streams::{Streams, streams_of};
+use choice::arg_count;
 use framing::{Fed, Framing, feed};
-use libc::STDIN_FILENO;
 use state::{State, begun, closed, stopped, unread};
+use std::io::{Stderr, Stdout};
+use std::process::ExitCode;
 use text::place::byte_at;
 
-fn main() {
-    if os::arg_count() == 1 {
-        let mut input = io::large_buffer();
+fn main(rt: HostRuntime) -> ExitCode {
+    if arg_count(&rt) == 1 {
+        let mut input = [0u8; 65536];
         let mut unit = [0u8; 65539];
         let mut row = [0u8; 20736];
-        let mut out = io::large_buffer();
-        run(&mut input, &mut unit, &mut row, &mut out);
+        let mut out = [0u8; 65536];
+        run(streams_of(&rt), &mut input, &mut unit, &mut row, &mut out)
     } else {
-        tell(b"usage: why < LINES\n");
-        give_status(Status::BadCall);
+        tell(rt.stderr(), b"usage: why < LINES\n");
+        give_status(Status::BadCall)
     }
 }
 
-fn run(input: &mut [u8], unit: &mut [u8], row: &mut [u8], out: &mut [u8])
+fn run(
+    streams: Streams,
+    input: &mut [u8],
+    unit: &mut [u8],
+    row: &mut [u8],
+    out: &mut [u8],
+) -> ExitCode
     requires { (65539 ≤ length unit.old) × (20736 ≤ length row.old) }
 {
-    let end = read_all(input, unit, row, out);
-    let sink = flush(out, end.done.sink);
+    let end = read_all(streams, input, unit, row, out);
+    let sink = flush(streams.output, out, end.done.sink);
     if 0 < sink.errno {
-        fail(b"writing standard output", sink.errno, sink.whole);
-        return;
+        return fail(
+            streams.error,
+            b"writing standard output",
+            sink.errno,
+            sink.whole,
+        );
     }
     if 0 < end.unread {
-        fail(b"reading standard input", end.unread, sink.whole);
-        return;
+        return fail(
+            streams.error,
+            b"reading standard input",
+            end.unread,
+            sink.whole,
+        );
     }
     if end.stopped {
-        stop(end.done.counts.lines);
+        return stop(streams.error, end.done.counts.lines);
     }
+    ExitCode::SUCCESS
 }
 
-fn stop(line: u64) {
+fn stop(to: Stderr, line: u64) -> ExitCode {
     tell_numbered(
+        to,
         b"why: line ",
         line,
         b" starts with A1: it is a record and no line; nothing of it or behind it was looked at",
     );
-    give_status(Status::Record);
+    give_status(Status::Record)
 }
 
-fn fail(call: &[u8], errno: u32, whole: u64) {
-    tell_fault(b"why", call, errno, b"rows", whole);
-    give_status(Status::Fault);
+fn fail(to: Stderr, call: &[u8], errno: u32, whole: u64) -> ExitCode {
+    tell_fault(to, b"why", call, errno, b"rows", whole);
+    give_status(Status::Fault)
 }
 
 // Part after part to the end of the input. No input lasts for all the turns.
-fn read_all(input: &mut [u8], unit: &mut [u8], row: &mut [u8], out: &mut [u8]) -> State
+fn read_all(
+    streams: Streams,
+    input: &mut [u8],
+    unit: &mut [u8],
+    row: &mut [u8],
+    out: &mut [u8],
+) -> State
     requires { (65539 ≤ length unit.old) × (20736 ≤ length row.old) }
     ensures { result.held ≤ length unit.old }
 {
     let mut state = begun();
     let mut turns = u64::MAX;
     while 0 < turns {
-        state = read_next(input, unit, row, out, state);
+        state = read_next(streams, input, unit, row, out, state);
         if !state.open {
             return state;
         }
@@ -81,6 +106,7 @@ fn read_all(input: &mut [u8], unit: &mut [u8], row: &mut [u8], out: &mut [u8]) -
 
 // The next part, or the end.
 fn read_next(
+    streams: Streams,
     input: &mut [u8],
     unit: &mut [u8],
     row: &mut [u8],
@@ -90,15 +116,23 @@ fn read_next(
     requires { (65539 ≤ length unit.old) × (20736 ≤ length row.old) × (state.held ≤ length unit.old) }
     ensures { result.held ≤ length unit.old }
 {
-    match read_some(STDIN_FILENO, input) {
-        Got::Bytes(n) => take_part(&input[..n], unit, row, out, state),
-        Got::End => end_input(unit, row, out, state),
+    let mut from = streams.input;
+    match read_some(&mut from, input) {
+        Got::Bytes(n) => take_part(streams.output, &input[..n], unit, row, out, state),
+        Got::End => end_input(streams.output, unit, row, out, state),
         Got::Failed(why) => unread(state, why),
     }
 }
 
 // All lines that end in a part; what is open is held. After a write that failed nothing more is read.
-fn take_part(part: &[u8], unit: &mut [u8], row: &mut [u8], out: &mut [u8], state: State) -> State
+fn take_part(
+    to: Stdout,
+    part: &[u8],
+    unit: &mut [u8],
+    row: &mut [u8],
+    out: &mut [u8],
+    state: State,
+) -> State
     requires { (65539 ≤ length unit.old) × (20736 ≤ length row.old) × (state.held ≤ length unit.old) }
     ensures { result.held ≤ length unit.old }
 {
@@ -107,7 +141,7 @@ fn take_part(part: &[u8], unit: &mut [u8], row: &mut [u8], out: &mut [u8], state
     while from < part.len() {
         let fed = feed(Framing::Lines, part, from, unit, now.held);
         from = fed.at;
-        now = take_fed(fed, unit, row, out, now);
+        now = take_fed(to, fed, unit, row, out, now);
         if 0 < now.done.sink.errno {
             return closed(now);
         }
@@ -118,20 +152,27 @@ fn take_part(part: &[u8], unit: &mut [u8], row: &mut [u8], out: &mut [u8], state
     now
 }
 
-fn take_fed(fed: Fed, unit: &[u8], row: &mut [u8], out: &mut [u8], state: State) -> State
+fn take_fed(
+    to: Stdout,
+    fed: Fed,
+    unit: &[u8],
+    row: &mut [u8],
+    out: &mut [u8],
+    state: State,
+) -> State
     requires { (fed.held ≤ length unit.now) × (20736 ≤ length row.old) }
     ensures { result.held ≤ length unit.now }
 {
     let mut next = state;
     next.held = fed.held;
     if fed.whole {
-        return take_held(unit, row, out, next);
+        return take_held(to, unit, row, out, next);
     }
     next
 }
 
 // The line that is held. One that starts with A1 is a record, and what follows may be pieces of it: nothing more is looked at.
-fn take_held(unit: &[u8], row: &mut [u8], out: &mut [u8], state: State) -> State
+fn take_held(to: Stdout, unit: &[u8], row: &mut [u8], out: &mut [u8], state: State) -> State
     requires { (state.held ≤ length unit.now) × (20736 ≤ length row.old) }
     ensures { result.held ≡ 0 }
 {
@@ -140,7 +181,7 @@ fn take_held(unit: &[u8], row: &mut [u8], out: &mut [u8], state: State) -> State
     if byte_at(line, 0) == 0xA1 {
         return stopped(state);
     }
-    let done = say_line(line, row, out, state.done);
+    let done = say_line(to, line, row, out, state.done);
     State {
         held: 0,
         done: done,
@@ -151,15 +192,15 @@ fn take_held(unit: &[u8], row: &mut [u8], out: &mut [u8], state: State) -> State
 }
 
 // A last line with no newline counts if it has a byte. Then the totals, unless the input stopped at a record.
-fn end_input(unit: &[u8], row: &mut [u8], out: &mut [u8], state: State) -> State
+fn end_input(to: Stdout, unit: &[u8], row: &mut [u8], out: &mut [u8], state: State) -> State
     requires { (state.held ≤ length unit.now) × (20736 ≤ length row.old) }
     ensures { result.held ≤ length unit.now }
 {
-    let last = take_last(unit, row, out, state);
+    let last = take_last(to, unit, row, out, state);
     if last.stopped {
         return last;
     }
-    let done = say_end(out, last.done);
+    let done = say_end(to, out, last.done);
     State {
         held: last.held,
         done: done,
@@ -169,12 +210,12 @@ fn end_input(unit: &[u8], row: &mut [u8], out: &mut [u8], state: State) -> State
     }
 }
 
-fn take_last(unit: &[u8], row: &mut [u8], out: &mut [u8], state: State) -> State
+fn take_last(to: Stdout, unit: &[u8], row: &mut [u8], out: &mut [u8], state: State) -> State
     requires { (state.held ≤ length unit.now) × (20736 ≤ length row.old) }
     ensures { result.held ≤ length unit.now }
 {
     if 0 < state.held {
-        return take_held(unit, row, out, state);
+        return take_held(to, unit, row, out, state);
     }
     state
 }

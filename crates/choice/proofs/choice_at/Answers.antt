@@ -2,8 +2,8 @@
 use Rattle.choice.proofs.Asking.{wrong_is_none, word_is_none}
 use Rattle.choice.proofs.choice_at.Goals as goal
 
-pub returns-then-errno-ne0 : goal.returns-then-errno-ne0
-returns-then-errno-ne0 c = wrong_is_none
+pub returns-in-Ok : goal.returns-in-Ok
+returns-in-Ok g c = word_is_none _ c.choice_of.ensures
 
-pub returns : goal.returns
-returns c = word_is_none _ c.choice_of.ensures
+pub returns-in-Err : goal.returns-in-Err
+returns-in-Err g c = wrong_is_none

@@ -19,33 +19,34 @@ use entry::optional::MaybeEvent;
 use escape::put_escaped;
 use print::hex::put_dword;
 use print::put::put_decimal;
+use std::io::Stdout;
 
 // How many bytes of a name are escaped at a time, and how many bytes that can be.
 const PIECE: usize = 64;
 
 const ROOM: usize = 256;
 
-pub fn say_if(out: &mut [u8], sink: Sink, holds: bool, text: &[u8]) -> Sink {
+pub fn say_if(output: Stdout, out: &mut [u8], sink: Sink, holds: bool, text: &[u8]) -> Sink {
     if holds {
-        return say(out, sink, text);
+        return say(output, out, sink, text);
     }
     sink
 }
 
 // A word and then a name, escaped; nothing for no name.
-pub fn say_name(out: &mut [u8], sink: Sink, word: &[u8], name: &[u8]) -> Sink
+pub fn say_name(output: Stdout, out: &mut [u8], sink: Sink, word: &[u8], name: &[u8]) -> Sink
     ensures { Told out.old sink (name_text word.now name.now) out.new result }
 {
     if name.len() == 0 {
         return sink;
     }
     let mut room = [0u8; ROOM];
-    let mut to = say(out, sink, word);
+    let mut to = say(output, out, sink, word);
     let mut from: usize = 0;
     while from < name.len() {
         let end = next_end(from, name.len());
         let n = put_escaped(&mut room, 0, &name[from..end]);
-        to = say(out, to, &room[..n]);
+        to = say(output, out, to, &room[..n]);
         from = end;
     }
     to
@@ -63,17 +64,17 @@ fn next_end(from: usize, end: usize) -> usize
 }
 
 // A word and then a number.
-pub fn say_number(out: &mut [u8], sink: Sink, word: &[u8], n: u64) -> Sink
+pub fn say_number(output: Stdout, out: &mut [u8], sink: Sink, word: &[u8], n: u64) -> Sink
     ensures { Told out.old sink (word_and_number word.now n) out.new result }
 {
     let mut room = [0u8; 20];
     let end = put_decimal(&mut room, 0, n);
-    let worded = say(out, sink, word);
-    say(out, worded, &room[..end])
+    let worded = say(output, out, sink, word);
+    say(output, out, worded, &room[..end])
 }
 
 // A word and then the name that an event prints; nothing for no event.
-pub fn say_event(out: &mut [u8], sink: Sink, word: &[u8], what: MaybeEvent) -> Sink
+pub fn say_event(output: Stdout, out: &mut [u8], sink: Sink, word: &[u8], what: MaybeEvent) -> Sink
     ensures { Told out.old sink (event_text word.now what) out.new result }
 {
     match what {
@@ -81,29 +82,29 @@ pub fn say_event(out: &mut [u8], sink: Sink, word: &[u8], what: MaybeEvent) -> S
             let name = name_of(e);
             let bytes = name.bytes;
             let end = name.len;
-            let worded = say(out, sink, word);
-            say(out, worded, &bytes[..end])
+            let worded = say(output, out, sink, word);
+            say(output, out, worded, &bytes[..end])
         }
         MaybeEvent::Absent => sink,
     }
 }
 
 // Eight hex digits.
-pub fn say_dword(out: &mut [u8], sink: Sink, d: u32) -> Sink
+pub fn say_dword(output: Stdout, out: &mut [u8], sink: Sink, d: u32) -> Sink
     ensures { Told out.old sink (dword_text d) out.new result }
 {
     let mut room = [0u8; 8];
     let end = put_dword(&mut room, 0, d);
-    say(out, sink, &room[..end])
+    say(output, out, sink, &room[..end])
 }
 
 // Hex digits, at least eight.
-pub fn say_hex(out: &mut [u8], sink: Sink, n: u64) -> Sink {
+pub fn say_hex(output: Stdout, out: &mut [u8], sink: Sink, n: u64) -> Sink {
     let mut room = [0u8; 16];
     put_dword(&mut room, 0, (n / 0x1_0000_0000) as u32);
     put_dword(&mut room, 8, (n % 0x1_0000_0000) as u32);
     let from = zeros_end(&room, 8);
-    say(out, sink, &room[from..])
+    say(output, out, sink, &room[from..])
 }
 
 // Where the zeros in front end, of which so many may go.

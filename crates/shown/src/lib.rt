@@ -16,12 +16,14 @@ use channel::sink::{Sink, say};
 use entry::{Entry, data, event, function};
 use saying::{say_event, say_hex, say_number};
 use scan::Pieces;
+use std::io::Stdout;
 use stream::{Answer, read_unit};
 use units::Unit;
 
 // The block of the unit with that number. The book is taken as it is: who shows many units checks it once. Asked for: that the unit's bytes stand in
 // the buffer, as `units` leaves them.
 pub fn show_unit(
+    output: Stdout,
     book: &[u8],
     cut: Unit,
     unit: &[u8],
@@ -34,27 +36,27 @@ pub fn show_unit(
 {
     let mut slots = [0u32; 256];
     let answer = read_unit(cut, pieces, unit, &mut slots);
-    let counted = say_number(out, sink, b"", number);
+    let counted = say_number(output, out, sink, b"", number);
     match answer {
         Answer::Entry(e) => {
-            let headed = show_head(unit, e, out, counted);
-            show_packet(book, e.kind, data(e, &slots), out, headed)
+            let headed = show_head(output, unit, e, out, counted);
+            show_packet(output, book, e.kind, data(e, &slots), out, headed)
         }
-        Answer::Refused(refusal) => say_refusal(out, counted, b" refused ", refusal),
+        Answer::Refused(refusal) => say_refusal(output, out, counted, b" refused ", refusal),
         Answer::Nothing => counted,
     }
 }
 
 // Time, function, kind and route, and the event where there is one.
-fn show_head(text: &[u8], e: Entry, out: &mut [u8], sink: Sink) -> Sink {
-    let a = say_number(out, sink, b"  ", e.seconds);
-    let b = say_number(out, a, b" s ", e.microseconds);
-    let c = say(out, b, b" us  ");
-    let d = say(out, c, function(e, text));
-    let f = say(out, d, b"  ");
-    let g = say_kind(out, f, e.kind);
-    let h = say(out, g, b"  route ");
-    let i = say_hex(out, h, e.route);
-    let j = say_event(out, i, b"  event ", event(e));
-    say(out, j, b"\n")
+fn show_head(output: Stdout, text: &[u8], e: Entry, out: &mut [u8], sink: Sink) -> Sink {
+    let a = say_number(output, out, sink, b"  ", e.seconds);
+    let b = say_number(output, out, a, b" s ", e.microseconds);
+    let c = say(output, out, b, b" us  ");
+    let d = say(output, out, c, function(e, text));
+    let f = say(output, out, d, b"  ");
+    let g = say_kind(output, out, f, e.kind);
+    let h = say(output, out, g, b"  route ");
+    let i = say_hex(output, out, h, e.route);
+    let j = say_event(output, out, i, b"  event ", event(e));
+    say(output, out, j, b"\n")
 }

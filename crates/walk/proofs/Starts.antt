@@ -10,7 +10,6 @@ use lib.ListN.{length, get_or, take, drop, length-append, length-take, length-dr
 use lib.Seq.{get_or-take, get_or-drop, get_or-append_seam, take-take, take-append_seam, take-suc, length-take-le}
 use borrow.Author.Tests.{ne_eqb, eq-eqb, eqb-true, eqb-false, ltb-true}
 use Rattle.text.specs.Class.{is_word, is_letter, is_digit, between}
-use Rattle.text.specs.Quote.{bytes}
 use Rattle.text.specs.Run.{Run, EndsAt}
 use Rattle.text.specs.Same.{same_text}
 use Rattle.text.specs.Word.{Word, word_at, word_of}

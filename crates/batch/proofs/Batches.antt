@@ -124,9 +124,9 @@ module _ (s ks cs ds ps₀ ns : List ℕ) where
     unfolding answer_of job
     code_is = one.code ∙ ap₂ (λ (a b : List ℕ). code_of (parse_of (get_or ks k 0) s a (length b))) (part_is ds d) (part_is p q)
 
-    part_of : part ≡ part_of s job (drop from ds) (drop at p)
+    part_of_lem : part ≡ part_of s job (drop from ds) (drop at p)
     unfolding part_of answer_of job
-    part_of =
+    part_of_lem =
         one.places
         ∙ ap₂ (λ (a b : List ℕ). list_by (parse_of (get_or ks k 0) s a (length b)) (places_of (get_or ks k 0) s a) b) (part_is ds d) (part_is p q)
 
@@ -157,7 +157,7 @@ module _ (s ks cs ds ps₀ ns : List ℕ) where
         let up : suc k ≡ k + 1 = omega arith in
         let rest : places_all s (left ks cs ns k) (drop from ds) (drop at p)
         ≡ part ++ places_all s (left ks cs ns (suc k)) (drop (get_or cs k 0) (drop from ds)) (drop (get_or cs k 0) (drop at p)) =
-        rw (jobs_next ks cs ns k lt) (ap (λ (l : List ℕ). l ++ places_all s (left ks cs ns (suc k)) (drop (get_or cs k 0) (drop from ds)) (drop (get_or cs k 0) (drop at p))) (sym part_of))
+        rw (jobs_next ks cs ns k lt) (ap (λ (l : List ℕ). l ++ places_all s (left ks cs ns (suc k)) (drop (get_or cs k 0) (drop from ds)) (drop (get_or cs k 0) (drop at p))) (sym part_of_lem))
         in
         ap₂ ◌++◌ front_is (ap (λ (n : ℕ). places_all s (left ks cs ns n) (drop end ds) (drop stop ((take at p ++ part) ++ drop stop p))) (sym up) ∙ ap₂ (places_all s (left ks cs ns (suc k))) (rest_is ds d) behind_is)
         ∙ append_assoc (take at p) part (places_all s (left ks cs ns (suc k)) (drop (get_or cs k 0) (drop from ds)) (drop (get_or cs k 0) (drop at p)))

@@ -6,9 +6,6 @@ use mathlib.Core.Bool.{Bool, true, false, cond, ◌&&◌}
 use mathlib.Core.List.{List, [], ◌∷◌}
 use native.Mathlib.Omega.{arith}
 use borrow.Author.Tests.{ltb-false}
-use denote.Enum.Declared
-use types.Run.{OneOf}
-use mathlib.Core.Logic.{⊎_elim}
 use lib.Dec.{ltb}
 use lib.ListN.{length, drop, length-drop}
 use Rattle.text.specs.Part.{Slice, OwnDwords}
@@ -21,10 +18,9 @@ use Rattle.packet.specs.Field.{asks}
 use Rattle.packet.specs.Packet.{is_read_response_or_write_request, is_xdomain, entries_of, places_of, first_from, behind, view_from, word}
 use Rattle.packet.proofs.Packets.{length_places}
 use Rattle.packet.proofs.Gathering.{first_within}
-use Rattle.questions.specs.contracts.WordAnswer
-use Rattle.questions.specs.contracts.TypeAnswer
 use Rattle.questions.specs.declared.WordAnswer.{WordAnswer}
 use Rattle.questions.specs.declared.WordAnswer.TheVariants as Word
+use Rattle.questions.specs.declared.PacketType.{PacketType}
 use Rattle.questions.specs.declared.TypeAnswer.{TypeAnswer}
 use Rattle.questions.specs.declared.TypeAnswer.TheVariants as TypeA
 use Rattle.questions.specs.Answers.{word_told, type_told}
@@ -92,9 +88,9 @@ module _ (kind : ℕ) (s ds : List ℕ) where
       by (suc k) z h = absurd (let q : ◌≡◌ {A = ℕ} 0 1 = cc in omega arith)
 
   -- the view of an accepted packet: its dwords from the start onward
-  view_from : refusal kind s ds ≡ 0 → {f : Found} → view_from kind s (places_of kind s ds) ≡ f → view_of kind s ds ≡ view_at kind s ds (started f)
+  view_from_lem : refusal kind s ds ≡ 0 → {f : Found} → view_from kind s (places_of kind s ds) ≡ f → view_of kind s ds ≡ view_at kind s ds (started f)
   unfolding view_of
-  view_from none e = ap (view_at kind s ds) (start_is_not_cut none ∙ ap started e)
+  view_from_lem none e = ap (view_at kind s ds) (start_is_not_cut none ∙ ap started e)
 
   viewed_from : is_read_response_or_write_request kind ≡ true → view_from kind s (places_of kind s ds) ≡ At (entries_of s kind)
   unfolding view_from
@@ -111,7 +107,7 @@ module _ (kind : ℕ) (s ds : List ℕ) where
 
   -- kinds 2 and 3: the caller's own dwords from n onward, n being the number of control entries
   pub view_is_from_n : is_read_response_or_write_request kind ≡ true → refusal kind s ds ≡ 0 → view_of kind s ds ≡ drop (entries_of s kind) ds
-  view_is_from_n v none = view_from none (viewed_from v)
+  view_is_from_n v none = view_from_lem none (viewed_from v)
 
   view_starts_at_n : is_read_response_or_write_request kind ≡ true → refusal kind s ds ≡ 0 → start_of kind s ds ≡ is (entries_of s kind)
   view_starts_at_n v none = start_is_not_cut none ∙ ap started (viewed_from v)
@@ -141,7 +137,7 @@ module _ (kind : ℕ) (s ds : List ℕ) where
   -- other kinds: none
   pub others_have_no_view : is_read_response_or_write_request kind ≡ false → is_xdomain kind ≡ false → refusal kind s ds ≡ 0
       → (start_of kind s ds ≡ absent) × (view_of kind s ds ≡ [])
-  others_have_no_view v x none = (start_is_not_cut none ∙ ap started (other_from v x), view_from none (other_from v x))
+  others_have_no_view v x none = (start_is_not_cut none ∙ ap started (other_from v x), view_from_lem none (other_from v x))
 
 -- kinds 2 and 3: what is handed out lies n dwords behind the start of what was lent, and is no equal part elsewhere
 pub view_is_the_callers_own : (kind : ℕ) (s : List ℕ) {dwords view : Slice} → is_read_response_or_write_request kind ≡ true → refusal kind s dwords.now ≡ 0
@@ -152,20 +148,20 @@ view_is_the_callers_own kind s {dwords} v none h =
 -- ---- where there is none
 
 -- no start, no place
-pub no_place : (r : WordAnswer) → OneOf (1 ∷ 2 ∷ []) (Declared.tag_of WordAnswer.the_type r) → view_place (word_told r) ≡ 0
-no_place (Word.Is n) h = absurd (⊎_elim (λ k. omega arith) (λ k. omega arith) h)
+pub no_place : (r : WordAnswer) → ((n : ℕ) → r ≡ Word.Is n → ⊥) → view_place (word_told r) ≡ 0
+no_place (Word.Is n) h = absurd (h n refl)
 no_place Word.Absent h = refl
 no_place (Word.Refused k) h = refl
 
 module _ (kind : ℕ) (s ds : List ℕ) where
   -- no start, no view
-  pub no_start : (r : WordAnswer) → OneOf (1 ∷ 2 ∷ []) (Declared.tag_of WordAnswer.the_type r) → view_at kind s ds (word_told r) ≡ []
-  no_start (Word.Is n) h = absurd (⊎_elim (λ k. omega arith) (λ k. omega arith) h)
+  pub no_start : (r : WordAnswer) → ((n : ℕ) → r ≡ Word.Is n → ⊥) → view_at kind s ds (word_told r) ≡ []
+  no_start (Word.Is n) h = absurd (h n refl)
   no_start Word.Absent h = refl
   no_start (Word.Refused k) h = refl
 
   -- no packet type, no name
-  pub no_type : (r : TypeAnswer) → OneOf (1 ∷ 2 ∷ []) (Declared.tag_of TypeAnswer.the_type r) → name_by kind s ds (type_told r) ≡ []
-  no_type (TypeA.Is t) h = absurd (⊎_elim (λ k. omega arith) (λ k. omega arith) h)
+  pub no_type : (r : TypeAnswer) → ((t : PacketType) → r ≡ TypeA.Is t → ⊥) → name_by kind s ds (type_told r) ≡ []
+  no_type (TypeA.Is t) h = absurd (h t refl)
   no_type TypeA.Absent h = refl
   no_type (TypeA.Refused k) h = refl

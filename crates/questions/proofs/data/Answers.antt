@@ -15,8 +15,8 @@ returns-in_default c =
     let s = c.args.book.now in
     let ds = c.args.dwords.now in
     let told = c.data_start-start.ensures in
-    own_from (sym (no_place c.data_start-start.result c.in_default.in_default-own.keys2) ∙ ap view_place told)
-    (own_cut 0 refl refl (omega arith) (omega arith) (sym (no_start kind s ds c.data_start-start.result c.in_default.in_default-own.keys2) ∙ ap (view_at kind s ds) told))
+    own_from (sym (no_place c.data_start-start.result c.in_default.not-Is) ∙ ap view_place told)
+    (own_cut 0 refl refl (omega arith) (omega arith) (sym (no_start kind s ds c.data_start-start.result c.in_default.not-Is) ∙ ap (view_at kind s ds) told))
 
 pub slice_bounds-result-count : goal.slice_bounds-result-count
 slice_bounds-result-count c = start_fits c.args.kind c.args.book.now c.args.dwords.now _ (ap word_told (sym c.in-Is.is) ∙ c.data_start-start.ensures)

@@ -11,7 +11,7 @@ use Rattle.questions.proofs.packet_type_name.Goals as goal
 
 pub returns-in_default : goal.returns-in_default
 unfolding type_name
-returns-in_default c = no_text _ refl refl refl (sym (no_type c.args.kind c.args.book.now c.args.dwords.now c.packet_type-told.result c.in_default.in_default-own.keys2) ∙ ap (name_by c.args.kind c.args.book.now c.args.dwords.now) c.packet_type-told.ensures)
+returns-in_default c = no_text _ refl refl refl (sym (no_type c.args.kind c.args.book.now c.args.dwords.now c.packet_type-told.result c.in_default.not-Is) ∙ ap (name_by c.args.kind c.args.book.now c.args.dwords.now) c.packet_type-told.ensures)
 
 pub returns : goal.returns
 unfolding type_name

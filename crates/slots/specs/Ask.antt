@@ -1,6 +1,6 @@
 -- What an entry asks of the table, in document 02's order of "else": dropped; other, where the kind is not 1 to 4; no `seq`; a request, of kind
 -- 1 or 3; a response, of kind 2 or 4.
-use Rattle.std.specs.Prelude.{ℕ, ◌%◌, ◌^◌, Bool, true, false, cond, ◌||◌, eqb, ltb}
+use Rattle.std.specs.Prelude.{ℕ, ◌%◌, ◌^◌, cond, ◌||◌, eqb, ltb}
 use Rattle.entry.specs.declared.Entry.{Entry}
 use Rattle.entry.specs.declared.optional.MaybeByte.{MaybeByte}
 use Rattle.entry.specs.declared.optional.MaybeByte.TheVariants as B

@@ -1,5 +1,4 @@
--- Laws about tables and steps: lending a table, what a look at all slots finds, and what the plan that follows means.
-pub mod Shared
+-- Laws about tables and steps: what a look at all slots finds, and what the plan that follows means.
 pub mod Fold
 pub mod Looks
 pub mod Bits
@@ -7,3 +6,4 @@ pub mod Marks
 pub mod Fours
 pub mod Sounds
 pub mod Steps
+pub mod Turns

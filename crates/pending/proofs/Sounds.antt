@@ -5,12 +5,11 @@ use Prim.Native.Nat.{ℕ, zero, suc, ◌+◌, ◌-◌, ◌^◌, ◌<◌, ◌≤�
 use native.Mathlib.Omega.{arith}
 use mathlib.Core.Bool.{Bool, true, false, cond}
 use mathlib.Core.List.{List, [], ◌∷◌}
-use lib.ListN.{length, get_or}
+use lib.ListN.{length}
 use lib.Dec.{eqb, ltb}
 use lib.Bits.{bit_and, bit_or}
 use lib.Pow.{pow_pos, pow_mono, ones_lt}
-use borrow.Author.Tests.{lt-ltb, le-ltb, eq-eqb, ne_eqb, eqb-true, eqb-false, ltb-true, ltb-false}
-use Rattle.slots.specs.declared.Four.{Four}
+use borrow.Author.Tests.{lt-ltb, eq-eqb, ne_eqb, eqb-true, ltb-true, ltb-false}
 use Rattle.slots.specs.declared.Slot.{Slot}
 use Rattle.slots.specs.declared.look.Ranks.{Ranks}
 use Rattle.slots.specs.Look.{bit_of, broken, ranked_of}
@@ -19,7 +18,7 @@ use Rattle.pending.specs.Table.{rank_at, four_at, Waits, waiting, tally, Sound}
 use Rattle.pending.proofs.Fold.{ranks_all}
 use Rattle.pending.proofs.Looks.{nonzero, waiting_most}
 use Rattle.pending.proofs.Bits.{bit, bit_ones, same_bits, marked, zero_bits, and_clear}
-use Rattle.pending.proofs.Marks.{unlike, Whole, whole_is, whole_not_broken, Ready, Marked, after, bit_of_is, same_mark, ranked_free, ranked_waits, marks_all, ones_is}
+use Rattle.pending.proofs.Marks.{unlike, whole_is, whole_not_broken, Ready, Marked, after, bit_of_is, same_mark, ranked_free, ranked_waits, marks_all, ones_is}
 
 abbrev pub r₀ : Ranks
 r₀ = record { count = 0; mask = 0; well = true }

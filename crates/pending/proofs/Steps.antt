@@ -6,9 +6,8 @@ use native.Mathlib.Omega.{arith}
 use mathlib.Core.Bool.{Bool, true, false, cond, ◌||◌}
 use mathlib.Core.List.{List, [], ◌∷◌}
 use lib.Dec.{eqb, ltb}
-use lib.ListN.{length, get_or, set}
+use lib.ListN.{length, set}
 use borrow.Author.Tests.{lt-ltb, le-ltb, eq-eqb, ne_eqb, eqb-true, eqb-false, ltb-true, ltb-false}
-use Rattle.text.specs.Told.{is, refused}
 use Rattle.entry.specs.declared.Entry.{Entry}
 use Rattle.slots.specs.declared.Four.{Four}
 use Rattle.slots.specs.declared.Slot.{Slot}
@@ -20,9 +19,7 @@ use Rattle.slots.specs.declared.decide.Plan.{Plan}
 use Rattle.slots.specs.declared.decide.Report.{Report}
 use Rattle.slots.specs.declared.decide.Report.TheVariants as R
 use Rattle.slots.specs.declared.decide.Waiting.{Waiting}
-use Rattle.slots.specs.declared.decide.Waiting.TheVariants as W
 use Rattle.slots.specs.declared.decide.Place.{Place}
-use Rattle.slots.specs.declared.decide.Place.TheVariants as P
 use Rattle.entry.specs.declared.optional.MaybeByte.{MaybeByte}
 use Rattle.entry.specs.declared.optional.MaybeByte.TheVariants as B
 use Rattle.slots.specs.Ask.{ask_of, by_kind, by_seq, four_of}
@@ -35,7 +32,7 @@ use Rattle.pending.specs.Step.{Step, FirstFree, NoneFree, OldestWith, NoneWith, 
 use Rattle.pending.specs.Step as Do
 use Rattle.pending.proofs.Fold.{first_all, ranks_all, oldest_all, parts}
 use Rattle.pending.proofs.Fours.{one_four, same_four_lem}
-use Rattle.pending.proofs.Looks.{FirstIs, spare, full, first_is, waiting_most, waiting_all, waiting_less, Fits, OldestIs, hit, miss, oldest_is}
+use Rattle.pending.proofs.Looks.{FirstIs, spare, full, first_is, waiting_most, waiting_less, OldestIs, hit, miss, oldest_is}
 use Rattle.pending.proofs.Marks.{unlike}
 use Rattle.pending.proofs.Sounds.{r₀, tally_some, count_is, sound_found, found_sound}
 

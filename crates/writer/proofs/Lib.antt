@@ -2,8 +2,6 @@
 pub mod Puts
 pub mod Checks
 pub mod Items
-pub mod Held
-pub mod LentAgain
 pub mod Chain
 pub mod Writes
 pub mod RoundTrips

@@ -17,42 +17,28 @@ pub struct Writer<'a> {
 
 // A writer at the start of the buffer.
 fn new<'a>(out: &'a mut [u8]) -> Writer<'a>
-    ensures { (result.out ≡ out.entry) × (result.at ≡ 0) }
+    ensures same_reference { result.out.ghost_name ≡ out.entry.ghost_name }
+    ensures starts { (result.out ≡ out.entry) × (result.at ≡ 0) }
 {
     Writer { out: out, at: 0 }
 }
 
 // A tag and a two-byte length.
-fn append_head<'a>(w: Writer<'a>, tag: u8, size: usize) -> Writer<'a>
-    requires { (size < 65536) × (w.at + 3 ≤ length w.out.now) }
-    ensures { result ≡ appended w.entry (head_bytes tag size) }
+fn append_head(w: &mut Writer, tag: u8, size: usize)
+    requires { (size < 65536) × (w.old.at + 3 ≤ length w.old.out.now) }
+    ensures same_reference { w.new.out.ghost_name ≡ w.old.out.ghost_name }
+    ensures appended { w.new ≡ appended w.old (head_bytes tag size) }
 {
-    let at = w.at;
-    let next = put_head(&mut *w.out, at, tag, size);
-    Writer {
-        out: w.out,
-        at: next,
-    }
+    w.at = put_head(&mut *w.out, w.at, tag, size);
 }
 
 // The fields of an entry from a tag on, up to another.
-fn append_fields<'a, 'b, 'c>(
-    w: Writer<'a>,
-    first: u8,
-    past: u8,
-    text: &'b [u8],
-    e: Entry,
-    dwords: &'c [u32],
-) -> Writer<'a>
-    requires { ItemsLie e text.now dwords.now × (w.at + length (fields_from (past - first) first e text.now dwords.now) ≤ length w.out.now) }
-    ensures { result ≡ appended w.entry (fields_from (past - first) first e text.now dwords.now) }
+fn append_fields(w: &mut Writer, first: u8, past: u8, text: &[u8], e: Entry, dwords: &[u32])
+    requires { ItemsLie e text.now dwords.now × (w.old.at + length (fields_from (past - first) first e text.now dwords.now) ≤ length w.old.out.now) }
+    ensures same_reference { w.new.out.ghost_name ≡ w.old.out.ghost_name }
+    ensures appended { w.new ≡ appended w.old (fields_from (past - first) first e text.now dwords.now) }
 {
-    let at = w.at;
-    let next = put_fields(&mut *w.out, at, first, past, text, e, dwords);
-    Writer {
-        out: w.out,
-        at: next,
-    }
+    w.at = put_fields(&mut *w.out, w.at, first, past, text, e, dwords);
 }
 
 // The place behind all that was appended, which is how many bytes were written.
@@ -67,12 +53,13 @@ pub fn put_record(out: &mut [u8], size: usize, text: &[u8], e: Entry, dwords: &[
     requires { ItemsLie e text.now dwords.now × (size < 65536) × (3 + length (fields_from 19 1 e text.now dwords.now) ≤ length out.old) }
     ensures { Put out.old 0 (head_bytes 0xA1 size ++ fields_from 19 1 e text.now dwords.now) result out.new }
 {
-    let framed = append_head(new(out), 0xA1, size);
-    let task = append_fields(framed, 0x01, 0x02, text, e, dwords);
-    let origin = append_fields(task, 0x02, 0x06, text, e, dwords);
-    let function = append_fields(origin, 0x06, 0x07, text, e, dwords);
-    let packet = append_fields(function, 0x07, 0x0C, text, e, dwords);
-    let noted = append_fields(packet, 0x0C, 0x13, text, e, dwords);
-    let data = append_fields(noted, 0x13, 0x14, text, e, dwords);
-    finish(data)
+    let mut w = new(out);
+    append_head(&mut w, 0xA1, size);
+    append_fields(&mut w, 0x01, 0x02, text, e, dwords);
+    append_fields(&mut w, 0x02, 0x06, text, e, dwords);
+    append_fields(&mut w, 0x06, 0x07, text, e, dwords);
+    append_fields(&mut w, 0x07, 0x0C, text, e, dwords);
+    append_fields(&mut w, 0x0C, 0x13, text, e, dwords);
+    append_fields(&mut w, 0x13, 0x14, text, e, dwords);
+    finish(w)
 }

@@ -1,13 +1,13 @@
 -- `free_rank` meets its contract: the slots before a place are lowered. Assumes nothing.
 use Rattle.table.proofs.Loops.{lowering_starts, lowering_next, lowering_ends}
-use lib.ListN.{length, length-map, length-set}
+use lib.ListN.{length, length-set}
 use mathlib.Core.Path.{◌≡◌}
 use native.Mathlib.Omega.{arith}
 use Rattle.table.proofs.free_rank.Goals as goal
 
 pub loop-i-init : goal.loop-i-init
 loop-i-init c =
-    let size : length c.args.t.slots ≡ 64 = simp length-map at c.well_formed.0.1.1.0.1.0.1 in
+    let size : length c.args.t.slots ≡ 64 = c.well_formed.0.1.1.0.1.0.1 in
     (omega arith, size, lowering_starts _ _)
 
 pub loop-i-preserved : goal.loop-i-preserved

@@ -11,35 +11,11 @@ loop-turns-init c = (refl, record { unit_is = refl; out_is = refl; told_is = ref
 pub move_next-state-requires : goal.move_next-state-requires
 move_next-state-requires c = (omega (arith, c.loop-turns.invariant.1.out_is, c.loop-turns.invariant.1.out_size), omega (arith, c.loop-turns.invariant.1.told_is, c.loop-turns.invariant.1.told_size), fits_now c.loop-turns.invariant.1 c.loop-turns.invariant.2)
 
-pub shape_of-input-then-not-state : goal.shape_of-input-then-not-state
-shape_of-input-then-not-state c = omega (arith, c.loop-turns.invariant.0)
-
-pub shape_of-unit-then-not-state : goal.shape_of-unit-then-not-state
-shape_of-unit-then-not-state c = omega (arith, c.loop-turns.invariant.1.unit_is)
-
-pub shape_of-out-then-not-state : goal.shape_of-out-then-not-state
-shape_of-out-then-not-state c = omega (arith, c.loop-turns.invariant.1.out_is)
-
-pub shape_of-told-then-not-state : goal.shape_of-told-then-not-state
-shape_of-told-then-not-state c = omega (arith, c.loop-turns.invariant.1.told_is)
-
 pub returns-then-not-state : goal.returns-then-not-state
 returns-then-not-state c = fits_before c.loop-turns.invariant.1 c.move_next-state.ensures
 
 pub loop-turns-preserved : goal.loop-turns-preserved
 loop-turns-preserved c = (omega (arith, c.loop-turns.invariant.0), sized_again c.loop-turns.invariant.1 (search rules) (search rules) (search rules), fits_before c.loop-turns.invariant.1 c.move_next-state.ensures)
-
-pub shape_of-input : goal.shape_of-input
-shape_of-input c = omega (arith, c.loop-turns.invariant.0)
-
-pub shape_of-unit : goal.shape_of-unit
-shape_of-unit c = omega (arith, c.loop-turns.invariant.1.unit_is)
-
-pub shape_of-out : goal.shape_of-out
-shape_of-out c = omega (arith, c.loop-turns.invariant.1.out_is)
-
-pub shape_of-told : goal.shape_of-told
-shape_of-told c = omega (arith, c.loop-turns.invariant.1.told_is)
 
 pub returns : goal.returns
 returns c = shut_fits c.unread.ensures c.loop-turns.invariant.2

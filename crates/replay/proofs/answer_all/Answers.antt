@@ -4,5 +4,5 @@ use mathlib.Core.Path.{sym}
 use native.Mathlib.Omega.{arith}
 use Rattle.replay.proofs.answer_all.Goals as goal
 
-pub slice_bounds-write_all-end-2 : goal.slice_bounds-write_all-end-2
-slice_bounds-write_all-end-2 c = sym (length-take-le _ _ (omega arith))
+pub slice_bounds-write_whole-end-2 : goal.slice_bounds-write_whole-end-2
+slice_bounds-write_whole-end-2 c = sym (length-take-le _ _ (omega arith))

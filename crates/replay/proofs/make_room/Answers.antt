@@ -4,5 +4,5 @@ use mathlib.Core.Path.{sym}
 use native.Mathlib.Omega.{arith}
 use Rattle.replay.proofs.make_room.Goals as goal
 
-pub slice_bounds-write_all-end : goal.slice_bounds-write_all-end
-slice_bounds-write_all-end c = sym (length-take-le _ _ (omega (arith, c.requires)))
+pub slice_bounds-write_whole-end : goal.slice_bounds-write_whole-end
+slice_bounds-write_whole-end c = sym (length-take-le _ _ (omega (arith, c.requires)))

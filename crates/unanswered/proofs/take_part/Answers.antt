@@ -2,11 +2,5 @@
 use native.Mathlib.Omega.{arith}
 use Rattle.unanswered.proofs.take_part.Goals as goal
 
-pub shape_of-unit-then-now-gt0 : goal.shape_of-unit-then-now-gt0
-shape_of-unit-then-now-gt0 c = omega (arith, c.loop-from.invariant.0)
-
-pub shape_of-out-then-now-gt0 : goal.shape_of-out-then-now-gt0
-shape_of-out-then-now-gt0 c = omega (arith, c.loop-from.invariant.1)
-
 pub returns-then-now-gt0 : goal.returns-then-now-gt0
 returns-then-now-gt0 c = omega (arith, c.closed.ensures, c.take_fed-now.ensures, c.loop-from.invariant.0)

@@ -14,15 +14,6 @@ make_room-roomy-requires c = (omega (arith, c.loop-now.invariant.0.out_is, c.loo
 pub move_some-now-requires : goal.move_some-now-requires
 move_some-now-requires c = ready c.loop-now-test.true c.make_room-roomy.ensures
 
-pub shape_of-unit-then-is_over : goal.shape_of-unit-then-is_over
-shape_of-unit-then-is_over c = omega (arith, c.loop-now.invariant.0.unit_is)
-
-pub shape_of-out-then-is_over : goal.shape_of-out-then-is_over
-shape_of-out-then-is_over c = omega (arith, c.loop-now.invariant.0.out_is)
-
-pub shape_of-told-then-is_over : goal.shape_of-told-then-is_over
-shape_of-told-then-is_over c = omega (arith, c.loop-now.invariant.0.told_is)
-
 pub returns-then-is_over : goal.returns-then-is_over
 returns-then-is_over c = shut_fits c.closed.ensures (fits_before c.loop-now.invariant.0 c.move_some-now.ensures.fits)
 
@@ -31,15 +22,6 @@ loop-now-smaller c = omega (arith, c.loop-now-test.true, c.make_room-roomy.ensur
 
 pub loop-now-preserved : goal.loop-now-preserved
 loop-now-preserved c = (sized_again c.loop-now.invariant.0 (search rules) (search rules) (search rules), c.move_some-now.ensures.within, fits_before c.loop-now.invariant.0 c.move_some-now.ensures.fits)
-
-pub shape_of-unit : goal.shape_of-unit
-shape_of-unit c = omega (arith, c.loop-now.invariant.0.unit_is)
-
-pub shape_of-out : goal.shape_of-out
-shape_of-out c = omega (arith, c.loop-now.invariant.0.out_is)
-
-pub shape_of-told : goal.shape_of-told
-shape_of-told c = omega (arith, c.loop-now.invariant.0.told_is)
 
 pub returns : goal.returns
 returns c = c.loop-now.invariant.2

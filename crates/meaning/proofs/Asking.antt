@@ -1,9 +1,9 @@
 -- The questions answer what the relation says, and nothing else is what it says. Assumes nothing.
-use Prim.Native.Nat.{ℕ, zero, suc, ◌+◌, ◌%◌, ◌^◌, ◌≤◌, ◌<◌}
+use Prim.Native.Nat.{ℕ, zero, suc, ◌%◌, ◌^◌, ◌≤◌}
 use mathlib.Core.Path.{◌≡◌, refl, sym, ap, subst, ◌∙◌}
 use mathlib.Core.Bool.{Bool, true, false, cond}
 use mathlib.Core.List.{List, [], ◌∷◌, ◌++◌}
-use mathlib.Core.Option.{Option, some, none, some-injective, some-ne-none, none-ne-some}
+use mathlib.Core.Option.{Option, some, none, some-injective, some-ne-none}
 use native.Mathlib.Omega.{arith}
 use lib.ListN.{length, get_or}
 use Rattle.text.specs.Quote.{bytes}
@@ -12,7 +12,7 @@ use Rattle.text.specs.declared.place.Found.TheVariants as F
 use Rattle.text.proofs.Places.{by_order}
 use Rattle.tlv.specs.Number.{Bytes}
 use Rattle.book.specs.declared.Uuid.{Uuid}
-use Rattle.book.specs.Grammar.{Range, GoodRange, range_piece, Table, IsBook}
+use Rattle.book.specs.Grammar.{Range, GoodRange, range_piece, IsBook}
 use Rattle.book.proofs.Unique.{one_book}
 use Rattle.packet.specs.declared.MaybeUuid.{MaybeUuid}
 use Rattle.packet.specs.declared.MaybeUuid.TheVariants as U
@@ -27,16 +27,15 @@ use Rattle.packet.proofs.Theorems.{packet_number_exactly, packet_answered_exactl
 use Rattle.text.specs.Told.{Told, is, absent, refused, unless}
 use Rattle.entry.specs.Entry.{maybe_word}
 use Rattle.packet.specs.Packet.{maybe_uuid}
-use Rattle.questions.specs.Described.{is_read, is_write, route_in, top_bit, cut, asked_at, asked, adapter_in, address_in, size_in, uuid_in}
-use Rattle.questions.specs.Questions.{refusal, answer, adapter_of, address_of, size_of, uuid_by_name, uuid_answer, start_of, route_of, cm_of}
-use Rattle.meaning.specs.First.{First, None}
+use Rattle.questions.specs.Described.{is_read, is_write, cut, asked_at, asked, adapter_in, address_in, size_in, uuid_in}
+use Rattle.questions.specs.Questions.{refusal, answer, adapter_of, address_of, size_of, uuid_by_name, uuid_answer, start_of}
 use Rattle.meaning.specs.Packet.{Description, RangeNamed, value_of, Each, IsUuid, Holds, FoundAt, IsPacket, Refuses}
 use Rattle.meaning.specs.Call.{Applies, NoNumber, option_uuid, option_word}
-use Rattle.meaning.specs.Questions.{Asked, Tells, Adapter, Address, Size, UuidNamed, Kept, Sentence, Answers, Question}
+use Rattle.meaning.specs.Questions.{Asked, Tells, Adapter, Address, Size, UuidNamed, Kept, Sentence, Question}
 use Rattle.meaning.proofs.One.{first_some, one_first, one_range, one_uuid, one_packet}
-use Rattle.meaning.proofs.Bridge.{Got, Stood, Place, At, range_got, value_at}
-use Rattle.meaning.proofs.Describing.{AllAt, GotEach, gathers}
-use Rattle.meaning.proofs.Meaning.{PacketGot, packet_got, four_or_none, asks_holds, holds_asks, Told as FirstTold, first_told, all_long}
+use Rattle.meaning.proofs.Bridge.{Place, At, range_got, value_at}
+use Rattle.meaning.proofs.Describing.{AllAt, gathers}
+use Rattle.meaning.proofs.Meaning.{packet_got, four_or_none, asks_holds, holds_asks, Told as FirstTold, first_told, all_long}
 use Rattle.meaning.proofs.Numbers.{none_applies, number_is}
 use Rattle.meaning.proofs.Exactly.{no_number}
 

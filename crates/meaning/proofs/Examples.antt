@@ -6,7 +6,7 @@ use mathlib.Core.List.{List, [], ◌∷◌, ◌++◌}
 use lib.ListN.{replicate}
 use Rattle.text.specs.Quote.{bytes}
 use Rattle.tlv.specs.Grammar.{field_bytes}
-use Rattle.packet.specs.declared.MaybeUuid.TheVariants.{Is, Absent}
+use Rattle.packet.specs.declared.MaybeUuid.TheVariants.{Absent}
 use Rattle.packet.specs.Packet.{places_of, uuid_of}
 use Rattle.packet.proofs.Examples.{named, plain, typed, packet_type, packets_open}
 

@@ -1,17 +1,17 @@
 -- The packet of a kind, a book and dwords is the relation's, and its places are where its descriptions stand. Assumes nothing.
-use Prim.Native.Nat.{ℕ, zero, suc, ◌+◌, ◌%◌, ◌≤◌, ◌<◌}
+use Prim.Native.Nat.{ℕ, suc, ◌+◌, ◌%◌, ◌≤◌, ◌<◌}
 use mathlib.Core.Path.{◌≡◌, refl, sym, ap, subst, ◌∙◌}
 use mathlib.Core.Bool.{Bool, true, false, cond, not, ◌&&◌, false≢true}
-use mathlib.Core.List.{List, [], ◌∷◌, ◌++◌, map}
+use mathlib.Core.List.{List, [], ◌∷◌, map}
 use mathlib.Core.Option.{Option, some, none, some-ne-none}
 use native.Mathlib.Omega.{arith}
 use borrow.Author.Tests.{eq-eqb, ne_eqb, ltb-false}
 use lib.Dec.{eqb, ltb}
-use lib.ListN.{length, get_or, take, drop, length-append}
+use lib.ListN.{length, get_or, length-append}
 use Rattle.text.specs.Quote.{bytes}
 use Rattle.text.specs.declared.place.Found.{Found}
 use Rattle.text.specs.declared.place.Found.TheVariants as F
-use Rattle.tlv.specs.Grammar.{All, fields_bytes}
+use Rattle.tlv.specs.Grammar.{fields_bytes}
 use Rattle.tlv.proofs.Pieces.{made_field}
 use Rattle.book.specs.declared.Uuid.{Uuid}
 use Rattle.book.specs.Grammar.{Range, GoodRange, range_piece, Owner, kind, uuid, Table, GoodTable, table_piece, IsBook}
@@ -22,15 +22,15 @@ use Rattle.packet.specs.declared.MaybeUuid.{MaybeUuid}
 use Rattle.packet.specs.declared.MaybeUuid.TheVariants as U
 use Rattle.packet.specs.declared.field.Ask.TheVariants as Ask
 use Rattle.packet.specs.Field.{range_in, asks}
-use Rattle.packet.specs.Steps.{control_places, header_places, values_named, exactly_four, gathered, protocol_from, protocol_places, places_in, places_by, uuid_places}
+use Rattle.packet.specs.Steps.{control_places, header_places, values_named, exactly_four, gathered, protocol_places, places_in, places_by, uuid_places}
 use Rattle.packet.proofs.Packets.{Passed, passed, length_places}
 use Rattle.packet.specs.Packet.{is_nothing, number_checked, is_read_response_or_write_request, is_xdomain, zero_uuid, control_at, header_at, entries_of, step_one, places_of, uuid_of, first_from, behind, view_from, word}
-use Rattle.meaning.specs.First.{First, FirstOf, None}
-use Rattle.meaning.specs.Packet.{Description, RangeNamed, Each, Gathers, four, IsUuid, Control, StepOne, TableOf, ProtocolTable, Behind, GoesOn, Stays, Holds, FoundAt, JustAfter, View, IsPacket}
+use Rattle.meaning.specs.First.{None}
+use Rattle.meaning.specs.Packet.{Description, RangeNamed, Each, Gathers, four, IsUuid, StepOne, TableOf, ProtocolTable, Behind, GoesOn, Stays, Holds, FoundAt, JustAfter, View, IsPacket}
 use Rattle.meaning.specs.Call.{option_uuid, option_word}
 use Rattle.meaning.proofs.One.{one_gather, one_range, one_step}
-use Rattle.meaning.proofs.Bridge.{Got, Place, At, TableAt, table_place, range_got}
-use Rattle.meaning.proofs.Describing.{AllAt, GotEach, control_got, header_got, gathers, Latch, protocol_got}
+use Rattle.meaning.proofs.Bridge.{Place, At, TableAt, table_place, range_got}
+use Rattle.meaning.proofs.Describing.{AllAt, GotEach, control_got, header_got, gathers, protocol_got}
 
 -- ---- the UUID
 

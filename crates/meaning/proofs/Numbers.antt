@@ -1,25 +1,25 @@
 -- The numbers of the relation are those of the packet call: on a book each condition of the one is that of the other, and both run in number order.
 -- Assumes nothing.
-use Prim.Native.Nat.{ℕ, zero, suc, ◌<◌}
+use Prim.Native.Nat.{ℕ, ◌<◌}
 use mathlib.Core.Path.{◌≡◌, refl, sym, ap, subst, ◌∙◌}
 use mathlib.Core.Bool.{Bool, true, false, cond, ◌&&◌}
 use mathlib.Core.List.{List, [], ◌∷◌, ◌++◌}
 use mathlib.Core.Logic.{◌↔◌, ◌⊎◌, inl, inr}
-use mathlib.Core.Option.{Option, some, none}
+use mathlib.Core.Option.{some, none}
 use native.Mathlib.Omega.{arith}
 use borrow.Author.Tests.{eqb-true, ne_eqb}
 use lib.Dec.{eqb, leb}
 use lib.ListN.{length}
 use Rattle.text.proofs.Places.{by_order}
 use Rattle.tlv.specs.Number.{Bytes}
-use Rattle.tlv.specs.Grammar.{All, Apart}
+use Rattle.tlv.specs.Grammar.{Apart}
 use Rattle.book.specs.Reading.{tables_fill, check_of}
 use Rattle.book.specs.Grammar.{Owner, kind, uuid, Table, IsBook}
 use Rattle.book.proofs.Book.{book_is, book_refused_exactly}
 use Rattle.book.proofs.Unique.{one_book}
 use Rattle.packet.specs.Conditions.{Has, HasNot, NoHeader, TooFew as FewDwords, Condition, Applies as PacketApplies}
-use Rattle.packet.specs.Packet.{is_read_response_or_write_request, is_xdomain, zero_uuid}
-use Rattle.meaning.specs.First.{First, None}
+use Rattle.packet.specs.Packet.{is_xdomain, zero_uuid}
+use Rattle.meaning.specs.First.{None}
 use Rattle.meaning.specs.Packet.{TableOf, TooFew, Refuses}
 use Rattle.meaning.specs.Call.{Applies, IsNumber, NoNumber}
 use Rattle.meaning.proofs.One.{among_all}

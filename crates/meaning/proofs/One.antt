@@ -1,11 +1,10 @@
 -- The relation has one answer. Nothing here knows of bytes. Assumes nothing.
-use Prim.Native.Nat.{ℕ, zero, suc, ◌<◌}
+use Prim.Native.Nat.{ℕ, suc}
 use mathlib.Core.Path.{◌≡◌, refl, sym, ap, subst, ◌∙◌}
 use mathlib.Core.Bool.{Bool, true, false, cond}
 use mathlib.Core.List.{List, [], ◌∷◌, ◌++◌}
-use mathlib.Core.Logic.{◌⊎◌, inl, inr, ⊎_elim}
-use mathlib.Core.Option.{Option, some, none, some-ne-none, none-ne-some, some-injective}
-use native.Mathlib.Omega.{arith}
+use mathlib.Core.Logic.{inl, inr}
+use mathlib.Core.Option.{Option, some, none, some-ne-none, some-injective}
 use lib.ListN.{length, get_or}
 use Rattle.text.specs.Quote.{bytes}
 use Rattle.text.proofs.Places.{by_order}
@@ -14,7 +13,7 @@ use Rattle.book.specs.declared.Uuid.{Uuid}
 use Rattle.book.specs.Grammar.{Value, Range, Entry, Owner, kind, uuid, Table}
 use Rattle.packet.specs.Packet.{is_read_response_or_write_request, is_xdomain, zero_uuid}
 use Rattle.meaning.specs.First.{First, FirstOf, None, Else}
-use Rattle.meaning.specs.Packet.{Description, OfOffset, OfType, Taken, Named, ranges_of, RangeNamed, value_of, ValueNumbered, TypeNamed, Each, Gathers, four, IsUuid, Control, StepOne, Fits, Takes, Latches, Governs, StepThree, TableOf, ProtocolTable, Behind, GoesOn, Stays, Holds, FoundAt, JustAfter, View, IsPacket}
+use Rattle.meaning.specs.Packet.{Description, OfOffset, OfType, Taken, ranges_of, RangeNamed, value_of, ValueNumbered, TypeNamed, Each, Gathers, four, IsUuid, Control, StepOne, Fits, Takes, Latches, Governs, StepThree, TableOf, ProtocolTable, Behind, GoesOn, Stays, Holds, JustAfter, View, IsPacket}
 
 -- at most one answer
 abbrev pub Single : {X : Type 0} → (Option X → Type 0) → Type 0

@@ -3,7 +3,7 @@ use Prim.Native.Nat.{ℕ}
 use mathlib.Core.List.{List}
 use Rattle.tlv.specs.Number.{Bytes}
 use Rattle.packet.specs.declared.field.Ask.TheVariants as Ask
-use Rattle.meaning.specs.Meaning.{ParseCall, Questions, FieldCalls, PacketMeaning}
+use Rattle.meaning.specs.Meaning.{ParseCall, Questions, PacketMeaning}
 use Rattle.meaning.proofs.One.{one_packet}
 use Rattle.meaning.proofs.KindWords.{kinds}
 use Rattle.meaning.proofs.Exactly.{packet_exactly}

@@ -2,14 +2,14 @@
 -- Assumes nothing.
 use Prim.Native.Nat.{ℕ, zero, suc, ◌+◌, ◌<◌}
 use mathlib.Core.Path.{◌≡◌, refl, sym, ap, ◌∙◌}
-use mathlib.Core.List.{List, [], ◌∷◌, ◌++◌, map}
+use mathlib.Core.List.{List, ◌∷◌, ◌++◌, map}
 use mathlib.Core.Logic.{◌⊎◌, inl, inr}
 use native.Mathlib.Omega.{arith}
 use lib.ListN.{length, take, drop, length-append}
 use Rattle.tlv.specs.Number.{number_bytes}
 use Rattle.tlv.specs.Grammar.{Piece, All, field_bytes, fields_bytes}
 use Rattle.tlv.proofs.Fields.{Found as FieldFound, field_found}
-use Rattle.book.specs.Grammar.{optional_bytes, Value, GoodValue, value_piece, Range, GoodRange, range_piece, Entry, GoodEntry, entry_piece, IsBook}
+use Rattle.book.specs.Grammar.{optional_bytes, Value, GoodValue, value_piece, Range, GoodRange, range_piece, Entry, entry_piece, IsBook}
 use Rattle.book.specs.Finders.{StandsAt, Finds, range_of_name, value_of_number}
 use Rattle.book.proofs.Finding.{first_stands, stands_whole}
 use Rattle.book.proofs.Answers.{first_good, range_of_name_is, value_of_number_is}

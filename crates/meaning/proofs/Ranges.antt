@@ -2,10 +2,10 @@
 -- Assumes nothing.
 use Prim.Native.Nat.{ℕ, zero, suc, ◌+◌, ◌≤◌, ◌<◌}
 use mathlib.Core.Path.{◌≡◌, refl, sym, ap, subst, ◌∙◌}
-use mathlib.Core.Bool.{Bool, true, false, cond}
+use mathlib.Core.Bool.{Bool, true, false}
 use mathlib.Core.List.{List, [], ◌∷◌, ◌++◌, map}
 use mathlib.Core.Logic.{◌⊎◌, inl, inr}
-use mathlib.Core.Option.{Option, some, none, some-injective, some-ne-none, none-ne-some}
+use mathlib.Core.Option.{Option, some, none, some-injective}
 use native.Mathlib.Omega.{arith}
 use borrow.Author.Tests.{ltb-true, ltb-false}
 use lib.Dec.{ltb}
@@ -13,12 +13,11 @@ use lib.ListN.{length, get_or, take, drop, length-append}
 use Rattle.text.specs.Told.{Told, is, absent, refused}
 use Rattle.text.specs.Part.{or_start}
 use Rattle.tlv.specs.Grammar.{Piece, fields_bytes}
-use Rattle.tlv.specs.Reading.{between}
 use Rattle.tlv.proofs.Fields.{field_found}
-use Rattle.book.specs.Grammar.{text_of, Value, GoodValue, value_piece, Range, GoodRange, range_piece, GoodEntry, entry_piece, Table, IsBook}
+use Rattle.book.specs.Grammar.{text_of, Value, value_piece, Range, GoodRange, range_piece, entry_piece, IsBook}
 use Rattle.book.specs.Finders as finders
 use Rattle.book.specs.Finders.{StandsAt, count_inside, value_of_number}
-use Rattle.book.proofs.Answers.{range_low_is, range_high_is, range_name_is, entry_name_is, value_name_is, count_ranges_is, nth_range_is, nth_range_none}
+use Rattle.book.proofs.Answers.{range_low_is, range_high_is, range_name_is, count_ranges_is, nth_range_is, nth_range_none}
 use Rattle.packet.specs.Field.{inside, name_in, range_in, value_in}
 use Rattle.packet.proofs.Fields.{inside_none, inside_some, name_none, name_some}
 use Rattle.field.specs.declared.Source.{Source}
@@ -30,13 +29,13 @@ use Rattle.field.specs.Source.{place_in, entry_of}
 use Rattle.field.specs.Ranges.{field_name, range_count, range_at, nth_range, range_named, range_name, value_place, value_name}
 use Rattle.book.specs.Finders.{before_name, name_place}
 use Rattle.field.specs.Names.{span_of, Names}
-use Rattle.meaning.specs.First.{None, First}
-use Rattle.meaning.specs.Packet.{Description, ranges_of, value_of, ValueNumbered}
+use Rattle.meaning.specs.First.{None}
+use Rattle.meaning.specs.Packet.{Description}
 use Rattle.meaning.specs.Places.{Stands, PlaceOf, entry_up_to, RangeStands, ValueStands}
 use Rattle.meaning.specs.Questions.{IsSource}
-use Rattle.meaning.specs.Fields.{NameOf, RangeCount, IsRange, NthRange, RangeAt, FirstNamed, RangeOfName, NumberedAt, NumberPlace, NumberName, SpanOf, FieldSays, RangeSays, NameSays}
-use Rattle.meaning.proofs.One.{among_all, first_some, one_first}
-use Rattle.meaning.proofs.Bridge.{Stood, Located, At, some_bytes, drop_place, name_at, value_at, value_name_at}
+use Rattle.meaning.specs.Fields.{NameOf, RangeCount, IsRange, RangeAt, RangeOfName, NumberPlace, NumberName, SpanOf, FieldSays, RangeSays, NameSays}
+use Rattle.meaning.proofs.One.{first_some, one_first}
+use Rattle.meaning.proofs.Bridge.{Stood, At, some_bytes, drop_place, name_at, value_at, value_name_at}
 use Rattle.meaning.proofs.Exactly.{one_range_stands, one_value_stands}
 use Rattle.meaning.proofs.Standing.{located, range_stood, value_stood, range_rest}
 use Rattle.meaning.proofs.Placing.{RangeHere, range_placed, NumberHere, number_placed}

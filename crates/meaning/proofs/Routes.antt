@@ -9,9 +9,8 @@ use lib.Dec.{eqb}
 use lib.ListN.{length}
 use Rattle.bits.specs.Range.{bit}
 use Rattle.tlv.specs.Number.{Bytes}
-use Rattle.packet.specs.Packet.{is_xdomain}
 use Rattle.text.specs.Told.{Told, is, absent, refused}
-use Rattle.questions.specs.Described.{is_read, is_write, route_in, top_bit}
+use Rattle.questions.specs.Described.{route_in, top_bit}
 use Rattle.questions.specs.Questions.{route_of, cm_of, read_of, write_of, xdomain_of}
 use Rattle.meaning.specs.Questions.{RouteIs, Route, Cm, Read, Write, Xdomain, Question}
 use Rattle.meaning.proofs.Asking.{Sole, asks_exactly, one_question}

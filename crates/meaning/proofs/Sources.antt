@@ -1,9 +1,9 @@
 -- Which table a description comes from: the test by places tells the owner of its table. Assumes nothing.
 use Prim.Native.Nat.{ℕ, zero, suc, ◌+◌, ◌≤◌, ◌<◌}
 use mathlib.Core.Path.{◌≡◌, refl, sym, ap, subst, ◌∙◌}
-use mathlib.Core.Bool.{Bool, true, false, cond, ◌&&◌, false≢true}
+use mathlib.Core.Bool.{Bool, true, false, cond, false≢true}
 use mathlib.Core.List.{List, [], ◌∷◌, ◌++◌, map}
-use mathlib.Core.Logic.{◌⊎◌, inl, inr, ⊎_elim}
+use mathlib.Core.Logic.{◌⊎◌, inl, inr}
 use mathlib.Core.Option.{Option, some, none, some-ne-none}
 use native.Mathlib.Omega.{arith}
 use borrow.Author.Tests.{leb-true, le-leb, ltb-true, lt-ltb}
@@ -17,16 +17,15 @@ use Rattle.book.specs.declared.Uuid.{Uuid}
 use Rattle.book.specs.Grammar.{Entry, entry_piece, Owner, kind, uuid, owner_bytes, Table, table_piece, IsBook}
 use Rattle.book.specs.Finders.{control_table, uuid_table}
 use Rattle.packet.specs.Packet.{is_xdomain, zero_uuid}
-use Rattle.field.specs.declared.Source.{Source}
 use Rattle.field.specs.declared.Source.TheVariants as S
 use Rattle.field.specs.Source.{stands_in, source_of}
-use Rattle.meaning.specs.First.{First, None, Else}
-use Rattle.meaning.specs.Packet.{Description, Taken, TableOf, Each, Behind, Control, StepOne, StepThree, GoesOn, Stays, ProtocolTable, IsPacket}
+use Rattle.meaning.specs.First.{None, Else}
+use Rattle.meaning.specs.Packet.{Description, Taken, TableOf, Each, Behind, StepOne, GoesOn, Stays, ProtocolTable, IsPacket}
 use Rattle.meaning.specs.Places.{Stands}
 use Rattle.meaning.specs.Questions.{IsSource}
 use Rattle.meaning.proofs.One.{among_all, one_split}
-use Rattle.meaning.proofs.Bridge.{At, Located, TableAt, some_bytes, fields_both, owner_both}
-use Rattle.meaning.proofs.Meaning.{Sits, TableGot, control_table_got, uuid_table_got}
+use Rattle.meaning.proofs.Bridge.{At, TableAt, some_bytes, fields_both, owner_both}
+use Rattle.meaning.proofs.Meaning.{Sits, control_table_got, uuid_table_got}
 use Rattle.meaning.proofs.Exactly.{apart_before, all_map, tables_before}
 
 -- ---- two tables of one book

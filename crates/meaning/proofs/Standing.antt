@@ -1,22 +1,21 @@
 -- What stands where the relation says is read there: level by level, the bytes from a place on are those of the entry, range or value.
 -- Assumes nothing.
-use Prim.Native.Nat.{ℕ, ◌+◌, ◌<◌}
+use Prim.Native.Nat.{ℕ, ◌+◌}
 use mathlib.Core.Path.{◌≡◌, refl, sym, ap, subst, ◌∙◌}
 use mathlib.Core.List.{List, [], ◌∷◌, ◌++◌, map, append_assoc}
-use mathlib.Core.Option.{Option, some, none}
 use native.Mathlib.Omega.{arith}
 use lib.Seq.{drop-drop, drop-append_seam}
-use lib.ListN.{length, take, drop, length-append}
+use lib.ListN.{length, take, drop}
 use Rattle.tlv.specs.Number.{number_bytes}
 use Rattle.tlv.specs.Grammar.{Piece, All, field_bytes, fields_bytes}
 use Rattle.tlv.proofs.Fields.{Found as FieldFound, field_found}
-use Rattle.book.specs.Grammar.{optional_bytes, Value, GoodValue, value_piece, Range, GoodRange, range_piece, Entry, GoodEntry, entry_piece, Owner, kind, uuid, owner_bytes, Table, GoodTable, table_piece, IsBook}
+use Rattle.book.specs.Grammar.{optional_bytes, Value, GoodValue, value_piece, Range, GoodRange, range_piece, Entry, GoodEntry, entry_piece, Owner, kind, uuid, owner_bytes, GoodTable, table_piece, IsBook}
 use Rattle.book.specs.Finders.{StandsAt}
 use Rattle.book.proofs.Finding.{first_stands, stands_whole}
 use Rattle.meaning.specs.Packet.{Description}
-use Rattle.meaning.specs.Places.{Stands, entry_up_to, range_up_to, RangeStands, ValueStands}
+use Rattle.meaning.specs.Places.{Stands, entry_up_to, RangeStands, ValueStands}
 use Rattle.meaning.proofs.One.{among_all}
-use Rattle.meaning.proofs.Bridge.{Stood, Located, fields_both, owner_both}
+use Rattle.meaning.proofs.Bridge.{Stood, Located, fields_both}
 
 -- ---- one law for all levels
 

@@ -1,8 +1,8 @@
 -- What is proved of packets, as one record: the packet call, the questions and the calls of a field answer what the relation says, and nothing else
 -- is what it says.
 -- Assumes nothing.
-use Rattle.std.specs.Prelude.{ℕ, ◌≡◌, Bool, true, List, [], ◌∷◌, ◌++◌, ◌↔◌, ◌⊎◌, length}
-use Rattle.std.proofs.Math.Option.{Option, some}
+use Rattle.std.specs.Prelude.{ℕ, ◌≡◌, true, List, [], ◌∷◌, ◌++◌, ◌↔◌, ◌⊎◌, length}
+use Rattle.std.proofs.Math.Option.{Option}
 use Rattle.tlv.specs.Number.{Bytes}
 use Rattle.book.specs.declared.Uuid.{Uuid}
 use Rattle.book.specs.Grammar.{text_of, Value, Range, Table, IsBook}

@@ -1,6 +1,6 @@
 -- The reasons beside the entry: the number that a key says is the number its field was read from, and the numbers that the pieces say, in order,
 -- are the dwords; and strict refuses the pieces exactly where one of them says none. Assumes nothing.
-use Prim.Native.Nat.{ℕ, zero, suc, ◌+◌, ◌-◌, ◌^◌, ◌≤◌, ◌<◌}
+use Prim.Native.Nat.{ℕ, suc, ◌+◌, ◌-◌, ◌^◌, ◌≤◌, ◌<◌}
 use mathlib.Core.Path.{◌≡◌, refl, sym, ap, ◌∙◌}
 use mathlib.Core.List.{List, [], ◌∷◌, ◌++◌, append_assoc}
 use mathlib.Core.Logic.{◌↔◌}
@@ -9,7 +9,7 @@ use native.Mathlib.Omega.{arith}
 use lib.ListN.{length, take, drop, get_or, length-append}
 use lib.Seq.{split_at, length-take-le}
 use Rattle.text.specs.Told.{Told, is, absent, refused}
-use Rattle.text.specs.Number.{Means, number_value, read_value, hex_of, hex_number_of}
+use Rattle.text.specs.Number.{Means, number_value, read_value, hex_number_of}
 use Rattle.text.specs.Quote.{bytes}
 use Rattle.text.specs.declared.number.Number as NumberModule
 use Rattle.text.specs.declared.number.Number.TheVariants as N
@@ -28,7 +28,7 @@ use Rattle.pairs.proofs.Pieces.{nth_is, nth_all}
 use Rattle.scan.specs.declared.Pieces.{Pieces}
 use Rattle.scan.specs.declared.Pieces.TheVariants.{Strict}
 use Rattle.scan.specs.Frame.{frame_of}
-use Rattle.scan.specs.Line.{Line, KeyText, KeyHex, Optional, BadPiece, Has, Condition, order_of, Applies}
+use Rattle.scan.specs.Line.{Line, KeyHex, Optional, BadPiece, Has, Condition, order_of, Applies}
 use Rattle.scan.specs.Parse.{payload_of, with_frame, parse_of}
 use Rattle.scan.proofs.Keys.{key_hex_is}
 use Rattle.scan.proofs.Splits.{one_payload}

@@ -1,14 +1,14 @@
 -- Pieces: the brackets of the last `data` are found where they stand, and the walk through what is in them comes to the piece of that number.
 -- Assumes nothing.
-use Prim.Native.Nat.{ℕ, suc, ◌+◌, ◌-◌, ◌^◌, ◌≤◌, ◌<◌}
+use Prim.Native.Nat.{ℕ, ◌+◌, ◌-◌, ◌^◌, ◌≤◌}
 use mathlib.Core.Path.{◌≡◌, refl, sym, ap, ◌∙◌}
 use mathlib.Core.List.{List, [], ◌∷◌, ◌++◌}
 use mathlib.Core.Option.{some}
 use native.Mathlib.Omega.{arith}
-use lib.ListN.{length, take, drop, length-drop}
+use lib.ListN.{length, drop, length-drop}
 use lib.Seq.{length-take-le}
-use Rattle.text.specs.Told.{Told, is, absent, refused}
-use Rattle.text.specs.Number.{Means, hex_of}
+use Rattle.text.specs.Told.{is, absent, refused}
+use Rattle.text.specs.Number.{hex_of}
 use Rattle.text.specs.Quote.{bytes}
 use Rattle.text.proofs.Hexes.{hex_means, means_all}
 use Rattle.pairs.specs.declared.pair.Span.{Span}
@@ -21,7 +21,7 @@ use Rattle.pairs.proofs.Slots.{data_is, data_stands, data_inner, bracketed}
 use Rattle.pairs.proofs.Pieces.{nth_is, nth_within, nth_all}
 use Rattle.reasons.specs.declared.HexText.{HexText}
 use Rattle.reasons.specs.Reasons.{said_at, moved, brackets_at, data_span, piece_at, piece_in}
-use Rattle.reasons.specs.Meaning.{Spot, PieceAt}
+use Rattle.reasons.specs.Meaning.{PieceAt}
 use Rattle.reasons.proofs.Spots.{part_in_part, Sits, Stands, Answers, one_text, told_same}
 
 -- ---- the brackets

@@ -1,11 +1,11 @@
 -- Spans and what they say: a span that was found lies in its text, so it has a place in the line, and each call's answer is the definition's
 -- by the case it took. Assumes nothing.
 use Prim.Native.Nat.{ℕ, ◌+◌, ◌-◌, ◌^◌, ◌≤◌, ◌<◌}
-use mathlib.Core.Path.{◌≡◌, refl, sym, ap, ◌∙◌}
+use mathlib.Core.Path.{◌≡◌, refl, sym}
 use mathlib.Core.List.{List}
 use native.Mathlib.Omega.{arith}
 use lib.ListN.{length, drop, length-drop}
-use Rattle.text.specs.Told.{Told, is, absent, refused, and_then}
+use Rattle.text.specs.Told.{is, absent, refused}
 use Rattle.text.specs.Class.{is_blank}
 use Rattle.text.specs.Number.{hex_of}
 use Rattle.text.specs.Quote.{bytes}
@@ -15,15 +15,12 @@ use Rattle.text.specs.declared.number.Reading.{Reading}
 use Rattle.pairs.specs.declared.pair.Span.{Span}
 use Rattle.pairs.specs.declared.pair.Span.TheVariants.{At, Nothing}
 use Rattle.pairs.specs.Pair.{part, last_pair, ValueAt}
-use Rattle.pairs.specs.Data.{inside_of, nth_piece, Bracketed, NthPiece}
+use Rattle.pairs.specs.Data.{Bracketed, NthPiece}
 use Rattle.scan.specs.Frame.{frame_of}
-use Rattle.scan.specs.Parse.{payload_of}
 use Rattle.reasons.specs.declared.Key.{Key}
-use Rattle.reasons.specs.declared.HexText.{HexText}
 use Rattle.reasons.specs.declared.payload.Place.{Place}
-use Rattle.reasons.specs.declared.payload.Payload.{Payload}
 use Rattle.reasons.specs.declared.payload.Payload.TheVariants as P
-use Rattle.reasons.specs.Reasons.{name_of, limit_of, payload_from, payload_place, payload_told, said_at, moved, brackets_at, data_span, piece_at, key_in, piece_in, key_answer, piece_answer, SpanWithin, PlacedAt, PayloadAt, DataAt}
+use Rattle.reasons.specs.Reasons.{name_of, limit_of, payload_from, payload_place, said_at, moved, brackets_at, data_span, piece_at, key_in, piece_in, key_answer, piece_answer, SpanWithin, PlacedAt, PayloadAt, DataAt}
 
 -- ---- spans within their text
 

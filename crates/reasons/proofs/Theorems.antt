@@ -1,10 +1,9 @@
 -- Why a hex number was unreadable, in one statement; and no second answer. Assumes nothing.
 use Prim.Native.Nat.{ℕ, ◌-◌, ◌^◌}
-use mathlib.Core.Path.{◌≡◌, refl, sym, ap, ◌∙◌}
+use mathlib.Core.Path.{◌≡◌, refl, sym, ◌∙◌}
 use mathlib.Core.List.{List}
 use mathlib.Core.Logic.{◌↔◌}
-use native.Mathlib.Omega.{arith}
-use Rattle.text.specs.Told.{Told, is, absent, refused}
+use Rattle.text.specs.Told.{Told}
 use Rattle.text.proofs.Hexes.{hex_exactly, one_meaning}
 use Rattle.text.proofs.Told.{by_cases, fixed_by_told}
 use Rattle.reasons.specs.declared.Key.{Key}

@@ -3,12 +3,12 @@
 use Prim.Native.Nat.{ℕ, zero, suc, ◌+◌, ◌-◌, ◌≤◌, ◌<◌}
 use mathlib.Core.Path.{◌≡◌, refl, sym, ap, ◌∙◌}
 use mathlib.Core.Bool.{Bool, true, false, cond}
-use mathlib.Core.List.{List, [], ◌∷◌, ◌++◌}
+use mathlib.Core.List.{List, [], ◌∷◌}
 use mathlib.Core.Logic.{◌↔◌}
 use native.Mathlib.Omega.{arith}
 use borrow.Author.Tests.{ne_eqb, lt-ltb}
 use lib.Dec.{ltb, eqb}
-use lib.ListN.{length, take, drop, length-take, length-drop}
+use lib.ListN.{length, take, drop}
 use lib.Seq.{drop-drop, drop-append-add}
 use Rattle.text.specs.Told.{Told, is, absent, refused, and_then}
 use Rattle.text.specs.Class.{is_blank}
@@ -19,17 +19,16 @@ use Rattle.text.proofs.Stripping.{front_size}
 use Rattle.pairs.specs.Pair.{part}
 use Rattle.scan.specs.declared.Pieces.TheVariants.{Strict}
 use Rattle.scan.specs.Frame.{Split, frame_of}
-use Rattle.scan.specs.Line.{Condition, order_of, Applies}
+use Rattle.scan.specs.Line.{order_of}
 use Rattle.scan.specs.Parse.{payload_of, header_of, parse_of}
-use Rattle.scan.proofs.Frames.{frame_passed, frame_colon_within}
+use Rattle.scan.proofs.Frames.{frame_passed}
 use Rattle.scan.proofs.Splits.{split_is, split_colon, one_payload}
 use Rattle.scan.proofs.Framed.{Framed, framed, frame_clear, frame_applies}
 use Rattle.scan.proofs.Theorems.{line_number_exactly}
 use Rattle.reasons.specs.declared.HexText.{HexText}
-use Rattle.reasons.specs.declared.payload.Place.{Place}
 use Rattle.reasons.specs.Reasons.{payload_from, payload_place}
 use Rattle.reasons.specs.Meaning.{Spot, start_in, Says, NoText, Asked, Tells}
-use Rattle.reasons.proofs.Spots.{part_in_part, Sits, Stands, Answers}
+use Rattle.reasons.proofs.Spots.{part_in_part, Sits, Answers}
 
 -- ---- the payload as a part of the line
 

@@ -1,10 +1,10 @@
 -- `frame::max_byte` meets its contract: the running maximum is below 128 as long as every byte is. Assumes nothing.
 use Rattle.scan.proofs.Levels.{level_none, level_up, level_stays}
 use lib.ListN.{length}
-use mathlib.Core.Logic.{⊎_elim}
 use mathlib.Core.Path.{◌≡◌}
 use native.Mathlib.Omega.{arith}
 use Rattle.scan.proofs.frame.max_byte.Goals as goal
+use Rattle.scan.proofs.frame.max_byte.Goals.{then-m-b, else-m-b}
 
 pub loop-i-init : goal.loop-i-init
 loop-i-init c = (omega arith, level_none _)
@@ -12,10 +12,10 @@ loop-i-init c = (omega arith, level_none _)
 pub loop-i-preserved : goal.loop-i-preserved
 loop-i-preserved c = (
   omega (arith, c.loop-i-test.true),
-  ⊎_elim
-      (λ t. rw t.1 (level_up _ c.loop-i.invariant.1 t.0.taken))
-      (λ t. rw t.1 (level_stays _ c.loop-i.invariant.1 t.0.left))
-      c.if-m-b.branch,
+  elim c.if-m-b.branch [
+    | then-m-b w ↦ rw w.m-is (level_up _ c.loop-i.invariant.1 w.if-m-b.true)
+    | else-m-b w ↦ rw w.m-is (level_stays _ c.loop-i.invariant.1 w.if-m-b.false)
+  ],
 )
 
 pub returns : goal.returns

@@ -4,7 +4,7 @@ use mathlib.Core.Path.{◌≡◌, refl, sym, ap, ◌∙◌}
 use mathlib.Core.List.{List, [], ◌∷◌, ◌++◌}
 use native.Mathlib.Omega.{arith}
 use lib.ListN.{length, take, drop, length-append}
-use lib.Seq.{sets, sets-eq, length-sets, take_at, take-add, take-length}
+use lib.Seq.{sets-eq, length-sets, take_at, take-add, take-length}
 use Rattle.channel.specs.declared.sink.Sink.{Sink}
 use Rattle.channel.specs.Sink.{Waits, Said}
 use Rattle.listing_rows.specs.Rows.{Put}

@@ -2,7 +2,6 @@
 use Rattle.std.specs.Prelude.{ℕ, ◌+◌, ◌≤◌, ◌<◌, ◌≡◌, List, [], ◌∷◌, ◌++◌, length}
 use Rattle.channel.specs.declared.sink.Sink.{Sink}
 use Rattle.channel.specs.Sink.{Waits}
-use Rattle.text.specs.Decimal.{decimal_text}
 use Rattle.entry.specs.declared.optional.MaybeEvent.{MaybeEvent}
 use Rattle.entry.specs.declared.optional.MaybeEvent.TheVariants as E
 use Rattle.entry.specs.Event.{name_of}

@@ -80,14 +80,14 @@ asks_it e = by_dropped e.dropped refl (eqb e.kind 0 || ltb 4 e.kind) refl
     by_kind_lem d seq q (asks h k) = rw h (request d k (under e seq q))
     by_kind_lem d seq q (answers h k) = rw h (response d k (under e seq q))
 
-    by_seq : e.dropped ≡ false → Matchable e → (s : MaybeByte) → e.seq ≡ s → Asks e (by_seq e s)
-    by_seq d m (B.Is seq) q = by_kind_lem d seq q (kind_of e.kind m.0 m.1)
-    by_seq d m B.Absent q = no_seq d m q
+    by_seq_lem : e.dropped ≡ false → Matchable e → (s : MaybeByte) → e.seq ≡ s → Asks e (by_seq e s)
+    by_seq_lem d m (B.Is seq) q = by_kind_lem d seq q (kind_of e.kind m.0 m.1)
+    by_seq_lem d m B.Absent q = no_seq d m q
 
     by_dropped : (d : Bool) → e.dropped ≡ d → (o : Bool) → (eqb e.kind 0 || ltb 4 e.kind) ≡ o → Asks e (cond d A.Dropped (cond o A.Other (by_seq e e.seq)))
     by_dropped true d o h = dropped d
     by_dropped false d true h = other d (λ m. let z = inside_test e.kind m.0 m.1 in let y : ◌≡◌ {A = ℕ} 0 1 = cc in omega arith)
-    by_dropped false d false h = by_seq d (test_inside e.kind h) e.seq refl
+    by_dropped false d false h = by_seq_lem d (test_inside e.kind h) e.seq refl
 
 -- ---- what is asked is computed
 computed : (e : Entry) (d o : Bool) (s : MaybeByte) → e.dropped ≡ d → (eqb e.kind 0 || ltb 4 e.kind) ≡ o → e.seq ≡ s

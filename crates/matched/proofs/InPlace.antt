@@ -1,11 +1,11 @@
 -- A request stays in its slot until it is answered: a newcomer goes to a free slot, and an answer lowers the ranks of those that came later by one and
 -- of no other. Assumes nothing.
-use Prim.Native.Nat.{ℕ, ◌+◌, ◌<◌}
+use Prim.Native.Nat.{ℕ, ◌<◌}
 use native.Mathlib.Omega.{arith}
 use mathlib.Core.Path.{◌≡◌, refl, sym, ap, subst}
 use mathlib.Core.Bool.{Bool, true, false}
 use mathlib.Core.List.{List}
-use lib.ListN.{length, get_or}
+use lib.ListN.{length}
 use lib.Dec.{ltb}
 use borrow.Author.Tests.{ltb-true, ltb-false}
 use Rattle.entry.specs.declared.Entry.{Entry}
@@ -13,7 +13,6 @@ use Rattle.slots.specs.declared.Four.{Four}
 use Rattle.slots.specs.declared.Slot.{Slot}
 use Rattle.slots.specs.declared.decide.Report.{Report}
 use Rattle.slots.specs.declared.decide.Report.TheVariants as R
-use Rattle.slots.specs.Decide.{free_slot}
 use Rattle.pending.specs.Table.{rank_at, four_at, Waits, Sound}
 use Rattle.pending.specs.Step.{Step}
 use Rattle.pending.specs.Step as S

@@ -77,7 +77,10 @@ freed_slots t four i o =
 
 pub each_slot_answered : (e : Entry) (t u : List Slot) (i : ℕ) → Step e t (R.Answered i) u
     → (four : Four) × (ask_of e ≡ A.Response four) × AnsweredAt t four i u
-each_slot_answered e t u i (S.answered {four} g q o) = (four, q, freed_slots t four i o)
+each_slot_answered e t u i step = by i u step
+  where
+    by : (i : ℕ) (u : List Slot) → Step e t (R.Answered i) u → (four : Four) × (ask_of e ≡ A.Response four) × AnsweredAt t four i u
+    by i u (S.answered {four} g q o) = (four, q, freed_slots t four i o)
 
 pub else_unchanged : (e : Entry) (t u : List Slot) (r : Report) → Step e t r u → ((i : ℕ) → r ≡ R.Taken i → ⊥) → ((i : ℕ) → r ≡ R.Answered i → ⊥)
     → u ≡ t
@@ -116,15 +119,19 @@ stray_exactly e t u r four g q step = by (rw q at (judged step))
 inside_freed : (t : List Slot) (four : Four) (i : ℕ) → OldestWith t four i → i < length (freed (rank_at t i) t)
 inside_freed t four i o = let n = length-map t (lowered_of (rank_at t i)) in let w = o.waits.0 in omega arith
 
-pub used_again : (e f : Entry) (t u v : List Slot) (r : Report) (i : ℕ) (four : Four) → Step e t (R.Answered i) u → ask_of f ≡ A.Request four
+behind : (e f : Entry) (t : List Slot) (i : ℕ) (u v : List Slot) (r : Report) (four : Four) → Step e t (R.Answered i) u → ask_of f ≡ A.Request four
     → Step f u r v → report_told r ≡ is W.taken
 unfolding report_told
-used_again e f t u v r i four (S.answered {four = was} g q o) p step = by (rw p at (judged step))
+behind e f t i u v r four (S.answered {four = was} g q o) p step = by (rw p at (judged step))
   where
     by : {s : Report} {w : List Slot} → Judged (freed (rank_at t i) t) (A.Request four) s w → report_told s ≡ is W.taken
     by (refuses n k m) = table_passes (stays_a_table e t (freed (rank_at t i) t) (R.Answered i) g (S.answered g q o)) n
     by (does h (taken a)) = refl
     by (does h (turned_away a)) = let z = (freed_slots t was i o).free in let w = a i (inside_freed t was i o) in absurd (omega arith)
+
+pub used_again : (e f : Entry) (t u v : List Slot) (r : Report) (i : ℕ) (four : Four) → Step e t (R.Answered i) u → ask_of f ≡ A.Request four
+    → Step f u r v → report_told r ≡ is W.taken
+used_again e f t u v r i four answer p step = behind e f t i u v r four answer p step
 
 -- no other slot becomes free
 pub first_freed : (t : List Slot) (four : Four) (i : ℕ) → Sound t → OldestWith t four i → ((j : ℕ) → j < i → 0 < rank_at t j)
@@ -137,11 +144,15 @@ first_freed t four i g o before =
           (λ e. let w = o.waits.0 in let k = one_slot g j i (omega arith, before j h) o.waits e in omega arith);
     }
 
-pub used_at_once : (e f : Entry) (t u v : List Slot) (r : Report) (i : ℕ) (four : Four) → Step e t (R.Answered i) u → ask_of f ≡ A.Request four
+at_once : (e f : Entry) (t : List Slot) (i : ℕ) (u v : List Slot) (r : Report) (four : Four) → Step e t (R.Answered i) u → ask_of f ≡ A.Request four
     → Step f u r v → ((j : ℕ) → j < i → 0 < rank_at t j) → r ≡ R.Taken i
-used_at_once e f t u v r i four (S.answered {four = was} g q o) p step before = by (rw p at (judged step))
+at_once e f t i u v r four (S.answered {four = was} g q o) p step before = by (rw p at (judged step))
   where
     by : {s : Report} {w : List Slot} → Judged (freed (rank_at t i) t) (A.Request four) s w → s ≡ R.Taken i
     by (refuses n k m) = table_passes (stays_a_table e t (freed (rank_at t i) t) (R.Answered i) g (S.answered g q o)) n
     by (does h (taken {i = j} a)) = ap R.Taken (one_first (freed (rank_at t i) t) j i a (first_freed t was i g.sound o before))
     by (does h (turned_away a)) = let z = (freed_slots t was i o).free in let w = a i (inside_freed t was i o) in absurd (omega arith)
+
+pub used_at_once : (e f : Entry) (t u v : List Slot) (r : Report) (i : ℕ) (four : Four) → Step e t (R.Answered i) u → ask_of f ≡ A.Request four
+    → Step f u r v → ((j : ℕ) → j < i → 0 < rank_at t j) → r ≡ R.Taken i
+used_at_once e f t u v r i four answer p step before = at_once e f t i u v r four answer p step before

@@ -22,7 +22,7 @@ use Rattle.scan.proofs.Values.{dwords_part}
 use Rattle.packet.specs.declared.Answer.{Answer}
 use Rattle.packet.specs.declared.Answer.TheVariants as P
 use Rattle.packet.specs.declared.Packet.{Packet}
-use Rattle.packet.specs.Packet.{is_read_response_or_write_request, entries_of, number_checked, after, number_of, places_of, view_from, packet_of, parse_of, list_by, answer_told}
+use Rattle.packet.specs.Packet.{is_read_response_or_write_request, entries_of, number_checked, number_of, places_of, view_from, packet_of, parse_of, list_by, answer_told}
 use Rattle.packet.proofs.Packets.{passed_whole, length_places, one_packet_answer}
 use Rattle.questions.specs.Questions.{refusal, view_of, DataView}
 use Rattle.questions.proofs.Views.{view_is_from_n, view_is_the_callers_own}

@@ -30,7 +30,6 @@ use Rattle.record.specs.Reading.{dword_count, read_of}
 use Rattle.record.proofs.Numbers.{number_exactly}
 use Rattle.record.proofs.Records.{record_refused_exactly}
 use Rattle.writer.specs.declared.Written.{Written}
-use Rattle.writer.specs.declared.Written.TheVariants as Written
 use Rattle.writer.specs.Writing.{bytes_of, written_told, write_of, buffer_by}
 use Rattle.writer.proofs.RoundTrips.{some_written}
 use Rattle.intake.specs.declared.What.{What}

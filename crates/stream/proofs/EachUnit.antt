@@ -1,36 +1,30 @@
 -- Demand 3 for each unit: a unit that is accepted is kept whole and answered as the intake reads it, so what is proved of that call holds of it.
 -- Assumes nothing.
-use Prim.Native.Nat.{ℕ, ◌+◌, ◌≤◌, ◌<◌}
+use Prim.Native.Nat.{ℕ, ◌≤◌, ◌<◌}
 use mathlib.Core.Path.{◌≡◌, refl, sym, ap, subst, ◌∙◌}
 use mathlib.Core.Bool.{Bool, true, false, cond}
-use mathlib.Core.List.{List, [], ◌∷◌, ◌++◌, append-nil}
-use mathlib.Core.Logic.{◌↔◌}
+use mathlib.Core.List.{List, [], ◌∷◌, ◌++◌}
 use native.Mathlib.Omega.{arith}
 use lib.Dec.{ltb, eqb}
-use lib.ListN.{length, get_or, take, drop, length-append, length-drop}
-use lib.Seq.{take_all, take_at, take-append-le, drop-append-le}
-use borrow.Author.Tests.{eqb-true, ltb-true, ltb-false, le-ltb, lt-ltb}
+use lib.ListN.{length, get_or, take}
+use borrow.Author.Tests.{eqb-true, le-ltb, lt-ltb}
 use Rattle.text.specs.Told as T
 use Rattle.text.proofs.Places.{clash}
 use Rattle.tlv.specs.Number.{Bytes}
 use Rattle.tlv.proofs.Fields.{found_field, field_is, two_bytes}
 use Rattle.tlv.proofs.Places.{bytes_take}
 use Rattle.entry.specs.declared.Entry.{Entry}
-use Rattle.entry.specs.Entry.{EntryValue, part_of, value_of, Lies}
-use Rattle.entry.proofs.Parts.{part_in}
+use Rattle.entry.specs.Entry.{EntryValue, value_of}
 use Rattle.scan.specs.declared.Pieces.{Pieces}
-use Rattle.scan.specs.declared.Answer.TheVariants as Read
-use Rattle.scan.specs.Parse.{parse_of, slots_by}
+use Rattle.scan.specs.Parse.{parse_of}
 use Rattle.scan.specs.Line.{Line}
-use Rattle.scan.proofs.Theorems.{line_entry_is, line_number_exactly, past_table}
-use Rattle.record.specs.Conditions.{Framed, Refuses, Breaks, breaks, few_slots, unframed, runs_past, wrong_tag, wrong_body, lacks_tag}
+use Rattle.scan.proofs.Theorems.{line_number_exactly, past_table}
+use Rattle.record.specs.Conditions.{Framed, Refuses, breaks, few_slots, unframed, runs_past, wrong_tag, wrong_body, lacks_tag}
 use Rattle.record.specs.Grammar.{IsRecord}
 use Rattle.record.specs.Reading.{read_of}
 use Rattle.record.proofs.Records.{record_refused_exactly}
-use Rattle.intake.specs.Intake.{Belongs, starts_a1, taken_of, taken_dwords}
-use Rattle.intake.specs.Demand3.{ReadCall}
+use Rattle.intake.specs.Intake.{Belongs, starts_a1, taken_dwords}
 use Rattle.intake.specs.Demand3Packets.{packet_for}
-use Rattle.intake.proofs.Demand3.{line_has_a_record, record_is_the_writers}
 use Rattle.intake.proofs.FirstBytes.{overlong_line}
 use Rattle.intake.proofs.Made.{bytes_join}
 use Rattle.intake.proofs.WhatItIs.{record_number_range}
@@ -43,7 +37,7 @@ use Rattle.stream.specs.declared.Answer.{Answer}
 use Rattle.stream.specs.declared.Answer.TheVariants as A
 use Rattle.stream.specs.declared.Fed.{Fed}
 use Rattle.stream.specs.declared.Finished.{Finished}
-use Rattle.stream.specs.Answers.{answer_told, answer_of, said_by, said_of}
+use Rattle.stream.specs.Answers.{answer_told, answer_of}
 use Rattle.stream.specs.Feeding.{Given, Answered, FedOn, FeedDone, FinishDone, end_of}
 use Rattle.stream.specs.Streams.{Calls, IsUnit, EntryOf, EachUnit}
 use Rattle.stream.proofs.Entries.{said_one, entry_of, accepted}

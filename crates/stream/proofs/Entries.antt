@@ -1,17 +1,15 @@
 -- An entry that is answered of a unit: the unit is kept whole and answered as the intake reads it, so what is proved of that call holds of it.
 -- Assumes nothing.
-use Prim.Native.Nat.{ℕ, ◌+◌, ◌≤◌, ◌<◌}
+use Prim.Native.Nat.{ℕ, ◌+◌, ◌≤◌}
 use mathlib.Core.Path.{◌≡◌, refl, sym, ap, subst, ◌∙◌}
 use mathlib.Core.Bool.{Bool, true, false, cond}
 use mathlib.Core.List.{List, [], ◌∷◌, ◌++◌, append-nil}
 use mathlib.Core.Logic.{◌↔◌}
 use native.Mathlib.Omega.{arith}
 use lib.Dec.{ltb}
-use lib.ListN.{length, get_or, take, drop, length-append, length-drop}
+use lib.ListN.{length, take, drop, length-append, length-drop}
 use lib.Seq.{take_all, take_at, take-append-le, drop-append-le}
-use borrow.Author.Tests.{eqb-true, ltb-true, ltb-false, le-ltb, lt-ltb}
 use Rattle.text.specs.Told as T
-use Rattle.text.proofs.Places.{clash}
 use Rattle.tlv.specs.Number.{Bytes}
 use Rattle.entry.specs.declared.Entry.{Entry}
 use Rattle.entry.specs.Entry.{EntryValue, part_of, value_of, Lies}
@@ -19,25 +17,21 @@ use Rattle.entry.proofs.Parts.{part_in}
 use Rattle.scan.specs.declared.Pieces.{Pieces}
 use Rattle.scan.specs.declared.Answer.TheVariants as Read
 use Rattle.scan.specs.Parse.{parse_of, slots_by}
-use Rattle.scan.specs.Line.{Line}
 use Rattle.scan.proofs.Theorems.{line_entry_is}
 use Rattle.record.specs.Grammar.{IsRecord}
 use Rattle.record.specs.Reading.{read_of}
 use Rattle.intake.specs.Intake.{Belongs, starts_a1, taken_of, taken_dwords}
 use Rattle.intake.specs.Demand3.{ReadCall}
-use Rattle.intake.specs.Demand3Packets.{packet_for}
 use Rattle.intake.proofs.Demand3.{line_has_a_record, record_is_the_writers, writes_record}
 use Rattle.intake.proofs.Slots.{with_more_slots}
 use Rattle.units.specs.declared.Framing.TheVariants.{Both}
-use Rattle.units.specs.Units.{marked, is_record, stated, Whole, Open, Rest}
+use Rattle.units.specs.Units.{marked, stated}
 use Rattle.units.specs.Kept.{is_long, kept_text, stood}
 use Rattle.stream.specs.declared.Answer.{Answer}
 use Rattle.stream.specs.declared.Answer.TheVariants as A
 use Rattle.stream.specs.Answers.{answer_told, answer_of, said_by, said_of}
 use Rattle.stream.specs.Feeding.{Given}
 use Rattle.stream.proofs.Records.{said_belongs, line_accepted, record_accepted, unit_says, belongs_ranged}
-use Rattle.writer.specs.declared.Written.{Written}
-use Rattle.record.specs.Grammar.{record_bytes}
 use Rattle.stream.specs.Streams.{EntryOf}
 
 -- ---- an entry's answer is the intake's

@@ -1,13 +1,12 @@
 -- What is kept of a unit tells its answer: an overlong line is refused by its first byte, and any other text that is read is kept whole. Assumes nothing.
-use Prim.Native.Nat.{ℕ, ◌≤◌, ◌<◌}
+use Prim.Native.Nat.{ℕ, ◌<◌}
 use mathlib.Core.Path.{◌≡◌, refl, sym, ap, ◌∙◌}
 use mathlib.Core.Bool.{Bool, true, false, cond}
-use mathlib.Core.List.{List, []}
+use mathlib.Core.List.{List}
 use native.Mathlib.Omega.{arith}
 use lib.Dec.{eqb, ltb}
-use lib.ListN.{length, get_or, take, length-take}
+use lib.ListN.{length, take, length-take}
 use lib.Seq.{take_all, get_or-take}
-use borrow.Author.Tests.{ltb-true, ltb-false}
 use Rattle.text.proofs.Places.{by_order}
 use Rattle.text.specs.Told as T
 use Rattle.entry.specs.declared.Entry.{Entry}
@@ -16,13 +15,11 @@ use Rattle.scan.specs.Parse.{parse_of, line_dwords, slots_by}
 use Rattle.intake.specs.Intake.{starts_a1, taken_of, taken_dwords}
 use Rattle.intake.proofs.FirstBytes.{overlong_line}
 use Rattle.units.specs.declared.Framing.TheVariants.{Both}
-use Rattle.units.specs.declared.Unit as UnitModule
-use Rattle.units.specs.declared.Unit.TheVariants as U
 use Rattle.units.specs.Units.{marked, is_record, stated}
 use Rattle.units.specs.Kept.{is_long, kept_text}
 use Rattle.units.specs.Feeding.{unit_of, text_length}
 use Rattle.stream.specs.declared.Answer.{Answer}
-use Rattle.stream.specs.Answers.{answer_told, answer_of}
+use Rattle.stream.specs.Answers.{answer_of}
 use Rattle.stream.specs.Feeding.{Given, unit_told, UnitRead}
 
 -- where a stream has records, a unit is one by the same first byte as the intake's

@@ -1,13 +1,12 @@
 -- A record is one unit, whole and short, so the records of what units say, one behind the other, are the units of a stream that says the same.
 -- Assumes nothing.
-use Prim.Native.Nat.{ℕ, ◌+◌, ◌*◌, ◌≤◌, ◌<◌}
+use Prim.Native.Nat.{ℕ, ◌≤◌}
 use mathlib.Core.Path.{◌≡◌, refl, sym, ap, subst, ◌∙◌}
 use mathlib.Core.Bool.{Bool, true, false, cond}
 use mathlib.Core.List.{List, [], ◌∷◌, ◌++◌, map}
-use mathlib.Core.Logic.{◌↔◌}
 use native.Mathlib.Omega.{arith}
 use lib.Dec.{ltb}
-use lib.ListN.{length, get_or, replicate, length-replicate}
+use lib.ListN.{length, replicate, length-replicate}
 use borrow.Author.Tests.{eq-eqb, ne_eqb, le-ltb}
 use Rattle.text.specs.Told as T
 use Rattle.tlv.specs.Number.{Bytes}
@@ -18,9 +17,9 @@ use Rattle.entry.specs.Entry.{EntryValue, value_of}
 use Rattle.scan.specs.declared.Pieces.{Pieces}
 use Rattle.scan.specs.Parse.{parse_of, line_dwords}
 use Rattle.scan.specs.Line.{Line}
-use Rattle.scan.proofs.Theorems.{line_entry_is, line_entry_all, one_line_reading}
+use Rattle.scan.proofs.Theorems.{line_entry_is, line_entry_all}
 use Rattle.record.specs.Grammar.{record_bytes, Ranged, IsRecord}
-use Rattle.record.specs.Reading.{read_of, dwords_of, over}
+use Rattle.record.specs.Reading.{read_of, dwords_of}
 use Rattle.record.proofs.Complete.{value_in, record_not_refused}
 use Rattle.record.proofs.Sound.{passes_all, framed_is}
 use Rattle.record.proofs.Records.{entry_answered, Accepts, record_accepted_exactly, accepted_is_record, one_record_reading, record_at_most_5227}
@@ -29,7 +28,7 @@ use Rattle.intake.proofs.Theorems.{record_starts, line_starts}
 use Rattle.intake.proofs.Ranges.{line_ranged}
 use Rattle.intake.proofs.Made.{record_bytes_lem}
 use Rattle.units.specs.declared.Framing.TheVariants.{Both}
-use Rattle.units.specs.Units.{marked, is_record, stated, Whole, Units}
+use Rattle.units.specs.Units.{marked, stated, Whole, Units}
 use Rattle.units.specs.Kept.{most, is_long}
 use Rattle.stream.specs.Answers.{answer_of, said_by, said_of, records_of}
 

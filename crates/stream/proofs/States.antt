@@ -1,6 +1,6 @@
 -- The states between the calls: those that calls reach are left by the stream so far, 53 is told exactly of all others, and no second answer keeps a
 -- contract. Assumes nothing.
-use Prim.Native.Nat.{ℕ, zero, suc, ◌≤◌, ◌<◌}
+use Prim.Native.Nat.{ℕ, zero, suc, ◌<◌}
 use mathlib.Core.Path.{◌≡◌, refl, sym, ap, subst, ◌∙◌}
 use mathlib.Core.Bool.{Bool, true, false, cond}
 use mathlib.Core.List.{List, [], ◌∷◌, ◌++◌}
@@ -8,9 +8,9 @@ use mathlib.Core.Logic.{◌↔◌}
 use native.Mathlib.Omega.{arith}
 use lib.Dec.{ltb}
 use lib.ListN.{length, take, drop, replicate}
-use lib.Seq.{take_at, drop_at}
+use lib.Seq.{drop_at}
 use Rattle.text.specs.Told as T
-use Rattle.text.proofs.Places.{clash, by_order}
+use Rattle.text.proofs.Places.{by_order}
 use Rattle.tlv.specs.Number.{Bytes}
 use Rattle.tlv.proofs.Places.{bytes_take, bytes_drop}
 use Rattle.entry.specs.declared.Entry.{Entry}
@@ -20,7 +20,7 @@ use Rattle.scan.proofs.Theorems.{line_number_exactly, past_table}
 use Rattle.record.specs.Conditions.{Refuses, breaks, few_slots}
 use Rattle.record.specs.Reading.{read_of}
 use Rattle.record.proofs.Records.{record_refused_exactly}
-use Rattle.intake.specs.Intake.{starts_a1, taken_dwords}
+use Rattle.intake.specs.Intake.{starts_a1}
 use Rattle.intake.proofs.Made.{bytes_join}
 use Rattle.intake.proofs.WhatItIs.{record_number_range}
 use Rattle.units.specs.declared.Framing.TheVariants.{Both}
@@ -35,10 +35,10 @@ use Rattle.stream.specs.declared.Answer.TheVariants as A
 use Rattle.stream.specs.declared.Fed.{Fed}
 use Rattle.stream.specs.declared.Finished.{Finished}
 use Rattle.stream.specs.Answers.{answer_told, answer_of}
-use Rattle.stream.specs.Feeding.{empty, state_of, Given, Answered, FedOn, FeedDone, FinishDone, end_of}
-use Rattle.stream.specs.Streams.{Calls, StatesLeft}
+use Rattle.stream.specs.Feeding.{Given, Answered, FedOn, FeedDone, FinishDone, end_of}
+use Rattle.stream.specs.Streams.{StatesLeft}
 use Rattle.stream.proofs.Steps.{front_is, one_told}
-use Rattle.stream.proofs.Whole.{Stands, stands, wants_keeps, ends_keeps}
+use Rattle.stream.proofs.Whole.{stands, wants_keeps, ends_keeps}
 
 -- ---- the test and the streams
 

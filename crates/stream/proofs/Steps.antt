@@ -1,13 +1,12 @@
 -- A call of `units` and the reading of the unit that it ended make a call of the stream. Assumes nothing.
-use Prim.Native.Nat.{ℕ, ◌-◌, ◌≤◌, ◌<◌}
+use Prim.Native.Nat.{ℕ, ◌-◌, ◌≤◌}
 use mathlib.Core.Path.{◌≡◌, refl, sym, ap, subst, ◌∙◌}
 use mathlib.Core.Bool.{Bool, true, false, cond}
 use lib.Dec.{ltb}
 use mathlib.Core.List.{List, [], ◌∷◌, ◌++◌}
 use native.Mathlib.Omega.{arith}
-use lib.ListN.{length, take, drop, length-take}
+use lib.ListN.{length, take}
 use lib.Seq.{length-take-le}
-use Rattle.text.proofs.Places.{clash}
 use Rattle.text.specs.Told as T
 use Rattle.entry.specs.declared.Entry.{Entry}
 use Rattle.scan.specs.declared.Pieces.{Pieces}
@@ -20,19 +19,18 @@ use Rattle.units.specs.declared.State.{State}
 use Rattle.units.specs.declared.Unit as UnitModule
 use Rattle.units.specs.declared.Unit.TheVariants as U
 use Rattle.units.specs.declared.Fed as UnitsFed
-use Rattle.units.specs.Units.{stated, Whole, Open, Rest, is_record, marked}
+use Rattle.units.specs.Units.{stated, Rest, is_record}
 use Rattle.units.specs.Kept.{is_long, kept_text, stood, Keeps, is_kept}
 use Rattle.units.specs.Feeding as UF
 use Rattle.units.specs.Feeding.{between, unit_of, text_length}
-use Rattle.units.proofs.WhatIsKept.{stood_size, stood_front, whole_fits, rest_fits, nothing_kept}
+use Rattle.units.proofs.WhatIsKept.{stood_size, stood_front, whole_fits}
 use Rattle.units.proofs.States.{kept_some, kept_is}
-use Rattle.units.proofs.Streams.{open_some}
 use Rattle.stream.specs.declared.Answer.{Answer}
 use Rattle.stream.specs.declared.Answer.TheVariants as A
 use Rattle.stream.specs.declared.Fed.{Fed}
 use Rattle.stream.specs.declared.Finished.{Finished}
-use Rattle.stream.specs.Answers.{answer_told, answer_of}
-use Rattle.stream.specs.Feeding.{empty, state_of, Given, Answered, FedOn, FeedDone, FinishDone, end_of, unit_told, UnitRead, TextRead, after_end}
+use Rattle.stream.specs.Answers.{answer_told}
+use Rattle.stream.specs.Feeding.{empty, Given, Answered, FedOn, FeedDone, FinishDone, end_of, unit_told, UnitRead, TextRead, after_end}
 use Rattle.stream.proofs.Reading.{unit_given}
 
 pub front_is : (s : List ℕ) (n : ℕ) → between s 0 n ≡ take n s

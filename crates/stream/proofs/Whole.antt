@@ -4,13 +4,11 @@ use Prim.Native.Nat.{ℕ, zero, suc, ◌≤◌, ◌<◌}
 use mathlib.Core.Path.{◌≡◌, refl, sym, ap, subst, ◌∙◌}
 use mathlib.Core.Bool.{Bool, true, false, cond}
 use mathlib.Core.List.{List, [], ◌∷◌, ◌++◌, map, append_assoc, append-nil}
-use mathlib.Core.Logic.{◌↔◌}
 use native.Mathlib.Omega.{arith}
 use lib.Dec.{ltb}
 use lib.ListN.{length, take, drop, take-append-drop}
 use lib.Seq.{length-take-le}
 use Rattle.text.specs.Told as T
-use Rattle.text.proofs.Places.{clash}
 use Rattle.tlv.specs.Number.{Bytes}
 use Rattle.tlv.proofs.Places.{bytes_take}
 use Rattle.entry.specs.declared.Entry.{Entry}
@@ -24,7 +22,7 @@ use Rattle.intake.proofs.WhatItIs.{line_never_none, record_never_none}
 use Rattle.units.specs.declared.Framing.TheVariants.{Both}
 use Rattle.units.specs.declared.State.{State}
 use Rattle.units.specs.Units.{stated, Whole, Rest, Sofar, Units, closing}
-use Rattle.units.specs.Kept.{is_long, kept_text, kept_count, stood, Keeps, Leaves, is_kept}
+use Rattle.units.specs.Kept.{is_long, kept_text, kept_count, stood, Keeps, is_kept}
 use Rattle.units.proofs.Streams.{goes_on, ends_one, rest_left, at_end, one_units, one_sofar, never_whole}
 use Rattle.units.proofs.Existence.{has_units}
 use Rattle.units.proofs.WhatIsKept.{stood_keeps, stood_size, keeps_nothing, whole_fits, rest_fits}
@@ -33,7 +31,7 @@ use Rattle.stream.specs.declared.Answer.{Answer}
 use Rattle.stream.specs.declared.Answer.TheVariants as A
 use Rattle.stream.specs.declared.Fed.{Fed}
 use Rattle.stream.specs.Answers.{answer_told, answer_of, said_by, said_of}
-use Rattle.stream.specs.Feeding.{empty, state_of, Given, Answered, FedOn, FeedDone, FinishDone, end_of}
+use Rattle.stream.specs.Feeding.{empty, state_of, Given, Answered, FedOn, FeedDone, end_of}
 use Rattle.stream.specs.Streams.{answers_in, values_in, Calls, Went, CutAnywhere}
 use Rattle.stream.proofs.Entries.{entry_of, refused_says}
 

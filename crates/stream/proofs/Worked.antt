@@ -5,7 +5,6 @@ use Rattle.scan.specs.declared.Pieces.{Pieces}
 use Rattle.scan.specs.Frame.{idle, frame_of}
 use Rattle.scan.specs.Parse.{with_frame, parse_of}
 use Rattle.intake.specs.Intake.{starts_a1}
-use Rattle.units.specs.declared.Framing.TheVariants.{Both}
 use Rattle.text.specs.Place.{first_byte, first_place, first_in, first_of, found_below}
 use Rattle.units.specs.Units.{marked, stated, Open}
 use Rattle.units.specs.Kept.{is_long, is_left, is_kept, line_left, none_found}

@@ -1,6 +1,6 @@
 -- What the calls answer, and what they leave in what is lent.
 use Rattle.std.specs.Prelude.{ℕ, ◌≤◌, ◌≡◌, true, false, List, [], ◌∷◌, ◌++◌, length, take}
-use Rattle.text.specs.Told.{Told, is, absent, refused}
+use Rattle.text.specs.Told.{Told, absent, refused}
 use Rattle.entry.specs.declared.Entry.{Entry}
 use Rattle.scan.specs.declared.Pieces.{Pieces}
 use Rattle.scan.specs.Parse.{slots_by}

@@ -1,10 +1,10 @@
 -- The entries of a kind's control table are those of the table that is found. Assumes nothing.
 use Prim.Native.Nat.{ℕ}
-use mathlib.Core.Path.{◌≡◌, refl}
+use mathlib.Core.Path.{◌≡◌}
 use mathlib.Core.List.{List}
 use Rattle.text.specs.declared.place.Found.TheVariants.{At, Nothing}
 use Rattle.book.specs.Finders.{entry_count, control_table}
-use Rattle.oracle_packet_rows.specs.Count.{entries_in, control_count}
+use Rattle.oracle_packet_rows.specs.Count.{control_count}
 
 pub no_table : (s : List ℕ) (kind : ℕ) → control_table s kind ≡ Nothing → 0 ≡ control_count s kind
 unfolding control_count

@@ -2,7 +2,6 @@
 ghost use Rattle.std.specs.Prelude.{◌<◌};
 
 use std::io::{Error, ErrorKind};
-use std::thread::yield_now;
 
 // EIO, for a call that failed without a reason: a write that took nothing, or an error without a number.
 pub const NO_REASON: u32 = 5;
@@ -11,11 +10,7 @@ pub const NO_REASON: u32 = 5;
 // descriptor that does not wait had nothing to give or no room.
 pub fn fault(error: &Error) -> u32 {
     let why = error.kind();
-    if why == ErrorKind::Interrupted {
-        return 0;
-    }
-    if why == ErrorKind::WouldBlock {
-        yield_now();
+    if why == ErrorKind::Interrupted || why == ErrorKind::WouldBlock {
         return 0;
     }
     last_fault(error)

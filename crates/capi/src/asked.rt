@@ -106,12 +106,7 @@ pub fn ck_packet_uuid(kind: u8, book: &[u8], dwords: &[u32]) -> UuidTold
 }
 
 // The values of the fields of that name, if there are exactly four.
-pub fn ck_packet_uuid_by_name(
-    kind: u8,
-    book: &[u8],
-    dwords: &[u32],
-    name: &[u8],
-) -> UuidTold
+pub fn ck_packet_uuid_by_name(kind: u8, book: &[u8], dwords: &[u32], name: &[u8]) -> UuidTold
     ensures { result ≡ uuid_by (uuid_by_name kind book.now dwords.now name.now) }
 {
     tell_uuid(questions::uuid_by_name(kind, book, dwords, name))
@@ -125,12 +120,7 @@ pub fn ck_packet_type(kind: u8, book: &[u8], dwords: &[u32]) -> TypeTold
 }
 
 // The packet type's name into the first bytes of the buffer, if all of it fits. The answer is its length, 0 where there is none.
-pub fn ck_packet_type_name(
-    kind: u8,
-    book: &[u8],
-    dwords: &[u32],
-    out: &mut [u8],
-) -> usize
+pub fn ck_packet_type_name(kind: u8, book: &[u8], dwords: &[u32], out: &mut [u8]) -> usize
     ensures { Copied (type_name kind book.now dwords.now) out.old out.new result }
 {
     let name = questions::packet_type_name(kind, book, dwords);
@@ -146,24 +136,14 @@ pub fn ck_packet_field(kind: u8, book: &[u8], dwords: &[u32], offset: u16) -> Fi
 }
 
 // The first field of that name.
-pub fn ck_packet_field_by_name(
-    kind: u8,
-    book: &[u8],
-    dwords: &[u32],
-    name: &[u8],
-) -> FieldTold
+pub fn ck_packet_field_by_name(kind: u8, book: &[u8], dwords: &[u32], name: &[u8]) -> FieldTold
     ensures { result ≡ field_by (field_asked kind book.now dwords.now Ask.Named name.now) }
 {
     tell_field(questions::field_by_name(kind, book, dwords, name))
 }
 
 // The first field with a bit range of that name.
-pub fn ck_packet_field_by_range(
-    kind: u8,
-    book: &[u8],
-    dwords: &[u32],
-    name: &[u8],
-) -> FieldTold
+pub fn ck_packet_field_by_range(kind: u8, book: &[u8], dwords: &[u32], name: &[u8]) -> FieldTold
     ensures { result ≡ field_by (field_asked kind book.now dwords.now Ask.Holds name.now) }
 {
     tell_field(questions::field_by_bitfield_name(kind, book, dwords, name))

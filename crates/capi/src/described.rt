@@ -26,12 +26,7 @@ pub fn ck_described_cm(dwords: &[u32]) -> ValueTold
 }
 
 // The value of the first bit range of that name.
-pub fn ck_described_value(
-    book: &[u8],
-    dwords: &[u32],
-    places: &[u32],
-    name: &[u8],
-) -> ValueTold
+pub fn ck_described_value(book: &[u8], dwords: &[u32], places: &[u32], name: &[u8]) -> ValueTold
     ensures { result ≡ value_by (asked book.now dwords.now places.now name.now) }
 {
     tell_dword(described::value_asked(book, name, dwords, places))
@@ -45,24 +40,14 @@ pub fn ck_described_adapter_num(book: &[u8], dwords: &[u32], places: &[u32]) -> 
 }
 
 // The address, or for kinds 8 and 9 the offset, cut to 16 bits.
-pub fn ck_described_data_address(
-    kind: u8,
-    book: &[u8],
-    dwords: &[u32],
-    places: &[u32],
-) -> ValueTold
+pub fn ck_described_data_address(kind: u8, book: &[u8], dwords: &[u32], places: &[u32]) -> ValueTold
     ensures { result ≡ value_by (address_in book.now dwords.now places.now kind) }
 {
     tell_word(described::address_in(kind, book, dwords, places))
 }
 
 // The size that the kind has, cut to 16 bits.
-pub fn ck_described_data_size(
-    kind: u8,
-    book: &[u8],
-    dwords: &[u32],
-    places: &[u32],
-) -> ValueTold
+pub fn ck_described_data_size(kind: u8, book: &[u8], dwords: &[u32], places: &[u32]) -> ValueTold
     ensures { result ≡ value_by (size_in book.now dwords.now places.now kind) }
 {
     tell_word(described::size_in(kind, book, dwords, places))

@@ -11,13 +11,7 @@ use packet::field::name_in;
 use print::put::put;
 
 // The field of a dword at an offset, described by the entry at the place.
-pub fn ck_field(
-    kind: u8,
-    book: &[u8],
-    offset: u16,
-    dword: u32,
-    entry: usize,
-) -> FieldTold
+pub fn ck_field(kind: u8, book: &[u8], offset: u16, dword: u32, entry: usize) -> FieldTold
     ensures { result ≡ whole_field (field_of kind book.now offset dword entry) }
 {
     whole_field(field::field_of(kind, book, offset, dword, entry))

@@ -151,12 +151,7 @@ fn tell_what(text: &[u8], pieces: Pieces) -> WhatAnswer
 }
 
 // The record of an entry into the first bytes of the buffer. Numbers that no entry has are out of the record's ranges: 37.
-pub fn ck_record_write(
-    text: &[u8],
-    entry: Flat,
-    dwords: &[u32],
-    out: &mut [u8],
-) -> WriteAnswer
+pub fn ck_record_write(text: &[u8], entry: Flat, dwords: &[u32], out: &mut [u8]) -> WriteAnswer
     ensures { Wrote text.now entry dwords.now out.old out.new result }
 {
     match raise(entry) {

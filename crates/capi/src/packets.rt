@@ -26,24 +26,14 @@ pub struct PacketAnswer {
 }
 
 // The packet of a kind over a book, the place of each dword's entry in the first places.
-pub fn ck_packet(
-    kind: u8,
-    book: &[u8],
-    dwords: &[u32],
-    places: &mut [u32],
-) -> PacketAnswer
+pub fn ck_packet(kind: u8, book: &[u8], dwords: &[u32], places: &mut [u32]) -> PacketAnswer
     ensures { Described (parse_of kind book.now dwords.now (length places.old)) (places_of kind book.now dwords.now) places.old places.new result }
 {
     packet_answer(packet::parse(kind, book, dwords, places))
 }
 
 // The same over a book that was checked before, and is not again. Any other book is taken too.
-pub fn ck_checked_packet(
-    kind: u8,
-    book: &[u8],
-    dwords: &[u32],
-    places: &mut [u32],
-) -> PacketAnswer
+pub fn ck_checked_packet(kind: u8, book: &[u8], dwords: &[u32], places: &mut [u32]) -> PacketAnswer
     ensures { Described (over_of kind book.now dwords.now (length places.old)) (places_of kind book.now dwords.now) places.old places.new result }
 {
     packet_answer(packet::parse_over(kind, book, dwords, places))
@@ -124,12 +114,7 @@ pub struct TextPacket {
 
 // The packet of a text that is a record if it starts with A1, else a line: its dwords in the first slots, the places of their entries in the
 // first places. Numbers of the text come before those of the packet. A bad piece of a line's data refuses it: 18.
-pub fn ck_read_packet(
-    text: &[u8],
-    book: &[u8],
-    slots: &mut [u32],
-    places: &mut [u32],
-) -> TextPacket
+pub fn ck_read_packet(text: &[u8], book: &[u8], slots: &mut [u32], places: &mut [u32]) -> TextPacket
     ensures { TextRead P.Strict text.now book.now slots.old slots.new places.old places.new result }
 {
     read_packet_by(text, Pieces::Strict, book, slots, places)

@@ -24,12 +24,7 @@ pub struct StreamAnswer {
 }
 
 // A part's bytes up to the end of the next unit, and its answer. A bad piece of a line's data refuses it: 18.
-pub fn ck_stream_feed(
-    state: State,
-    part: &[u8],
-    rest: &mut [u8],
-    slots: &mut [u32],
-) -> StreamAnswer
+pub fn ck_stream_feed(state: State, part: &[u8], rest: &mut [u8], slots: &mut [u32]) -> StreamAnswer
     ensures { StreamFed P.Strict part.now rest.old slots.old state rest.new slots.new result }
 {
     feed_by(state, Pieces::Strict, part, rest, slots)
@@ -55,11 +50,7 @@ pub fn ck_stream_finish(state: State, rest: &[u8], slots: &mut [u32]) -> StreamA
 }
 
 // The same, but bad pieces are left out.
-pub fn ck_stream_finish_lenient(
-    state: State,
-    rest: &[u8],
-    slots: &mut [u32],
-) -> StreamAnswer
+pub fn ck_stream_finish_lenient(state: State, rest: &[u8], slots: &mut [u32]) -> StreamAnswer
     ensures { StreamEnded P.Lenient rest.now slots.old state slots.new result }
 {
     finish_by(state, Pieces::Lenient, rest, slots)

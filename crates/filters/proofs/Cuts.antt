@@ -1,8 +1,8 @@
 -- What stands in the buffer of a unit that was cut off tells what the whole unit does; and what is kept stays what a stream keeps. Assumes nothing.
-use Prim.Native.Nat.{ℕ, ◌+◌, ◌≤◌, ◌<◌}
+use Prim.Native.Nat.{ℕ, ◌≤◌, ◌<◌}
 use mathlib.Core.Path.{◌≡◌, refl, sym, ap, subst, ◌∙◌}
 use mathlib.Core.Bool.{Bool, true, false, cond}
-use mathlib.Core.List.{List, [], ◌∷◌, ◌++◌}
+use mathlib.Core.List.{List, []}
 use native.Mathlib.Omega.{arith}
 use lib.Dec.{eqb, ltb}
 use lib.ListN.{length, get_or, take}
@@ -11,8 +11,6 @@ use Rattle.text.proofs.Places.{by_order}
 use Rattle.text.specs.Told as T
 use Rattle.tlv.specs.Number.{Bytes}
 use Rattle.tlv.proofs.Places.{bytes_take}
-use Rattle.entry.specs.declared.Entry.{Entry}
-use Rattle.entry.specs.Entry.{EntryValue}
 use Rattle.scan.specs.declared.Pieces.{Pieces}
 use Rattle.scan.specs.declared.Pieces.TheVariants.{Lenient}
 use Rattle.scan.specs.Parse.{parse_of}
@@ -21,10 +19,9 @@ use Rattle.intake.proofs.FirstBytes.{overlong_line}
 use Rattle.units.specs.declared.Framing.{Framing}
 use Rattle.units.specs.declared.Framing.TheVariants.{Lines, Both}
 use Rattle.units.specs.declared.Unit.TheVariants as U
-use Rattle.units.specs.Units.{marked, is_record, stated, Whole, Rest}
+use Rattle.units.specs.Units.{marked, is_record, stated, Rest}
 use Rattle.units.specs.Kept.{is_long, kept_text, Keeps, is_kept}
 use Rattle.units.specs.Feeding.{unit_of, text_length}
-use Rattle.units.proofs.WhatIsKept.{whole_fits, rest_fits}
 use Rattle.units.proofs.States.{keeps_kept}
 use Rattle.stream.specs.Answers.{answer_of, said_by, records_of}
 use Rattle.stream.specs.Feeding.{unit_told}

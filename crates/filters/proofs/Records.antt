@@ -2,10 +2,10 @@
 use Prim.Native.Nat.{ℕ, ◌+◌, ◌-◌, ◌≤◌}
 use mathlib.Core.Path.{◌≡◌, refl, sym, ap, ◌∙◌}
 use mathlib.Core.Bool.{Bool, true, false}
-use mathlib.Core.List.{List, [], ◌∷◌, ◌++◌, append_assoc, append-nil}
+use mathlib.Core.List.{List, [], ◌++◌, append_assoc, append-nil}
 use native.Mathlib.Omega.{arith}
 use lib.ListN.{length, take, drop, length-drop, replicate, length-replicate}
-use lib.Seq.{sets, sets-eq, take_all, drop-drop, drop-length}
+use lib.Seq.{sets-eq, take_all, drop-drop, drop-length}
 use borrow.Rule.Slice.PartMut.{Post-is, put_mid, post_of}
 use Rattle.text.specs.Told as T
 use Rattle.tlv.specs.Number.{Bytes}
@@ -22,7 +22,7 @@ use Rattle.writer.specs.declared.Written.TheVariants as W
 use Rattle.writer.specs.Writing.{Writing, written_told, bytes_of, buffer_by}
 use Rattle.writer.proofs.RoundTrips.{one_written, some_written}
 use Rattle.intake.specs.Intake.{starts_a1, taken_of, taken_dwords}
-use Rattle.intake.specs.Demand3.{ReadCall, WriteCall, Wrote, Says, HasRecord}
+use Rattle.intake.specs.Demand3.{ReadCall, HasRecord}
 use Rattle.intake.proofs.Demand3.{line_has_a_record, record_is_the_writers}
 use Rattle.intake.proofs.Slots.{taken_count}
 use Rattle.units.specs.declared.Unit.{Unit}

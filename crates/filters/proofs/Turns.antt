@@ -2,7 +2,7 @@
 -- that it ends. Assumes nothing.
 use Prim.Native.Nat.{ℕ, ◌+◌, ◌≤◌, ◌<◌}
 use mathlib.Core.Path.{◌≡◌, refl, sym, ap, subst, ◌∙◌}
-use mathlib.Core.Bool.{true, false}
+use mathlib.Core.Bool.{true}
 use mathlib.Core.List.{List, [], ◌∷◌, ◌++◌, append_assoc, append-nil}
 use native.Mathlib.Omega.{arith}
 use lib.ListN.{length, take}
@@ -18,7 +18,7 @@ use Rattle.units.specs.declared.Unit.TheVariants as U
 use Rattle.units.specs.declared.Fed as FedModule
 use Rattle.units.specs.Units.{Whole, Rest, Sofar, closing}
 use Rattle.units.specs.Kept.{kept_text, Keeps, is_kept}
-use Rattle.units.specs.Feeding.{between, unit_of, text_length, end_of, FedOn, FedFor, FinishDone}
+use Rattle.units.specs.Feeding.{between, unit_of, text_length, end_of, FedFor, FinishDone}
 use Rattle.units.proofs.Streams.{rest_left, sofar_then}
 use Rattle.units.proofs.WhatIsKept.{between_none, between_then, stood_front, whole_fits, rest_fits}
 use Rattle.units.proofs.States.{kept_some, kept_length}
@@ -28,9 +28,9 @@ use Rattle.units.proofs.Counting.{none_ended}
 use Rattle.filters.specs.declared.Filter.{Filter}
 use Rattle.filters.specs.declared.Counts.{Counts}
 use Rattle.filters.specs.declared.Run.{Run}
-use Rattle.filters.specs.Bounds.{Room, Within, Goes, Stops}
+use Rattle.filters.specs.Bounds.{Within, Goes, Stops}
 use Rattle.filters.specs.Texts.{framing_of, answer_by, seen_by, cut_told}
-use Rattle.filters.specs.Filter.{out_by, tell_by, out_text, told_text, counted, next_counts, last_out, last_told, after, texts}
+use Rattle.filters.specs.Filter.{out_by, tell_by, out_text, told_text, counted, next_counts, after, texts}
 use Rattle.filters.specs.Calls.{CutPut, LastPut, WentOn, Took, EndPut}
 use Rattle.filters.proofs.Parts.{put_none, texts_append, after_append}
 use Rattle.filters.proofs.Cuts.{cut_told_lem, cut_out, open_told, open_out, open_tells, text_kept, still_kept, keeps_front}

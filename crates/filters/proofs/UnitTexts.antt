@@ -1,6 +1,6 @@
 -- What a unit puts out, from what the row or the record puts out. Assumes nothing.
-use Prim.Native.Nat.{ℕ, min, ◌+◌, ◌-◌, ◌^◌, ◌≤◌, ◌<◌}
-use mathlib.Core.Path.{◌≡◌, refl, sym, ap, ◌∙◌}
+use Prim.Native.Nat.{ℕ, ◌+◌, ◌≤◌}
+use mathlib.Core.Path.{◌≡◌, refl, ap, ◌∙◌}
 use mathlib.Core.List.{List, [], ◌∷◌, ◌++◌}
 use native.Mathlib.Omega.{arith}
 use lib.ListN.{length, take, length-append}
@@ -25,7 +25,6 @@ use Rattle.stream.specs.Answers.{answer_told}
 use Rattle.stream.specs.Feeding.{unit_told}
 use Rattle.listing_rows.specs.Rows.{Put, word_and_number, refused_row, entry_row, totals_row}
 use Rattle.listing_rows.proofs.Putting.{decimal_length, word_length}
-use Rattle.filters.specs.declared.Filter.{Filter}
 use Rattle.filters.specs.declared.Filter.TheVariants as F
 use Rattle.filters.specs.declared.Counts.{Counts}
 use Rattle.filters.specs.declared.Run.{Run}

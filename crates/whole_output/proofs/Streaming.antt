@@ -1,10 +1,9 @@
 -- A stream in parts: the units that have ended and what is open, over any chain of calls; at the end the texts of all units. Assumes nothing.
 use Prim.Native.Nat.{ℕ, ◌≤◌}
 use mathlib.Core.Path.{◌≡◌, refl, sym, ap, subst, ◌∙◌}
-use mathlib.Core.List.{List, [], ◌∷◌, ◌++◌, append_assoc}
+use mathlib.Core.List.{List, [], ◌++◌, append_assoc}
 use native.Mathlib.Omega.{arith}
 use lib.ListN.{length, take}
-use lib.Seq.{take-nil}
 use Rattle.units.specs.declared.State.{State}
 use Rattle.units.specs.Units.{Rest, Sofar, Units, closing}
 use Rattle.units.specs.Kept.{kept_text, kept_count, Keeps}
@@ -16,7 +15,7 @@ use Rattle.filters.specs.declared.Counts.{Counts}
 use Rattle.filters.specs.declared.Run.{Run}
 use Rattle.filters.specs.Texts.{framing_of}
 use Rattle.filters.specs.Filter.{out_text, told_text, next_counts, last_out, last_told, after, texts}
-use Rattle.filters.specs.Calls.{WentOn, Took, EndPut}
+use Rattle.filters.specs.Calls.{WentOn}
 use Rattle.filters.proofs.Parts.{put_between, after_append, texts_append}
 use Rattle.whole_output.specs.Chains.{fresh, begun, Calls, Went}
 

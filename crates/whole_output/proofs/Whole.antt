@@ -1,7 +1,7 @@
 -- However the input is cut into parts, what the calls put out in order is the definition for its units: each output is the general law with that output's
 -- text, and the counts count. Assumes nothing.
 use Prim.Native.Nat.{ℕ, ◌^◌, ◌<◌}
-use mathlib.Core.Path.{◌≡◌, refl, sym, ap, subst, ◌∙◌}
+use mathlib.Core.Path.{◌≡◌, refl, ap, ◌∙◌}
 use mathlib.Core.List.{List, [], ◌++◌, append-nil}
 use lib.ListN.{length}
 use Rattle.scan.specs.declared.Pieces.{Pieces}
@@ -10,13 +10,13 @@ use Rattle.units.specs.Units.{Units}
 use Rattle.units.proofs.Streams.{one_units}
 use Rattle.filters.specs.declared.Filter.{Filter}
 use Rattle.filters.specs.declared.Filter.TheVariants as F
-use Rattle.filters.specs.Texts.{framing_of, answer_by, seen_of}
+use Rattle.filters.specs.Texts.{framing_of, seen_of}
 use Rattle.filters.specs.Filter.{out_by, tell_by, out_text, told_text, next_counts, last_out, last_told, after, texts}
 use Rattle.units.proofs.Existence.{has_units}
 use Rattle.units.proofs.Streams.{one_units}
 use Rattle.whole_output.specs.Output.{listing_of, unpacking_of, packing_of, packing_tells}
 use Rattle.whole_output.specs.Chains.{fresh, Went, WholeOutput}
-use Rattle.whole_output.proofs.Streaming.{Through, went_through}
+use Rattle.whole_output.proofs.Streaming.{went_through}
 use Rattle.whole_output.proofs.Counting.{listed_is, tells_nothing, records_are, tells_are}
 
 module _ (f : Filter) {input put told : List ℕ} (w : Went f input put told) (us : List (List ℕ)) (are : Units (framing_of f) input us) where

@@ -1,6 +1,6 @@
 -- Calls one after the other on the parts of an input, and what is promised of them.
 -- How to read it: `a ≡ b` is "a equals b"; `P → Q` "if P then Q"; `(x : A) → P` "for every x, P"; `P × Q` "P and Q"; `(x : A) × P` "there is an x so that P"; `a ++ b` is a and then b.
-use Rattle.std.specs.Prelude.{ℕ, ◌^◌, ◌≤◌, ◌<◌, ◌≡◌, List, [], ◌++◌, length, take}
+use Rattle.std.specs.Prelude.{ℕ, ◌^◌, ◌<◌, ◌≡◌, List, [], ◌++◌, length, take}
 use Rattle.tlv.specs.Number.{Bytes}
 use Rattle.scan.specs.declared.Pieces.{Pieces}
 use Rattle.units.specs.declared.Framing.{Framing}

@@ -10,7 +10,7 @@ use Rattle.units.specs.declared.Framing.TheVariants.{Both}
 use Rattle.units.specs.Units.{Units}
 use Rattle.stream.specs.Answers.{said_of}
 use Rattle.filters.specs.declared.Filter.TheVariants as F
-use Rattle.whole_output.specs.Output.{packing_of, packing_tells, unpacking_of}
+use Rattle.whole_output.specs.Output.{packing_of, unpacking_of}
 use Rattle.whole_output.specs.Chains.{Went}
 
 -- the rows of values, the first of which stands behind n others: each with its kind and how many dwords it has

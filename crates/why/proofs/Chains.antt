@@ -26,7 +26,7 @@ unfolding tallied
 tallied_append c [] gs = refl
 tallied_append c (f ∷ fs) gs = tallied_append (tally c f.reason) fs gs
 
-said_then : {out mid exit : List ℕ} {sink m r : Sink} {rows more : List (List ℕ)} → SaidAll mid m out sink rows → SaidAll exit r mid m more → SaidAll exit r out sink (rows ++ more)
+said_then : {mid exit : List ℕ} {m r : Sink} {more : List (List ℕ)} {out : List ℕ} {sink : Sink} {rows : List (List ℕ)} → SaidAll mid m out sink rows → SaidAll exit r mid m more → SaidAll exit r out sink (rows ++ more)
 said_then (SaidAll.none e q) y = rw (← e, ← q) y
 said_then (SaidAll.next x xs) y = SaidAll.next x (said_then xs y)
 

@@ -6,7 +6,7 @@ use native.Mathlib.Omega.{arith}
 use Rattle.what.proofs.answer.Goals as goal
 
 pub slice_bounds-write_answer-end : goal.slice_bounds-write_answer-end
-slice_bounds-write_answer-end c = omega (arith, held_bytes c.read_whole.ensures c.in-Bytes.is, c.read_whole.auto.1.0)
+slice_bounds-write_answer-end c = omega (arith, held_bytes c.read_whole.ensures c.in-Bytes.is)
 
 pub slice_bounds-write_answer-end-in-Bytes : goal.slice_bounds-write_answer-end-in-Bytes
-slice_bounds-write_answer-end-in-Bytes c = sym (length-take-le _ _ (omega (arith, held_bytes c.read_whole.ensures c.in-Bytes.is, c.read_whole.auto.1.0)))
+slice_bounds-write_answer-end-in-Bytes c = sym (length-take-le _ _ (omega (arith, held_bytes c.read_whole.ensures c.in-Bytes.is)))

@@ -1,6 +1,6 @@
 -- Places that lie in the buffers still do so after each call, and what is open is kept as a stream keeps it. Assumes nothing.
 use Prim.Native.Nat.{ℕ, min, ◌+◌, ◌-◌, ◌^◌, ◌≤◌, ◌<◌}
-use mathlib.Core.Path.{◌≡◌, refl, ap, ◌∙◌}
+use mathlib.Core.Path.{◌≡◌, refl, ◌∙◌}
 use mathlib.Core.Bool.{Bool, true, false, cond, not}
 use mathlib.Core.List.{List, []}
 use native.Mathlib.Omega.{arith}
@@ -29,10 +29,9 @@ use Rattle.filters.specs.Calls.{Took, Finished}
 use Rattle.filters.proofs.Turns.{turn_fits, still, end_fits}
 use Rattle.channel.specs.declared.writing.Wrote.{Wrote}
 use Rattle.channel.specs.Moving.{Written}
-use Rattle.moving.specs.declared.Program.{Program}
 use Rattle.moving.specs.declared.state.State.{State}
 use Rattle.moving.specs.Bounds.{Fits, Ending, Roomy, Ready, Went}
-use Rattle.moving.specs.Steps.{Begun, Shut, Runs, Shown, is_cut}
+use Rattle.moving.specs.Steps.{Shut, Runs, Shown, is_cut}
 
 -- between two calls: the buffers are as long as they were, and long enough
 pub record Sized (unit out told unit' out' told' : ℕ) : Type 0 where

@@ -5,6 +5,7 @@ ghost use Rattle.std.specs.Prelude.{◌≡◌, ◌-◌, ◌≤◌, ◌<◌, ◌^
 ghost use Rattle.bits.specs.Range.{range_of};
 
 // The value of bits `low` to `high` of `dword`, and 0 unless low ≤ high ≤ 31. A shift and a mask; no loop.
+#[tactic(auto, using(crate::proofs::Ranges::range_past_the_dword))]
 pub fn range(dword: u32, low: u8, high: u8) -> u32
     ensures { result ≡ range_of dword low high }
 {

@@ -61,6 +61,10 @@ unfolding name_text
 no_name word [] e = refl
 no_name word (b ∷ s) e = absurd (omega arith)
 
+-- so where there is no name, nothing said is all that is to be said
+pub no_name_said : (word name out : List ℕ) (sink : Sink) → length name ≡ 0 → Told out sink (name_text word name) out sink
+no_name_said word name out sink e = told_same (no_name word name e) nothing_told
+
 some_name : (word name : List ℕ) → (length name ≡ 0 → ⊥) → word ++ escaped name ≡ name_text word name
 unfolding name_text
 some_name word [] h = absurd (h refl)

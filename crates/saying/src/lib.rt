@@ -34,6 +34,7 @@ pub fn say_if(output: Stdout, out: &mut [u8], sink: Sink, holds: bool, text: &[u
 }
 
 // A word and then a name, escaped; nothing for no name.
+#[tactic(auto, using(crate::proofs::Telling::no_name_said))]
 pub fn say_name(output: Stdout, out: &mut [u8], sink: Sink, word: &[u8], name: &[u8]) -> Sink
     ensures { Told out.old sink (name_text word.now name.now) out.new result }
 {

@@ -79,6 +79,7 @@ pub fn look(seen: Seen, slot: Slot, place: usize) -> Seen
     }
 }
 
+#[tactic(auto, unfolding(crate::specs::Look::first_of))]
 fn first_free(free: usize, slot: Slot, place: usize) -> usize
     ensures { result ≡ first_of free slot place }
 {

@@ -97,6 +97,7 @@ pub fn value_of(reading: Reading) -> Number
 }
 
 // Behind a leading `0x`, else the start.
+#[tactic(auto, using(crate::proofs::Hexes::from_second))]
 pub fn digits_from(s: &[u8]) -> usize
     ensures { result ≡ digits_from s.now }
 {

@@ -1,14 +1,11 @@
 -- `bits::range` meets its contract: outside the dword there is no value, and inside it a mask of ones is a remainder.
 -- Assumes nothing.
-use Rattle.bits.proofs.Ranges.{range_backwards, range_past_the_dword, range_by_mask}
+use Rattle.bits.proofs.Ranges.{range_backwards, range_by_mask}
 use mathlib.Core.Path.{sym}
 use Rattle.bits.proofs.range.Goals as goal
 
 pub returns-then-high-low : goal.returns-then-high-low
 returns-then-high-low c = sym (range_backwards _ _ _ c.if-high-low.true)
-
-pub returns-then-high-gt31 : goal.returns-then-high-gt31
-returns-then-high-gt31 c = sym (range_past_the_dword _ _ _ c.if-high-low.false c.if-high-gt31.true)
 
 pub returns : goal.returns
 returns c =

@@ -1,15 +1,12 @@
 -- `words::say_name` meets its contract: a piece of 64 bytes is shown in 256, and what was said are the pieces so far (`Pieces`). Assumes nothing.
 use Rattle.escape.proofs.Escaping.{put_within}
 use Rattle.listing_rows.proofs.Putting.{put_size}
-use Rattle.saying.proofs.Telling.{told_same, nothing_told, no_name, pieces_start, pieces_step, pieces_end}
+use Rattle.saying.proofs.Telling.{pieces_start, pieces_step, pieces_end}
 use borrow.Author.Rules.{rules}
 use lib.Seq.{length-take-le}
 use mathlib.Core.Path.{refl, sym, ◌∙◌}
 use native.Mathlib.Omega.{arith}
 use Rattle.saying.proofs.say_name.Goals as goal
-
-pub returns-then-name-eq0 : goal.returns-then-name-eq0
-returns-then-name-eq0 c = told_same (no_name _ _ c.if-name-eq0.true) nothing_told
 
 pub loop-from-init : goal.loop-from-init
 loop-from-init c = record { within = search rules; size = refl; room_size = search rules; told = pieces_start _ _ c.args.name.now }

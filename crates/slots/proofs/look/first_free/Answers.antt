@@ -1,10 +1,6 @@
 use Rattle.slots.specs.Look.{first_of}
-use borrow.Author.Tests.{lt-ltb, le-ltb, eq-eqb, ne_eqb}
+use borrow.Author.Tests.{le-ltb, eq-eqb, ne_eqb}
 use Rattle.slots.proofs.look.first_free.Goals as goal
-
-pub returns-then-place-free : goal.returns-then-place-free
-unfolding first_of
-returns-then-place-free c = rw (eq-eqb _ _ c.if-slot-eq0.true, lt-ltb _ _ c.if-place-free.true)
 
 pub returns-then-slot-eq0 : goal.returns-then-slot-eq0
 unfolding first_of

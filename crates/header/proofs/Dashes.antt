@@ -5,9 +5,9 @@ use mathlib.Core.Bool.{Bool, true, false, ◌&&◌}
 use mathlib.Core.List.{List}
 use native.Mathlib.Numerals.{add-one}
 use native.Mathlib.Omega.{arith}
-use lib.Dec.{ltb}
+use lib.Dec.{eqb, ltb}
 use lib.ListN.{length, get_or, take, drop}
-use borrow.Author.Tests.{lt-ltb, eq-eqb, ne_eqb}
+use borrow.Author.Tests.{lt-ltb, eq-eqb, ne_eqb, eqb-true, eqb-false}
 use Rattle.text.specs.declared.class.Class.TheVariants.{NotSpace}
 use Rattle.text.specs.declared.number.Number.TheVariants as N
 use Rattle.text.specs.declared.place.Found.{Found}
@@ -95,6 +95,14 @@ module _ (h : List ℕ) where
 
       pub walked-other : (get_or h i 0 ≡ 45 → ⊥) → Walked h dash (i + 1)
       walked-other n = step (last_miss (dash_at false h) i (dash_other false h i n) ∙ r.last)
+
+      -- either way, by what the walk then names
+      pub walked_on : (d : ℕ) → (get_or h i 0 ≡ 45 → d ≡ i) → ((get_or h i 0 ≡ 45 → ⊥) → d ≡ dash) → Walked h d (i + 1)
+      walked_on d a b = go (eqb (get_or h i 0) 45) refl
+        where
+          go : (t : Bool) → eqb (get_or h i 0) 45 ≡ t → Walked h d (i + 1)
+          go true q = let e : get_or h i 0 ≡ 45 = eqb-true _ _ q in rw (a e) (walked-dash e)
+          go false q = let n : get_or h i 0 ≡ 45 → ⊥ = eqb-false _ _ q in rw (b n) (walked-other n)
 
     -- the walk's two ends: at a byte 32, and at the header's end
     pub walked_space : i < length h → get_or h i 0 ≡ 32 → task_of h ≡ dash_named dash

@@ -25,8 +25,5 @@ loop-k-preserved c =
     (λ h. ap digit_of (part_byte c.args.s.now 8 c.args.at c.requires.1 c.loop-k-test.true ∙ sym c.wide-j.ensures.0)
     ∙ entry_digit c.requires.0 c.wide-j.ensures.1 (rw c.one-d.ensures.0 at h) ∙ sym c.one-d.ensures.0)
 
-pub returns-then-sum-ge128 : goal.returns-then-sum-ge128
-returns-then-sum-ge128 c = λ h. absurd (omega arith)
-
 pub returns : goal.returns
-returns c = λ h. eight_done _ (part_long c.args.s.now 8 c.args.at c.requires.1) c.loop-k.invariant c.loop-k-test.false c.if-sum-ge128.false
+returns c = λ h. eight_done _ (part_long c.args.s.now 8 c.args.at c.requires.1) c.loop-k.invariant c.loop-k-test.false (omega arith)

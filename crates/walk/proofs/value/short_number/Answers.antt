@@ -1,6 +1,5 @@
 -- `value::short_number` meets its contract: digits that no word byte follows are the value, and no other answer says anything. Assumes nothing.
 use Rattle.walk.proofs.Values.{start_within, base_below, short_none, short_is}
-use mathlib.Core.Path.{sym, ◌∙◌}
 use Rattle.walk.proofs.value.short_number.Goals as goal
 
 pub returns-then-base-eq0 : goal.returns-then-base-eq0
@@ -12,13 +11,10 @@ digits_at-digits-requires c = (c.requires.0, start_within _ _ _ c.requires.1 c.d
 pub returns-then-e-from : goal.returns-then-e-from
 returns-then-e-from c = short_none _ _ _ c.none-then-e-from.ensures
 
-pub returns-then-is_word_at : goal.returns-then-is_word_at
-returns-then-is_word_at c = short_none _ _ _ c.none-then-is_word_at.ensures
-
 pub returns : goal.returns
 returns c =
     λ h. short_is _ _ _ c.base_of-base.ensures c.if-base-eq0.false c.digits_start-from.ensures c.digits_at-digits.ensures c.if-e-from.false
-    (sym c.if-is_word_at.false ∙ c.is_word_at.ensures)
+    (cc)
     c.limit_of.ensures
     c.within.ensures
     c.keep_number.ensures

@@ -1,16 +1,14 @@
 -- Many packets over one book: what `packet::parse` answers for each, on its own part of the dwords and of the places.
 -- Assumes nothing.
-use Rattle.std.specs.Prelude.{ℕ, ◌+◌, ◌-◌, ◌≤◌, min, ◌≡◌, List, [], ◌∷◌, ◌++◌, length, take, drop, replicate}
+use Rattle.std.specs.Prelude.{ℕ, ◌+◌, ◌-◌, ◌≤◌, min, ◌≡◌, List, [], ◌∷◌, ◌++◌, length, take, drop, replicate, None, Option, Some}
 use Rattle.text.specs.Told.{Told, is, absent, refused}
-use Rattle.entry.specs.declared.optional.MaybeWord.{MaybeWord}
-use Rattle.entry.specs.declared.optional.MaybeWord.TheVariants as W
 use Rattle.packet.specs.declared.Packet.{Packet}
 use Rattle.packet.specs.Packet.{parse_of, places_of, list_by}
 
 -- where a data view starts, 65,536 for none; a start is below that
-abbrev pub start_code : MaybeWord → ℕ
-start_code (W.Is n) = n
-start_code W.Absent = 65536
+abbrev pub start_code : Option ℕ → ℕ
+start_code (Some n) = n
+start_code None = 65536
 
 -- one number for what is told of a packet, which is never none: its start, or 65,536 and the number that refuses it
 abbrev pub code_of : Told Packet → ℕ

@@ -12,8 +12,7 @@ ghost use Rattle.batch.specs.Batch.{start_code, Batch, Each, One};
 
 use crate::cut::{cut, least, wide};
 use book::Checked;
-use entry::optional::MaybeWord;
-use packet::{Answer, parse_checked};
+use packet::parse_checked;
 
 // Packet k has kind `kinds[k]` and the next `counts[k]` dwords, as far as they go; its places stand where its dwords do. `codes[k]` tells where
 // its data view starts, 65,536 where it has none, and 65,536 and the number where it is refused. The answer is how many packets there were: as
@@ -83,20 +82,20 @@ fn parse_one(kind: u8, book: &[u8], dwords: &[u32], places: &mut [u32]) -> u32
 {
     let answer = parse_checked(kind, book, dwords, places);
     match answer {
-        Answer::Packet(p) => {
+        Ok(p) => {
             let start = p.start;
             start_code(start)
         }
-        Answer::Refused(number) => 65_536 + number as u32,
+        Err(number) => 65_536 + number as u32,
     }
 }
 
 // Where a data view starts, and 65,536 for none.
-fn start_code(start: MaybeWord) -> u32
+fn start_code(start: Option<u16>) -> u32
     ensures { result ≡ start_code start }
 {
     match start {
-        MaybeWord::Is(n) => n as u32,
-        MaybeWord::Absent => 65_536,
+        Some(n) => n as u32,
+        None => 65_536,
     }
 }

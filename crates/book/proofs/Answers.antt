@@ -1,18 +1,17 @@
 -- The finders on a book of the grammar: each answers the first table, entry, range or value that document 01 names, and what it reads there is
 -- the value's own. The field at a place is the value's, what stands inside it is made from the values inside, and a search finds the first.
 -- Assumes nothing.
+use Rattle.std.specs.Prelude.{None, Option, Some}
 use Prim.Native.Nat.{ℕ, zero, suc, ◌+◌, ◌≤◌, ◌<◌}
 use mathlib.Core.Path.{◌≡◌, ◌∙◌, sym, ap, subst, refl}
 use mathlib.Core.Bool.{Bool, true, false, cond, ◌&&◌}
 use mathlib.Core.List.{List, [], ◌∷◌, ◌++◌, map}
-use mathlib.Core.Option.{Option}
 use native.Mathlib.Nat.{add-zero}
 use native.Mathlib.Omega.{arith}
 use borrow.Author.Tests.{eqb-true, eq-eqb}
 use lib.Dec.{eqb}
 use lib.ListN.{length, get_or, take, drop, length-take}
 use lib.Seq.{get_or-take}
-use Rattle.text.specs.declared.place.Found.TheVariants.{At, Nothing}
 use Rattle.text.specs.Same.{same_text}
 use Rattle.text.proofs.Texts.{same_refl, same_true}
 use Rattle.tlv.specs.declared.Step.{Step}
@@ -91,22 +90,22 @@ module _ (s : List ℕ) (b : IsBook s) where
       0 (record { values = b.tables; good = b.tables_good; bytes = b.bytes })
 
   -- the table of a kind or a UUID: the first of the book's tables that belongs to it (no two do), or there is none
-  pub table_is : (w : Owner) (place : ℕ) → first_wanted (owner_want w) [] s 0 ≡ At place → FirstSo s table_piece (λ t. t.owner ≡ w) b.tables place
+  pub table_is : (w : Owner) (place : ℕ) → first_wanted (owner_want w) [] s 0 ≡ Some place → FirstSo s table_piece (λ t. t.owner ≡ w) b.tables place
   table_is w place e = subst (Says table_piece GoodTable s (wanted (owner_want w) [] s) (λ t. t.owner ≡ w) b.tables) e (table_search w)
 
-  pub table_none : (w : Owner) → first_wanted (owner_want w) [] s 0 ≡ Nothing → All (λ t. t.owner ≡ w → ⊥) b.tables
+  pub table_none : (w : Owner) → first_wanted (owner_want w) [] s 0 ≡ None → All (λ t. t.owner ≡ w → ⊥) b.tables
   table_none w e = subst (Says table_piece GoodTable s (wanted (owner_want w) [] s) (λ t. t.owner ≡ w) b.tables) e (table_search w)
 
-  pub control_table_is : (k place : ℕ) → control_table s k ≡ At place → FirstSo s table_piece (λ t. t.owner ≡ kind k) b.tables place
+  pub control_table_is : (k place : ℕ) → control_table s k ≡ Some place → FirstSo s table_piece (λ t. t.owner ≡ kind k) b.tables place
   control_table_is k = table_is (kind k)
 
-  pub control_table_none : (k : ℕ) → control_table s k ≡ Nothing → All (λ t. t.owner ≡ kind k → ⊥) b.tables
+  pub control_table_none : (k : ℕ) → control_table s k ≡ None → All (λ t. t.owner ≡ kind k → ⊥) b.tables
   control_table_none k = table_none (kind k)
 
-  pub uuid_table_is : (u : Uuid) (place : ℕ) → uuid_table s u ≡ At place → FirstSo s table_piece (λ t. t.owner ≡ uuid u) b.tables place
+  pub uuid_table_is : (u : Uuid) (place : ℕ) → uuid_table s u ≡ Some place → FirstSo s table_piece (λ t. t.owner ≡ uuid u) b.tables place
   uuid_table_is u = table_is (uuid u)
 
-  pub uuid_table_none : (u : Uuid) → uuid_table s u ≡ Nothing → All (λ t. t.owner ≡ uuid u → ⊥) b.tables
+  pub uuid_table_none : (u : Uuid) → uuid_table s u ≡ None → All (λ t. t.owner ≡ uuid u → ⊥) b.tables
   uuid_table_none u = table_none (uuid u)
 
 -- what was found is good if all are

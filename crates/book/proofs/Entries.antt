@@ -1,10 +1,10 @@
 -- Entries: a body passes the test just where it is made from a good entry, and two stand twice just where offset and type are equal.
 -- Assumes nothing.
+use Rattle.std.specs.Prelude.{None, Option, Some}
 use Prim.Native.Nat.{ℕ, ◌+◌, ◌≤◌}
 use mathlib.Core.Path.{◌≡◌, ◌∙◌, sym, ap, refl}
 use mathlib.Core.Bool.{Bool, true, ◌&&◌}
 use mathlib.Core.List.{List, [], ◌∷◌, ◌++◌, map}
-use mathlib.Core.Option.{Option, some, none}
 use native.Mathlib.Omega.{arith}
 use borrow.Author.Tests.{eqb-true, eq-eqb, leb-true, le-leb}
 use lib.Dec.{eqb, leb}
@@ -101,8 +101,8 @@ ranges_start tag a b (r ∷ rs) h = b (sym h)
 type_start : (t : Option (List ℕ)) (rs : List Range)
     → get_or (optional_bytes 5 t ++ fields_bytes (map range_piece rs)) 0 0 ≡ 4 → ⊥
 unfolding field_bytes
-type_start (some n) rs h = omega arith
-type_start none rs h = ranges_start 4 (λ e. omega arith) (λ e. omega arith) rs h
+type_start (Some n) rs h = omega arith
+type_start None rs h = ranges_start 4 (λ e. omega arith) (λ e. omega arith) rs h
 
 -- what a body made from an entry reads as
 pub record ReadEntry (u : List ℕ) (from : ℕ) (e : Entry) : Type 0 where
@@ -134,10 +134,10 @@ entry_all e u from g made =
 
 -- names have a byte, so a text tells them from none
 pub same_option : (a b : Option (List ℕ)) → Optional Name a → Optional Name b → text_of a ≡ text_of b → a ≡ b
-same_option (some m) (some n) g h e = ap some e
-same_option (some m) none g h e = absurd (omega (arith, g.some_byte, ap length e))
-same_option none (some n) g h e = absurd (omega (arith, h.some_byte, ap length e))
-same_option none none g h e = refl
+same_option (Some m) (Some n) g h e = ap Some e
+same_option (Some m) None g h e = absurd (omega (arith, g.some_byte, ap length e))
+same_option None (Some n) g h e = absurd (omega (arith, h.some_byte, ap length e))
+same_option None None g h e = refl
 
 module _ (s : List ℕ) where
   -- what an entry's part reads as

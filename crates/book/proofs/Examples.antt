@@ -1,8 +1,8 @@
 -- A small book, what is found in it, and books that break one rule each, all computed. Assumes nothing.
+use Rattle.std.specs.Prelude.{None, Some}
 use Prim.Native.Nat.{ℕ}
 use mathlib.Core.Path.{◌≡◌, refl}
 use mathlib.Core.List.{List, [], ◌∷◌, ◌++◌}
-use Rattle.text.specs.declared.place.Found.TheVariants.{At, Nothing}
 use Rattle.text.specs.Quote.{bytes}
 use Rattle.text.specs.Same.{same_text}
 use Rattle.tlv.specs.Number.{number, number_bytes}
@@ -81,15 +81,15 @@ unfolding computed range control header book
 book_accepted = refl
 
 -- the table stands at 0, its entries at 4 and 30, the first one's range at 13, the range's value at 22
-finds_control_table : control_table book 2 ≡ At 0
+finds_control_table : control_table book 2 ≡ Some 0
 unfolding computed range control header book
 finds_control_table = refl
 
-finds_no_other : control_table book 3 ≡ Nothing
+finds_no_other : control_table book 3 ≡ None
 unfolding computed range control header book
 finds_no_other = refl
 
-finds_header_table : uuid_table book (record { first = 0; second = 0; third = 0; fourth = 0 }) ≡ At 39
+finds_header_table : uuid_table book (record { first = 0; second = 0; third = 0; fourth = 0 }) ≡ Some 39
 unfolding computed range control header book
 finds_header_table = refl
 

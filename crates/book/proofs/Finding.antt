@@ -1,5 +1,6 @@
 -- What a search finds, in terms of the values that a text is made from: the first value that is so, since the part of a value is wanted just
 -- where the value is so, and the parts stand in the order of the values. Assumes nothing.
+use Rattle.std.specs.Prelude.{None, Option, Some}
 use Prim.Native.Nat.{ℕ, ◌<◌}
 use mathlib.Core.Path.{◌≡◌, ◌∙◌, sym, ap, refl}
 use mathlib.Core.Bool.{Bool, true, false, false≢true}
@@ -7,8 +8,6 @@ use mathlib.Core.List.{List, [], ◌∷◌, map}
 use mathlib.Core.Logic.{inl}
 use native.Mathlib.Omega.{arith}
 use lib.ListN.{length, take, drop}
-use Rattle.text.specs.declared.place.Found.{Found}
-use Rattle.text.specs.declared.place.Found.TheVariants.{At, Nothing}
 use Rattle.tlv.specs.Grammar.{Piece, fields_bytes, All, Made}
 use Rattle.tlv.specs.Reading.{Part, part_at}
 use Rattle.tlv.proofs.Places.{stands_widens, piece_take}
@@ -20,14 +19,14 @@ use Rattle.book.proofs.Searching.{first_none, first_hit, first_miss, first_bound
 
 module _ {X : Type 0} (piece : X → Piece) (Good : X → Type 0) (s : List ℕ) (ok : Part → Bool) (So : X → Type 0) where
   -- what an answer says of some values
-  abbrev pub Says : List X → Found → Type 0
-  Says xs (At place) = FirstSo s piece So xs place
-  Says xs Nothing = All (λ x. So x → ⊥) xs
+  abbrev pub Says : List X → Option ℕ → Type 0
+  Says xs (Some place) = FirstSo s piece So xs place
+  Says xs None = All (λ x. So x → ⊥) xs
 
   module _ (told : (p : Part) (x : X) → PartOf piece Good s p x → ok p ≡ true → So x)
       (wants : (p : Part) (x : X) → PartOf piece Good s p x → So x → ok p ≡ true) where
-    passed : (x : X) (xs : List X) → (So x → ⊥) → (r : Found) → Says xs r → Says (x ∷ xs) r
-    passed x xs isnt (At place) f =
+    passed : (x : X) (xs : List X) → (So x → ⊥) → (r : Option ℕ) → Says xs r → Says (x ∷ xs) r
+    passed x xs isnt (Some place) f =
         record {
           before = x ∷ f.before;
           value = f.value;
@@ -37,7 +36,7 @@ module _ {X : Type 0} (piece : X → Piece) (Good : X → Type 0) (s : List ℕ)
           none_before = (isnt, f.none_before);
           rest = f.rest;
         }
-    passed x xs isnt Nothing f = (isnt, f)
+    passed x xs isnt None f = (isnt, f)
 
     one_by_one : (xs : List X) (x : X) (q : Part) → PartOf piece Good s q x → drop q.at s ≡ fields_bytes (map piece (x ∷ xs))
         → Says xs (first_part ok s q.to) → (b : Bool) → ok q ≡ b → Says (x ∷ xs) (first_part ok s q.at)
@@ -80,11 +79,11 @@ pub finds_is : {X : Type 0} (piece : X → Piece) (Good : X → Type 0) (s : Lis
     → 0 < from → Says piece Good s ok So xs (first_part ok s from) → Finds s piece So xs (place_of (first_part ok s from))
 finds_is {X} piece Good s ok So xs from some says = by (first_part ok s from) refl says
   where
-    by : (r : Found) → first_part ok s from ≡ r → Says piece Good s ok So xs r → Finds s piece So xs (place_of r)
-    by (At place) e f =
+    by : (r : Option ℕ) → first_part ok s from ≡ r → Says piece Good s ok So xs r → Finds s piece So xs (place_of r)
+    by (Some place) e f =
         let bounds = first_bounds ok s from place e in
         record { none = λ h. absurd (omega (arith, bounds.0)); first = λ h. f }
-    by Nothing e f = record { none = λ h. f; first = λ h. absurd (omega arith) }
+    by None e f = record { none = λ h. f; first = λ h. absurd (omega arith) }
 
 -- the field of what was found stands at its place
 pub first_stands : {X : Type 0} {piece : X → Piece} {s : List ℕ} {So : X → Type 0} {xs : List X} {place : ℕ}

@@ -1,11 +1,11 @@
 -- What a body starts with: a number, or a field of a given tag that must or may be there. What was read was made so, and what was made so is
 -- read. Assumes nothing.
+use Rattle.std.specs.Prelude.{None, Option, Some}
 use Prim.Native.Nat.{ℕ, ◌+◌, ◌≤◌, ◌<◌}
 use mathlib.Core.Path.{◌≡◌, ◌∙◌, sym, ap, ap₂, refl}
 use mathlib.Core.Bool.{Bool, true, false}
 use mathlib.Core.List.{List, [], ◌++◌}
 use mathlib.Core.Logic.{◌⊎◌, inl, inr, ⊎_elim}
-use mathlib.Core.Option.{Option, some, none}
 use native.Mathlib.Nat.{add-zero}
 use native.Mathlib.Omega.{arith}
 use borrow.Author.Tests.{eqb-true, eqb-false}
@@ -154,11 +154,11 @@ module _ (tag : ℕ) (u : List ℕ) (at : ℕ) where
       ⊎_elim
       (λ (w : Present tag u at).
       record {
-        value = some (body_at tag u at);
+        value = Some (body_at tag u at);
         good = name_is (body_at tag u at) (sym w.judged ∙ h);
         made = w.made;
       })
-      (λ (w : Absent tag u at). record { value = none; good = tt; made = ap (λ (n : ℕ). drop n u) (sym w.stays) })
+      (λ (w : Absent tag u at). record { value = None; good = tt; made = ap (λ (n : ℕ). drop n u) (sym w.stays) })
       (present_or_absent tag u at bytes)
 
   -- complete: what was made from a name or from none, with something behind it that does not start alike, is read so
@@ -169,9 +169,9 @@ module _ (tag : ℕ) (u : List ℕ) (at : ℕ) where
 
   pub optional_all : (o : Option (List ℕ)) (back : List ℕ) → Optional Name o → drop at u ≡ optional_bytes tag o ++ back
       → (get_or back 0 0 ≡ tag → ⊥) → ReadOptional o back
-  optional_all (some n) back good made other =
+  optional_all (Some n) back good made other =
       let r : Read tag u at n back = made_present tag u at n back made in
       record { passes = r.judged ∙ name_all n good; rest = r.rest; text = r.text }
-  optional_all none back good made other =
+  optional_all None back good made other =
       let a : Absent tag u at = made_absent tag u at (λ h. other (ap (λ (l : List ℕ). get_or l 0 0) (sym made) ∙ h)) in
       record { passes = a.passes; rest = ap (λ (n : ℕ). drop n u) a.stays ∙ made; text = a.empty }

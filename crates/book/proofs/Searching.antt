@@ -1,5 +1,6 @@
 -- A search steps from field to field: where no field stands it ends with nothing, a wanted field ends it, and one that is not wanted is passed.
 -- Assumes nothing.
+use Rattle.std.specs.Prelude.{None, Option, Some}
 use Prim.Native.Nat.{ℕ, ◌+◌, ◌≤◌, ◌<◌}
 use mathlib.Core.Path.{◌≡◌, ◌∙◌, sym, ap, refl}
 use mathlib.Core.Bool.{Bool, true, false, cond, ◌&&◌, ◌||◌}
@@ -9,8 +10,6 @@ use native.Mathlib.Omega.{arith}
 use borrow.Author.Tests.{eq-eqb, ne_eqb}
 use lib.Dec.{eqb}
 use lib.ListN.{length}
-use Rattle.text.specs.declared.place.Found.{Found}
-use Rattle.text.specs.declared.place.Found.TheVariants.{At, Nothing}
 use Rattle.tlv.specs.declared.Step.TheVariants.{End}
 use Rattle.tlv.specs.Reading.{Part, Stands, field_at, refusal_of, parts, has}
 use Rattle.tlv.proofs.Fields.{end_all, field_found}
@@ -24,29 +23,29 @@ use Rattle.book.proofs.Steps.{Bare, tag_bare}
 -- ---- the walk
 
 -- a place was found
-abbrev pub is_found : Found → Bool
-is_found (At p) = true
-is_found Nothing = false
+abbrev pub is_found : Option ℕ → Bool
+is_found (Some p) = true
+is_found None = false
 
 module _ (ok : Part → Bool) (s : List ℕ) where
-  first_end : (at : ℕ) → field_at s at ≡ End → first_part ok s at ≡ Nothing
+  first_end : (at : ℕ) → field_at s at ≡ End → first_part ok s at ≡ None
   unfolding first_part
-  first_end = walk_end (λ p later. cond (ok p) (At p.at) later) Nothing Nothing s
+  first_end = walk_end (λ p later. cond (ok p) (Some p.at) later) None None s
 
-  first_cut : (at : ℕ) → refusal_of (field_at s at) ≡ 31 → first_part ok s at ≡ Nothing
+  first_cut : (at : ℕ) → refusal_of (field_at s at) ≡ 31 → first_part ok s at ≡ None
   unfolding first_part
-  first_cut = walk_cut (λ p later. cond (ok p) (At p.at) later) Nothing Nothing s
+  first_cut = walk_cut (λ p later. cond (ok p) (Some p.at) later) None None s
 
-  first_field : (p : Part) → Stands s p → first_part ok s p.at ≡ cond (ok p) (At p.at) (first_part ok s p.to)
+  first_field : (p : Part) → Stands s p → first_part ok s p.at ≡ cond (ok p) (Some p.at) (first_part ok s p.to)
   unfolding first_part
-  first_field = walk_field (λ p later. cond (ok p) (At p.at) later) Nothing Nothing s
+  first_field = walk_field (λ p later. cond (ok p) (Some p.at) later) None None s
 
   -- no field stands there
-  pub first_none : (at : ℕ) → Bare (field_at s at) → first_part ok s at ≡ Nothing
+  pub first_none : (at : ℕ) → Bare (field_at s at) → first_part ok s at ≡ None
   first_none at h = ⊎_elim (first_end at) (first_cut at) h
 
   -- the field there is wanted
-  pub first_hit : (p : Part) → Stands s p → ok p ≡ true → first_part ok s p.at ≡ At p.at
+  pub first_hit : (p : Part) → Stands s p → ok p ≡ true → first_part ok s p.at ≡ Some p.at
   first_hit p e h = first_field p e ∙ rw h
 
   -- the field there is not
@@ -62,23 +61,23 @@ module _ (ok : Part → Bool) (s : List ℕ) where
       (λ p e rest. rw (parts_field s p e, first_field p e) (by (ok p) p rest))
     where
       by : (b : Bool) (p : Part) → has ok (parts s p.to) ≡ is_found (first_part ok s p.to)
-          → (b || has ok (parts s p.to)) ≡ is_found (cond b (At p.at) (first_part ok s p.to))
+          → (b || has ok (parts s p.to)) ≡ is_found (cond b (Some p.at) (first_part ok s p.to))
       by true p rest = refl
       by false p rest = rest
 
   -- what was found stands in the text, from the start of the search on
-  pub first_bounds : (at q : ℕ) → first_part ok s at ≡ At q → (at ≤ q) × (q < length s)
+  pub first_bounds : (at q : ℕ) → first_part ok s at ≡ Some q → (at ≤ q) × (q < length s)
   first_bounds =
-      by_fields s (λ at. (q : ℕ) → first_part ok s at ≡ At q → (at ≤ q) × (q < length s))
+      by_fields s (λ at. (q : ℕ) → first_part ok s at ≡ Some q → (at ≤ q) × (q < length s))
       (λ at e q h. absurd (nothing-found q (sym (first_end at e) ∙ h)))
       (λ at e q h. absurd (nothing-found q (sym (first_cut at e) ∙ h)))
       (λ p e rest q h. by (ok p) p e rest q (sym (first_field p e) ∙ h))
     where
-      nothing-found : (q : ℕ) → Nothing ≡ At q → ⊥
+      nothing-found : (q : ℕ) → None ≡ Some q → ⊥
       nothing-found q h = let z : ◌≡◌ {A = ℕ} 0 1 = cc in omega arith
 
-      by : (b : Bool) (p : Part) → Stands s p → ((q : ℕ) → first_part ok s p.to ≡ At q → (p.to ≤ q) × (q < length s))
-          → (q : ℕ) → cond b (At p.at) (first_part ok s p.to) ≡ At q → (p.at ≤ q) × (q < length s)
+      by : (b : Bool) (p : Part) → Stands s p → ((q : ℕ) → first_part ok s p.to ≡ Some q → (p.to ≤ q) × (q < length s))
+          → (q : ℕ) → cond b (Some p.at) (first_part ok s p.to) ≡ Some q → (p.at ≤ q) × (q < length s)
       by true p e rest q h =
           let f : fields.Found s p.at p.tag p.from p.to = field_found s p.at e in
           let here : p.at ≡ q = cc in
@@ -89,7 +88,7 @@ module _ (ok : Part → Bool) (s : List ℕ) where
           (omega arith, omega arith)
 
 -- the same of what is wanted, for callers that only know the search
-pub wanted_bounds : (want : Want) (key s : List ℕ) (at q : ℕ) → first_wanted want key s at ≡ At q → (at ≤ q) × (q < length s)
+pub wanted_bounds : (want : Want) (key s : List ℕ) (at q : ℕ) → first_wanted want key s at ≡ Some q → (at ≤ q) × (q < length s)
 unfolding first_wanted
 wanted_bounds want key s = first_bounds (wanted want key s) s
 

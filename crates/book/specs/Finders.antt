@@ -1,9 +1,7 @@
 -- The finders, as functions of places: a table, an entry, a range or a value is the place of its tag byte in the book.
 -- Assumes nothing.
-use Rattle.std.specs.Prelude.{ℕ, zero, suc, ◌+◌, ◌<◌, ◌≡◌, cond, List, [], ◌∷◌, ◌++◌, map, eqb, length, get_or, take, drop}
+use Rattle.std.specs.Prelude.{ℕ, zero, suc, ◌+◌, ◌<◌, ◌≡◌, cond, List, [], ◌∷◌, ◌++◌, map, eqb, length, get_or, take, drop, None, Option, Some}
 use Rattle.text.specs.Part.{Slice, OwnText}
-use Rattle.text.specs.declared.place.Found.{Found}
-use Rattle.text.specs.declared.place.Found.TheVariants.{At, Nothing}
 use Rattle.tlv.specs.Grammar.{Piece, fields_bytes, All}
 use Rattle.tlv.specs.Reading.{Part, Stands, between, piece_of, field_at, parts}
 use Rattle.book.specs.declared.Uuid.{Uuid}
@@ -40,9 +38,9 @@ module _ (s : List ℕ) {X : Type 0} (piece : X → Piece) where
 -- ---- the one answer
 
 -- a place for an answer, 0 for nothing
-abbrev pub place_of : Found → ℕ
-place_of (At p) = p
-place_of Nothing = 0
+abbrev pub place_of : Option ℕ → ℕ
+place_of (Some p) = p
+place_of None = 0
 
 -- where the fields inside a body start: behind the kind byte, behind the UUID, behind name and type, behind the name
 unfoldable pub inner_from : ℕ → List ℕ → ℕ → ℕ
@@ -54,9 +52,9 @@ inner_from tag s from =
     (length s))))
 
 -- the first wanted field inside the field at a place
-unfoldable pub seek_of : Want → List ℕ → List ℕ → ℕ → Found
+unfoldable pub seek_of : Want → List ℕ → List ℕ → ℕ → Option ℕ
 seek_of want key s place =
-    at_field (λ tag from to. first_wanted want key (take to s) (inner_from tag (take to s) from)) Nothing (field_at s place)
+    at_field (λ tag from to. first_wanted want key (take to s) (inner_from tag (take to s) from)) None (field_at s place)
 
 -- how many fields stand inside the field at a place
 unfoldable pub count_inside : List ℕ → ℕ → ℕ
@@ -75,11 +73,11 @@ nth_inside s place k =
     at_field (λ tag from to. nth_place k (parts (take to s) (inner_from tag (take to s) from))) 0 (field_at s place)
 
 -- the control table of a kind
-abbrev pub control_table : List ℕ → ℕ → Found
+abbrev pub control_table : List ℕ → ℕ → Option ℕ
 control_table s kind = first_wanted (W.Kind kind) [] s 0
 
 -- the table of a UUID; the all-zero UUID's is the header table
-abbrev pub uuid_table : List ℕ → Uuid → Found
+abbrev pub uuid_table : List ℕ → Uuid → Option ℕ
 uuid_table s uuid = first_wanted (W.Uuid uuid) [] s 0
 
 -- the first entry of an offset in a table

@@ -1,8 +1,7 @@
 -- The book, as what its bytes are made from, level by level from the inmost out: a value of each level, when it is good, and the field that it
 -- makes. Nothing here searches.
 -- Assumes nothing.
-use Rattle.std.specs.Prelude.{ℕ, ◌≤◌, ◌<◌, ◌^◌, ◌≡◌, List, [], ◌∷◌, ◌++◌, map, length}
-use Rattle.std.proofs.Math.Option.{Option, some, none}
+use Rattle.std.specs.Prelude.{ℕ, ◌≤◌, ◌<◌, ◌^◌, ◌≡◌, List, [], ◌∷◌, ◌++◌, map, length, None, Option, Some}
 use Rattle.tlv.specs.Number.{number_bytes}
 use Rattle.tlv.specs.Grammar.{Piece, field_bytes, fields_bytes, All, Apart}
 use Rattle.book.specs.declared.Uuid.{Uuid}
@@ -15,18 +14,18 @@ pub record Name (n : List ℕ) : Type 0 where
 
 -- P holds of what may be there
 abbrev pub Optional : {A : Type 0} → (A → Type 0) → Option A → Type 0
-Optional P (some a) = P a
-Optional P none = Unit {0}
+Optional P (Some a) = P a
+Optional P None = Unit {0}
 
 -- the text of what may be there, empty for none
 abbrev pub text_of : Option (List ℕ) → List ℕ
-text_of (some n) = n
-text_of none = []
+text_of (Some n) = n
+text_of None = []
 
 -- at most one field of that tag, whose body is a name
 abbrev pub optional_bytes : ℕ → Option (List ℕ) → List ℕ
-optional_bytes tag (some n) = field_bytes tag n
-optional_bytes tag none = []
+optional_bytes tag (Some n) = field_bytes tag n
+optional_bytes tag None = []
 
 -- tag 7: four-byte value, then its name
 pub record Value : Type 0 where

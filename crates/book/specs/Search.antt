@@ -1,8 +1,6 @@
 -- What a search is for, and its one answer: the first field of a text that is wanted.
 -- Assumes nothing.
-use Rattle.std.specs.Prelude.{ℕ, ◌+◌, Bool, cond, ◌&&◌, List, [], eqb, get_or, take}
-use Rattle.text.specs.declared.place.Found.{Found}
-use Rattle.text.specs.declared.place.Found.TheVariants.{At, Nothing}
+use Rattle.std.specs.Prelude.{ℕ, ◌+◌, Bool, cond, ◌&&◌, List, [], eqb, get_or, take, None, Option, Some}
 use Rattle.text.specs.Same.{same_text}
 use Rattle.tlv.specs.declared.Step.{Step}
 use Rattle.tlv.specs.declared.Step.TheVariants.{Field, Stray, Overrun, End}
@@ -77,11 +75,11 @@ unfoldable pub wanted : Want → List ℕ → List ℕ → Part → Bool
 wanted want key s p = eqb p.tag (tag_of want) && fits want key (take p.to s) p.from
 
 -- the first field from a place on that passes a test, by the place of its tag byte
-unfoldable pub first_part : (Part → Bool) → List ℕ → ℕ → Found
-first_part ok = walk (λ p later. cond (ok p) (At p.at) later) Nothing Nothing
+unfoldable pub first_part : (Part → Bool) → List ℕ → ℕ → Option ℕ
+first_part ok = walk (λ p later. cond (ok p) (Some p.at) later) None None
 
 -- the first field from a place on that is wanted
-unfoldable pub first_wanted : Want → List ℕ → List ℕ → ℕ → Found
+unfoldable pub first_wanted : Want → List ℕ → List ℕ → ℕ → Option ℕ
 first_wanted want key s at = first_part (wanted want key s) s at
 
 -- one of the fields from a place on is wanted

@@ -26,18 +26,17 @@ ghost use Rattle.book.specs.Finders.{
 use crate::Uuid;
 use crate::field::after;
 use crate::seek::{Want, first, name_at, type_at};
-use text::place::Found;
 use tlv::Step;
 
 // The control table of a kind.
-pub fn control_table(book: &[u8], kind: u8) -> Found
+pub fn control_table(book: &[u8], kind: u8) -> Option<usize>
     ensures { result ≡ control_table book.now kind }
 {
     first(book, 0, Want::Kind(kind), b"")
 }
 
 // The table of a UUID. The header table is that of the all-zero UUID.
-pub fn uuid_table(book: &[u8], uuid: Uuid) -> Found
+pub fn uuid_table(book: &[u8], uuid: Uuid) -> Option<usize>
     ensures { result ≡ uuid_table book.now uuid }
 {
     first(book, 0, Want::Uuid(uuid), b"")
@@ -175,8 +174,8 @@ fn seek(book: &[u8], place: usize, want: Want, key: &[u8]) -> usize
     let body = &book[..to];
     let found = first(body, inner(body, tag, from), want, key);
     match found {
-        Found::At(p) => p,
-        Found::Nothing => 0,
+        Some(p) => p,
+        None => 0,
     }
 }
 

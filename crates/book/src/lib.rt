@@ -16,7 +16,7 @@ ghost use Rattle.std.specs.Prelude.{◌≡◌};
 ghost use Rattle.book.specs.Reading.{check_told, check_of};
 
 use crate::grammar::tables;
-use refusal::BAD_BOOK;
+use refusal::Refusal;
 
 // The four dwords of a UUID, in the order of the book and of a packet.
 #[derive(Clone, Copy)]
@@ -39,10 +39,10 @@ pub fn check(book: &[u8]) -> Checked
     ensures { check_told result ≡ check_of book.now }
 {
     if 65_535 < book.len() {
-        return Checked::Refused(BAD_BOOK);
+        return Checked::Refused(Refusal::BadBook);
     }
     if !tables(book) {
-        return Checked::Refused(BAD_BOOK);
+        return Checked::Refused(Refusal::BadBook);
     }
     Checked::Accepted
 }

@@ -16,7 +16,6 @@ ghost use Rattle.book.specs.Search.{
 
 use crate::Uuid;
 use crate::field::{after, body_at};
-use text::place::Found;
 use text::same::same;
 use tlv::Step;
 
@@ -38,17 +37,17 @@ pub enum Want {
 }
 
 // The first field from a place on that is wanted, by the place of its tag byte.
-pub fn first(s: &[u8], start: usize, want: Want, key: &[u8]) -> Found
+pub fn first(s: &[u8], start: usize, want: Want, key: &[u8]) -> Option<usize>
     ensures { result ≡ first_wanted want key.now s.now start }
 {
     let mut at = start;
     loop {
         let step = tlv::field_at(s, at);
         let Step::Field { tag, from, to } = step else {
-            return Found::Nothing;
+            return None;
         };
         if is_wanted(&s[..to], want, key, tag, from) {
-            return Found::At(at);
+            return Some(at);
         }
         at = to;
     }
@@ -60,8 +59,8 @@ pub fn has(s: &[u8], start: usize, want: Want, key: &[u8]) -> bool
 {
     let found = first(s, start, want, key);
     match found {
-        Found::At(_) => true,
-        Found::Nothing => false,
+        Some(_) => true,
+        None => false,
     }
 }
 

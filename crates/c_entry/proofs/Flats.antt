@@ -1,4 +1,5 @@
 -- Flat and entry are one to one: each field goes there and back by itself. Assumes nothing.
+use Rattle.std.specs.Prelude.{None, Option, Some}
 use Prim.Native.Nat.{ℕ, ◌≤◌}
 use mathlib.Core.Path.{◌≡◌, refl, sym, ap}
 use mathlib.Core.Bool.{Bool, true, false, ◌&&◌}
@@ -8,37 +9,31 @@ use lib.Dec.{eqb, leb}
 use borrow.Author.Tests.{lt-ltb, le-ltb, leb-true, eqb-true}
 use Rattle.tlv.proofs.Pieces.{both_true}
 use Rattle.entry.specs.declared.Entry.{Entry}
-use Rattle.entry.specs.declared.optional.MaybeByte.{MaybeByte}
-use Rattle.entry.specs.declared.optional.MaybeByte.TheVariants as B
-use Rattle.entry.specs.declared.optional.MaybeWord.{MaybeWord}
-use Rattle.entry.specs.declared.optional.MaybeWord.TheVariants as W
 use Rattle.c_entry.specs.declared.Flat.{Flat}
 use Rattle.text.specs.Told.{is}
 use Rattle.text.proofs.Told.{by_cases, fixed_by_told}
-use Rattle.c_entry.specs.declared.Raised.{Raised}
-use Rattle.c_entry.specs.declared.Raised.TheVariants as R
 use Rattle.c_entry.specs.Flat.{absent, flag_number, flat_byte, flat_word, flat_of, byte_of, word_of, entry_of, is_byte, is_word, bytes_in_range, in_range, raised_told, raise_of, ByteFits, WordFits, OptionalsFit}
 
 -- an optional's number is in range and gives the optional back
-byte_back : (b : MaybeByte) → ByteFits b → byte_of (flat_byte b) ≡ b
+byte_back : (b : Option ℕ) → ByteFits b → byte_of (flat_byte b) ≡ b
 unfolding byte_of flat_byte ByteFits
-byte_back (B.Is b) h = rw (lt-ltb b 256 h)
-byte_back B.Absent h = refl
+byte_back (Some b) h = rw (lt-ltb b 256 h)
+byte_back None h = refl
 
-byte_in : (b : MaybeByte) → ByteFits b → is_byte (flat_byte b) ≡ true
+byte_in : (b : Option ℕ) → ByteFits b → is_byte (flat_byte b) ≡ true
 unfolding is_byte flat_byte ByteFits
-byte_in (B.Is b) h = rw (lt-ltb b 256 h)
-byte_in B.Absent h = refl
+byte_in (Some b) h = rw (lt-ltb b 256 h)
+byte_in None h = refl
 
-word_back : (w : MaybeWord) → WordFits w → word_of (flat_word w) ≡ w
+word_back : (w : Option ℕ) → WordFits w → word_of (flat_word w) ≡ w
 unfolding word_of flat_word WordFits
-word_back (W.Is w) h = rw (lt-ltb w 65536 h)
-word_back W.Absent h = refl
+word_back (Some w) h = rw (lt-ltb w 65536 h)
+word_back None h = refl
 
-word_in : (w : MaybeWord) → WordFits w → is_word (flat_word w) ≡ true
+word_in : (w : Option ℕ) → WordFits w → is_word (flat_word w) ≡ true
 unfolding is_word flat_word WordFits
-word_in (W.Is w) h = rw (lt-ltb w 65536 h)
-word_in W.Absent h = refl
+word_in (Some w) h = rw (lt-ltb w 65536 h)
+word_in None h = refl
 
 dropped_back : (b : Bool) → eqb (flag_number b) 1 ≡ b
 dropped_back true = refl
@@ -148,9 +143,9 @@ flat_back f h =
     }
 
 -- no second answer to `raise`: two answers that tell the same are the same
-pub one_raised : (a b : Raised) → raised_told a ≡ raised_told b → a ≡ b
-one_raised = fixed_by_told raised_told (by_cases R.Entry R.OutOfRange (λ k. R.OutOfRange)) same
+pub one_raised : (a b : Option Entry) → raised_told a ≡ raised_told b → a ≡ b
+one_raised = fixed_by_told raised_told (by_cases Some None (λ k. None)) same
   where
-    same : (a : Raised) → by_cases R.Entry R.OutOfRange (λ k. R.OutOfRange) (raised_told a) ≡ a
-    same (R.Entry e) = refl
-    same R.OutOfRange = refl
+    same : (a : Option Entry) → by_cases Some None (λ k. None) (raised_told a) ≡ a
+    same (Some e) = refl
+    same None = refl

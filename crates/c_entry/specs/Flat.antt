@@ -1,16 +1,8 @@
 -- The entry as plain numbers, and back.
-use Rattle.std.specs.Prelude.{ℕ, ◌<◌, Bool, true, false, cond, ◌&&◌, ◌||◌, eqb, ltb, leb}
+use Rattle.std.specs.Prelude.{ℕ, ◌<◌, Bool, true, false, cond, ◌&&◌, ◌||◌, eqb, ltb, leb, None, Option, Some}
 use Rattle.text.specs.Told.{Told, is, refused}
 use Rattle.entry.specs.declared.Entry.{Entry}
-use Rattle.entry.specs.declared.optional.MaybeByte.{MaybeByte}
-use Rattle.entry.specs.declared.optional.MaybeByte.TheVariants as B
-use Rattle.entry.specs.declared.optional.MaybeWord.{MaybeWord}
-use Rattle.entry.specs.declared.optional.MaybeWord.TheVariants as W
-use Rattle.entry.specs.declared.optional.MaybeFlag.{MaybeFlag}
-use Rattle.entry.specs.declared.optional.MaybeFlag.TheVariants as F
 use Rattle.c_entry.specs.declared.Flat.{Flat}
-use Rattle.c_entry.specs.declared.Raised.{Raised}
-use Rattle.c_entry.specs.declared.Raised.TheVariants as R
 
 -- what stands for an absent field
 abbrev pub absent : ℕ
@@ -21,17 +13,17 @@ abbrev pub flag_number : Bool → ℕ
 flag_number true = 1
 flag_number false = 0
 
-unfoldable pub flat_byte : MaybeByte → ℕ
-flat_byte (B.Is b) = b
-flat_byte B.Absent = absent
+unfoldable pub flat_byte : Option ℕ → ℕ
+flat_byte (Some b) = b
+flat_byte None = absent
 
-unfoldable pub flat_word : MaybeWord → ℕ
-flat_word (W.Is w) = w
-flat_word W.Absent = absent
+unfoldable pub flat_word : Option ℕ → ℕ
+flat_word (Some w) = w
+flat_word None = absent
 
-unfoldable pub flat_flag : MaybeFlag → ℕ
-flat_flag (F.Is b) = flag_number b
-flat_flag F.Absent = absent
+unfoldable pub flat_flag : Option Bool → ℕ
+flat_flag (Some b) = flag_number b
+flat_flag None = absent
 
 -- an entry as its numbers, in its order, given those of its optional fields
 abbrev pub flat_with : Entry → (offset code len port config seq unplug : ℕ) → Flat
@@ -66,14 +58,14 @@ flat_of e =
     (flat_byte e.seq) (flat_byte e.unplug)
 
 -- a number as an optional of one byte, of two
-unfoldable pub byte_of : ℕ → MaybeByte
-byte_of n = cond (ltb n 256) (B.Is n) B.Absent
+unfoldable pub byte_of : ℕ → Option ℕ
+byte_of n = cond (ltb n 256) (Some n) None
 
-unfoldable pub word_of : ℕ → MaybeWord
-word_of n = cond (ltb n 65536) (W.Is n) W.Absent
+unfoldable pub word_of : ℕ → Option ℕ
+word_of n = cond (ltb n 65536) (Some n) None
 
 -- the entry of the numbers, given its optional fields
-abbrev pub entry_with : Flat → MaybeWord → MaybeByte → MaybeWord → MaybeByte → MaybeByte → MaybeByte → MaybeByte → Entry
+abbrev pub entry_with : Flat → Option ℕ → Option ℕ → Option ℕ → Option ℕ → Option ℕ → Option ℕ → Option ℕ → Entry
 entry_with f offset code len port config seq unplug =
     record {
       task_at = f.task_at;
@@ -119,22 +111,22 @@ unfoldable pub in_range : Flat → Bool
 in_range f = leb f.dropped 1 && is_word f.offset && is_word f.len && bytes_in_range f
 
 -- what each case of a raised entry tells: the entry, or 37, since numbers that no entry has are out of the record's ranges
-abbrev pub raised_told : Raised → Told Entry
-raised_told (R.Entry e) = is e
-raised_told R.OutOfRange = refused 37
+abbrev pub raised_told : Option Entry → Told Entry
+raised_told (Some e) = is e
+raised_told None = refused 37
 
 -- what is told of the numbers
 unfoldable pub raise_of : Flat → Told Entry
 raise_of f = cond (in_range f) (is (entry_of f)) (refused 37)
 
 -- an entry as code can hold it: each optional fits its type
-unfoldable pub ByteFits : MaybeByte → Type 0
-ByteFits (B.Is b) = b < 256
-ByteFits B.Absent = Unit {0}
+unfoldable pub ByteFits : Option ℕ → Type 0
+ByteFits (Some b) = b < 256
+ByteFits None = Unit {0}
 
-unfoldable pub WordFits : MaybeWord → Type 0
-WordFits (W.Is w) = w < 65536
-WordFits W.Absent = Unit {0}
+unfoldable pub WordFits : Option ℕ → Type 0
+WordFits (Some w) = w < 65536
+WordFits None = Unit {0}
 
 pub record OptionalsFit (e : Entry) : Type 0 where
   pub offset : WordFits e.offset

@@ -8,7 +8,6 @@ ghost use Rattle.std.specs.Prelude.{◌≡◌};
 ghost use Rattle.c_entry.specs.Flat.{flat_of, flat_byte, flat_word, flat_flag, raised_told, raise_of, entry_of, byte_of, word_of, in_range, bytes_in_range, is_byte, is_word};
 
 use entry::Entry;
-use entry::optional::{MaybeByte, MaybeFlag, MaybeWord};
 
 // Stands for an optional field that is absent: no byte and no number of two bytes is that large.
 pub const ABSENT: u32 = 0xffff_ffff;
@@ -38,12 +37,6 @@ pub struct Flat {
     pub seq: u32,
     pub unplug: u32,
     pub dwords: usize,
-}
-
-#[derive(Clone, Copy)]
-pub enum Raised {
-    Entry(Entry),
-    OutOfRange,
 }
 
 pub fn flatten(e: Entry) -> Flat
@@ -82,42 +75,42 @@ pub fn flatten(e: Entry) -> Flat
 }
 
 // The value, or ABSENT.
-pub fn flat_byte(b: MaybeByte) -> u32
+pub fn flat_byte(b: Option<u8>) -> u32
     ensures { result ≡ flat_byte b }
 {
     match b {
-        MaybeByte::Is(value) => value as u32,
-        MaybeByte::Absent => ABSENT,
+        Some(value) => value as u32,
+        None => ABSENT,
     }
 }
 
-pub fn flat_word(w: MaybeWord) -> u32
+pub fn flat_word(w: Option<u16>) -> u32
     ensures { result ≡ flat_word w }
 {
     match w {
-        MaybeWord::Is(value) => value as u32,
-        MaybeWord::Absent => ABSENT,
+        Some(value) => value as u32,
+        None => ABSENT,
     }
 }
 
 // 1 for yes, 0 for no, or ABSENT.
-pub fn flat_flag(f: MaybeFlag) -> u32
+pub fn flat_flag(f: Option<bool>) -> u32
     ensures { result ≡ flat_flag f }
 {
     match f {
-        MaybeFlag::Is(value) => value as u32,
-        MaybeFlag::Absent => ABSENT,
+        Some(value) => value as u32,
+        None => ABSENT,
     }
 }
 
 // Out of range is what no entry flattens to: a `dropped` other than 0 and 1, an optional field that is neither ABSENT nor within its width.
-pub fn raise(f: Flat) -> Raised
+pub fn raise(f: Flat) -> Option<Entry>
     ensures { raised_told result ≡ raise_of f }
 {
     if !is_in_range(f) {
-        return Raised::OutOfRange;
+        return None;
     }
-    Raised::Entry(entry_of(f))
+    Some(entry_of(f))
 }
 
 fn is_in_range(f: Flat) -> bool
@@ -201,20 +194,20 @@ pub fn entry_of(f: Flat) -> Entry
     }
 }
 
-pub fn byte_of(n: u32) -> MaybeByte
+pub fn byte_of(n: u32) -> Option<u8>
     ensures { result ≡ byte_of n }
 {
     if n < 256 {
-        return MaybeByte::Is(n as u8);
+        return Some(n as u8);
     }
-    MaybeByte::Absent
+    None
 }
 
-fn word_of(n: u32) -> MaybeWord
+fn word_of(n: u32) -> Option<u16>
     ensures { result ≡ word_of n }
 {
     if n < 65_536 {
-        return MaybeWord::Is(n as u16);
+        return Some(n as u16);
     }
-    MaybeWord::Absent
+    None
 }

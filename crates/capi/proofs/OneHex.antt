@@ -1,5 +1,9 @@
 -- A struct that tells of a hex text is told by one answer alone: the answer can be read back from its fields. Two cases would give one struct, and
 -- neither occurs: a text that ends before it starts, and a refusal by 0. Assumes nothing.
+use Rattle.std.specs.Prelude.{Err, None, Ok, Option, Result, Some}
+use Rattle.text.specs.declared.number.BadNumber.{BadNumber}
+use Rattle.text.specs.declared.number.BadNumber.TheVariants as BadNumber
+use Rattle.reasons.specs.declared.Key.{Key}
 use Prim.Native.Nat.{ℕ, ◌+◌, ◌-◌, ◌^◌, ◌≤◌, ◌<◌}
 use mathlib.Core.Path.{◌≡◌, refl, sym, ap, ◌∙◌}
 use mathlib.Core.Bool.{Bool, true, false, cond}
@@ -9,10 +13,6 @@ use lib.Dec.{ltb, eqb}
 use lib.ListN.{length}
 use borrow.Author.Tests.{ne_eqb}
 use Rattle.text.specs.Told.{Told, is, absent, refused, and_then}
-use Rattle.text.specs.declared.number.Reading.{Reading}
-use Rattle.text.specs.declared.number.Reading.TheVariants as R
-use Rattle.text.specs.declared.place.Found.{Found}
-use Rattle.text.specs.declared.place.Found.TheVariants as F
 use Rattle.text.specs.Place.{last_byte}
 use Rattle.pairs.specs.declared.pair.Span.{Span}
 use Rattle.pairs.specs.declared.pair.Span.TheVariants.{At, Nothing}
@@ -23,16 +23,14 @@ use Rattle.reasons.specs.declared.HexText.{HexText}
 use Rattle.reasons.specs.declared.payload.Place.{Place}
 use Rattle.reasons.specs.Reasons.{name_of, limit_of, payload_from, payload_place, said_at, data_span, key_in, piece_at, piece_in, key_answer, piece_answer}
 use Rattle.capi.specs.declared.hexes.HexAnswer.{HexAnswer}
-use Rattle.capi.specs.declared.hexes.MaybeKey.{MaybeKey}
-use Rattle.capi.specs.declared.hexes.MaybeKey.TheVariants as M
 use Rattle.capi.specs.Hexes.{hex_by, text_by, key_numbered, key_told, other_key, Upright}
 use Rattle.capi.proofs.HexTexts.{key_in_line, piece_in_line}
 
 -- ---- what the fields say
 
-abbrev reading_back : HexAnswer → Reading
+abbrev reading_back : HexAnswer → Result ℕ BadNumber
 reading_back r =
-    cond (eqb r.what 1) (R.Value r.value) (cond (eqb r.what 2) R.Empty (cond (eqb r.what 3) (R.BadDigit r.bad) R.TooWide))
+    cond (eqb r.what 1) (Ok r.value) (cond (eqb r.what 2) (Err BadNumber.Empty) (cond (eqb r.what 3) (Err (BadNumber.BadDigit r.bad)) (Err BadNumber.TooWide)))
 
 abbrev told_back : HexAnswer → Told HexText
 told_back r =
@@ -44,12 +42,12 @@ told_back r =
 abbrev pub Numbered : {A : Type 0} → Told A → Type 0
 Numbered told = (k : ℕ) → told ≡ refused k → 0 < k
 
-text_back : (from to : ℕ) (reading : Reading) → from + (to - from) ≡ to
+text_back : (from to : ℕ) (reading : Result ℕ BadNumber) → from + (to - from) ≡ to
     → told_back (text_by (record { from = from; to = to; reading = reading })) ≡ is (record { from = from; to = to; reading = reading })
-text_back from to (R.Value v) e = rw e
-text_back from to R.Empty e = rw e
-text_back from to (R.BadDigit place) e = rw e
-text_back from to R.TooWide e = rw e
+text_back from to (Ok v) e = rw e
+text_back from to (Err BadNumber.Empty) e = rw e
+text_back from to (Err (BadNumber.BadDigit place)) e = rw e
+text_back from to (Err BadNumber.TooWide) e = rw e
 
 told_back_lem : (told : Told HexText) → Upright told → Numbered told → told_back (hex_by told) ≡ told
 unfolding hex_by
@@ -63,16 +61,16 @@ one_told a b ua na ub nb e = sym (told_back_lem a ua na) ∙ ap told_back e ∙ 
 
 -- ---- a line's answers are refused by numbers alone
 
-colon_numbered : (f : Found) → Numbered (frame_colon f)
+colon_numbered : (f : Option ℕ) → Numbered (frame_colon f)
 unfolding frame_colon
-colon_numbered (F.At j) k e = absurd (let z : ◌≡◌ {A = ℕ} 0 1 = cc in omega arith)
-colon_numbered F.Nothing k e = let q : 4 ≡ k = cc in omega (arith, q)
+colon_numbered (Some j) k e = absurd (let z : ◌≡◌ {A = ℕ} 0 1 = cc in omega arith)
+colon_numbered None k e = let q : 4 ≡ k = cc in omega (arith, q)
 
 module _ (t : List ℕ) where
-  ascii_numbered : (f : Found) → Numbered (frame_ascii t f)
+  ascii_numbered : (f : Option ℕ) → Numbered (frame_ascii t f)
   unfolding frame_ascii
-  ascii_numbered (F.At j) = λ k e. let q : 3 ≡ k = cc in omega (arith, q)
-  ascii_numbered F.Nothing = colon_numbered (last_byte 58 t)
+  ascii_numbered (Some j) = λ k e. let q : 3 ≡ k = cc in omega (arith, q)
+  ascii_numbered None = colon_numbered (last_byte 58 t)
 
   frame_numbered : Numbered (frame_of t)
   unfolding frame_of
@@ -106,18 +104,18 @@ module _ (t : List ℕ) where
       then_numbered (frame_of t) (λ colon. is (payload_from t colon)) (frame_numbered t)
       (λ colon k e. absurd (let z : ◌≡◌ {A = ℕ} 0 1 = cc in omega arith))
 
-  key_numbered_lem : (key : MaybeKey) → Numbered (key_told t key)
+  key_numbered_lem : (key : Option Key) → Numbered (key_told t key)
   unfolding key_told key_answer key_in other_key
-  key_numbered_lem (M.Is key) =
+  key_numbered_lem (Some key) =
       then_numbered (payload_place t) _ payload_numbered
       (λ p. let s = part t p.from p.to in said_numbered (limit_of key) p.from s (last_pair s (name_of key)))
-  key_numbered_lem M.Other =
+  key_numbered_lem None =
       then_numbered (payload_place t) (λ place. absent) payload_numbered (λ p k e. absurd (let z : ◌≡◌ {A = ℕ} 0 1 = cc in omega arith))
 
-  key_upright : (key : MaybeKey) → Upright (key_told t key)
+  key_upright : (key : Option Key) → Upright (key_told t key)
   unfolding key_told other_key
-  key_upright (M.Is key) = λ text e. (key_in_line t key text e).0
-  key_upright M.Other = λ text e. never (payload_place t) text e
+  key_upright (Some key) = λ text e. (key_in_line t key text e).0
+  key_upright None = λ text e. never (payload_place t) text e
     where
       never : (told : Told Place) (text : HexText) → and_then told (λ place. absent) ≡ is text → text.from ≤ text.to
       never (is p) text e = absurd (let z : ◌≡◌ {A = ℕ} 0 1 = cc in omega arith)

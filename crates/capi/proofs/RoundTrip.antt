@@ -1,5 +1,6 @@
 -- A record that goes through the C calls comes out again: its entry is in the flat form's ranges, so it is raised to itself, and the writer
 -- gives the record's bytes for it. Assumes nothing.
+use Rattle.std.specs.Prelude.{None, Option, Some}
 use Prim.Native.Nat.{ℕ, ◌^◌, ◌≤◌}
 use mathlib.Core.Path.{◌≡◌, ap, ◌∙◌}
 use mathlib.Core.List.{List}
@@ -7,11 +8,7 @@ use lib.ListN.{length}
 use Rattle.text.specs.Told as T
 use Rattle.tlv.specs.Number.{Bytes}
 use Rattle.entry.specs.declared.Entry.{Entry}
-use Rattle.entry.specs.declared.optional.MaybeByte.{MaybeByte}
-use Rattle.entry.specs.declared.optional.MaybeByte.TheVariants as B
-use Rattle.entry.specs.declared.optional.MaybeWord.{MaybeWord}
-use Rattle.entry.specs.declared.optional.MaybeWord.TheVariants as W
-use Rattle.entry.specs.Entry.{EntryValue, value_of, byte_value, word_value}
+use Rattle.entry.specs.Entry.{EntryValue, value_of}
 use Rattle.scan.specs.Parse.{slots_by}
 use Rattle.record.specs.Grammar.{Below, Ranged, IsRecord}
 use Rattle.record.specs.Reading.{read_of, dwords_of, over}
@@ -24,15 +21,15 @@ use Rattle.capi.specs.declared.EntryAnswer.{EntryAnswer}
 use Rattle.capi.specs.declared.WriteAnswer.{WriteAnswer}
 use Rattle.capi.specs.Calls.{Read, Wrote, answer_by, written_by, write_for, record_for}
 
-byte_fits : (b : MaybeByte) → Below (2 ^ 8) (byte_value b) → ByteFits b
-unfolding byte_value ByteFits
-byte_fits (B.Is b) h = h
-byte_fits B.Absent h = h
+byte_fits : (b : Option ℕ) → Below (2 ^ 8) (b) → ByteFits b
+unfolding ByteFits
+byte_fits (Some b) h = h
+byte_fits None h = h
 
-word_fits : (w : MaybeWord) → Below (2 ^ 16) (word_value w) → WordFits w
-unfolding word_value WordFits
-word_fits (W.Is w) h = h
-word_fits W.Absent h = h
+word_fits : (w : Option ℕ) → Below (2 ^ 16) (w) → WordFits w
+unfolding WordFits
+word_fits (Some w) h = h
+word_fits None h = h
 
 -- an entry whose value is in the record's ranges is in the flat form's
 ranged_fits : (e : Entry) (text slots : List ℕ) → Ranged (value_of e text slots) → OptionalsFit e

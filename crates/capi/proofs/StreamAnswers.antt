@@ -1,4 +1,6 @@
 -- A stream's answer as a plain struct, by its case; and that there is one. Assumes nothing.
+use Rattle.std.specs.Prelude.{Err, None, Ok, Option, Result, Some}
+use Rattle.refusal.specs.declared.Refusal.{Refusal}
 use Prim.Native.Nat.{ℕ}
 use mathlib.Core.Path.{◌≡◌, sym, ap, ◌∙◌}
 use mathlib.Core.List.{List}
@@ -11,8 +13,6 @@ use Rattle.units.specs.declared.State.{State}
 use Rattle.stream.specs.declared.Fed.{Fed}
 use Rattle.stream.specs.declared.Finished.{Finished}
 use Rattle.stream.proofs.States.{states_left}
-use Rattle.stream.specs.declared.Answer.{Answer}
-use Rattle.stream.specs.declared.Answer.TheVariants as A
 use Rattle.stream.specs.Answers.{answer_told}
 use Rattle.capi.specs.declared.streams.StreamAnswer.{StreamAnswer}
 use Rattle.capi.specs.Calls.{blank_entry}
@@ -30,16 +30,16 @@ ended_unit e = rw (ne_eqb _ _ e)
 abbrev pub told : ℕ → State → ℕ → ℕ → Flat → StreamAnswer
 told at st number ended entry = record { number = number; ended = ended; at = at; state = st; entry = entry }
 
-module _ (at : ℕ) (st : State) {answer : Answer} {flat : Flat} where
-  pub stream_entry : {e : Entry} → answer ≡ A.Entry e → flat ≡ flat_of e → told at st 0 1 flat ≡ stream_by at st (answer_told answer)
+module _ (at : ℕ) (st : State) {answer : Result (Option Entry) Refusal} {flat : Flat} where
+  pub stream_entry : {e : Entry} → answer ≡ Ok (Some e) → flat ≡ flat_of e → told at st 0 1 flat ≡ stream_by at st (answer_told answer)
   unfolding stream_by
   stream_entry q h = rw q (ap (told at st 0 1) h)
 
-  pub stream_refused : {k ended : ℕ} → answer ≡ A.Refused k → ended ≡ ended_by k → flat ≡ blank_entry → told at st k ended flat ≡ stream_by at st (answer_told answer)
+  pub stream_refused : {k ended : ℕ} → answer ≡ Err k → ended ≡ ended_by k → flat ≡ blank_entry → told at st k ended flat ≡ stream_by at st (answer_told answer)
   unfolding stream_by
   stream_refused {k} q n h = rw q (ap (λ (m : ℕ). told at st k m flat) n ∙ ap (told at st k (ended_by k)) h)
 
-  pub stream_nothing : answer ≡ A.Nothing → flat ≡ blank_entry → told at st 0 0 flat ≡ stream_by at st (answer_told answer)
+  pub stream_nothing : answer ≡ (Ok None) → flat ≡ blank_entry → told at st 0 0 flat ≡ stream_by at st (answer_told answer)
   unfolding stream_by
   stream_nothing q h = rw q (ap (told at st 0 0) h)
 

@@ -1,12 +1,9 @@
 -- What the C calls on packets answer: the answers of the calls below them, as plain structs.
-use Rattle.std.specs.Prelude.{ℕ, ◌≡◌, List, length}
+use Rattle.book.specs.declared.Uuid.{Uuid}
+use Rattle.std.specs.Prelude.{ℕ, ◌≡◌, List, length, None, Option, Some}
 use Rattle.text.specs.Told as T
-use Rattle.entry.specs.declared.optional.MaybeWord.{MaybeWord}
-use Rattle.entry.specs.declared.optional.MaybeWord.TheVariants as W
 use Rattle.c_entry.specs.Flat.{flat_word}
 use Rattle.packet.specs.declared.Packet.{Packet}
-use Rattle.packet.specs.declared.MaybeUuid.{MaybeUuid}
-use Rattle.packet.specs.declared.MaybeUuid.TheVariants as U
 use Rattle.packet.specs.Packet.{places_of, list_by}
 use Rattle.scan.specs.declared.Pieces.{Pieces}
 use Rattle.intake.specs.Intake.{taken_dwords}
@@ -15,10 +12,10 @@ use Rattle.capi.specs.declared.packets.PacketAnswer.{PacketAnswer}
 use Rattle.capi.specs.declared.packets.TextPacket.{TextPacket}
 
 -- number, start and UUID, whose dwords are 0 where there is none
-abbrev pub uuid_by : ℕ → MaybeWord → MaybeUuid → PacketAnswer
-uuid_by number start (U.Is u) =
+abbrev pub uuid_by : ℕ → Option ℕ → Option Uuid → PacketAnswer
+uuid_by number start (Some u) =
     record { number = number; start = flat_word start; has_uuid = 1; first = u.first; second = u.second; third = u.third; fourth = u.fourth }
-uuid_by number start U.Absent =
+uuid_by number start None =
     record { number = number; start = flat_word start; has_uuid = 0; first = 0; second = 0; third = 0; fourth = 0 }
 
 -- number 0 and the packet
@@ -28,8 +25,8 @@ made_by p = uuid_by 0 p.start p.uuid
 -- or the number, no start and no UUID
 unfoldable pub packet_by : T.Told Packet → PacketAnswer
 packet_by (T.is p) = made_by p
-packet_by T.absent = uuid_by 0 W.Absent U.Absent
-packet_by (T.refused k) = uuid_by k W.Absent U.Absent
+packet_by T.absent = uuid_by 0 None None
+packet_by (T.refused k) = uuid_by k None None
 
 -- the answer, and each place: a packet's places over the first, a refusal leaves them as found
 pub record Described (told : T.Told Packet) (places out exit : List ℕ) (r : PacketAnswer) : Type 0 where

@@ -37,13 +37,13 @@ ghost use Rattle.capi.specs.Told.{as_number, flat_told};
 ghost use Rattle.capi.specs.Calls.{Read, LineRead, EitherRead, Wrote, answer_by, what_by, written_by, name_by, blank_entry};
 
 use book::{Checked, check};
-use c_entry::{ABSENT, Flat, Raised, entry_of, flat_byte, flat_flag, flatten, raise};
+use c_entry::{ABSENT, Flat, entry_of, flat_byte, flat_flag, flatten, raise};
 use entry::events::{from_code, name_of};
 use entry::{adapter_num, unplug};
 use intake::{What, what_is};
-use refusal::BAD_ENTRY;
-use scan::{Answer, Pieces, parse};
-use writer::{Written, write};
+use refusal::Refusal;
+use scan::{Pieces, parse};
+use writer::write;
 
 // Number 0 and the entry, or the number that refuses the text and a blank entry.
 #[repr(C)]
@@ -96,8 +96,8 @@ pub fn ck_record_read(text: &[u8], slots: &mut [u32]) -> EntryAnswer
     ensures { Read (read_of text.now (length slots.old)) (dwords_of text.now) slots.old slots.new result }
 {
     match record::read(text, slots) {
-        record::Answer::Entry(e) => answer_of(Answer::Entry(e)),
-        record::Answer::Refused(number) => answer_of(Answer::Refused(number)),
+        Ok(e) => answer_of(Ok(e)),
+        Err(number) => answer_of(Err(number)),
     }
 }
 
@@ -155,8 +155,8 @@ pub fn ck_record_write(text: &[u8], entry: Flat, dwords: &[u32], out: &mut [u8])
     ensures { Wrote text.now entry dwords.now out.old out.new result }
 {
     match raise(entry) {
-        Raised::Entry(e) => written_of(write(text, e, dwords, out)),
-        Raised::OutOfRange => written_of(Written::Refused(BAD_ENTRY)),
+        Some(e) => written_of(write(text, e, dwords, out)),
+        None => written_of(Err(Refusal::BadEntry)),
     }
 }
 
@@ -196,30 +196,30 @@ pub fn ck_unplug(entry: Flat) -> u32
     flat_flag(unplug(entry_of(entry)))
 }
 
-fn answer_of(answer: Answer) -> EntryAnswer
+fn answer_of(answer: Result<Entry, Refusal>) -> EntryAnswer
     ensures { result ≡ answer_by (answer_told answer) }
 {
     match answer {
-        Answer::Entry(e) => EntryAnswer {
+        Ok(e) => EntryAnswer {
             number: 0,
             entry: flatten(e),
         },
-        Answer::Refused(number) => EntryAnswer {
+        Err(number) => EntryAnswer {
             number: number,
             entry: blank_entry(),
         },
     }
 }
 
-fn written_of(written: Written) -> WriteAnswer
+fn written_of(written: Result<usize, Refusal>) -> WriteAnswer
     ensures { result ≡ written_by (written_told written) }
 {
     match written {
-        Written::Bytes(bytes) => WriteAnswer {
+        Ok(bytes) => WriteAnswer {
             number: 0,
             bytes: bytes,
         },
-        Written::Refused(number) => WriteAnswer {
+        Err(number) => WriteAnswer {
             number: number,
             bytes: 0,
         },

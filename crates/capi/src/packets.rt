@@ -7,9 +7,9 @@ ghost use Rattle.capi.specs.Packets.{Described, packet_by, made_by, uuid_by, of_
 
 use book::Uuid;
 use c_entry::flat_word;
-use entry::optional::MaybeWord;
-use packet::{Answer, MaybeUuid, Packet};
+use packet::Packet;
 use scan::Pieces;
+use refusal::Refusal;
 
 // Number 0 and the packet, or the number that refuses it, no start and no UUID. A start is a word or ABSENT; `has_uuid` is 1 where the four
 // dwords are a UUID, else 0, and they are 0.
@@ -53,12 +53,12 @@ pub fn ck_packet_all(
     batch::parse_all(book, kinds, counts, dwords, places, codes)
 }
 
-pub fn packet_answer(answer: Answer) -> PacketAnswer
+pub fn packet_answer(answer: Result<Packet, Refusal>) -> PacketAnswer
     ensures { result ≡ packet_by (answer_told answer) }
 {
     match answer {
-        Answer::Packet(p) => made(p),
-        Answer::Refused(number) => with_uuid(number, MaybeWord::Absent, MaybeUuid::Absent),
+        Ok(p) => made(p),
+        Err(number) => with_uuid(number, None, None),
     }
 }
 
@@ -70,12 +70,12 @@ fn made(p: Packet) -> PacketAnswer
     with_uuid(0, start, uuid)
 }
 
-fn with_uuid(number: u8, start: MaybeWord, uuid: MaybeUuid) -> PacketAnswer
+fn with_uuid(number: u8, start: Option<u16>, uuid: Option<Uuid>) -> PacketAnswer
     ensures { result ≡ uuid_by number start uuid }
 {
     match uuid {
-        MaybeUuid::Is(u) => whole(number, flat_word(start), 1, u),
-        MaybeUuid::Absent => whole(
+        Some(u) => whole(number, flat_word(start), 1, u),
+        None => whole(
             number,
             flat_word(start),
             0,
@@ -145,15 +145,15 @@ fn read_packet_by(
     text_packet(intake::packet(text, pieces, book, slots, places))
 }
 
-fn text_packet(answer: Answer) -> TextPacket
+fn text_packet(answer: Result<Packet, Refusal>) -> TextPacket
     ensures { result ≡ text_by (answer_told answer) }
 {
     match answer {
-        Answer::Packet(p) => of_packet(p),
-        Answer::Refused(number) => TextPacket {
+        Ok(p) => of_packet(p),
+        Err(number) => TextPacket {
             kind: 0,
             dwords: 0,
-            packet: packet_answer(Answer::Refused(number)),
+            packet: packet_answer(Err(number)),
         },
     }
 }

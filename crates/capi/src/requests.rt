@@ -7,7 +7,8 @@ ghost use Rattle.capi.specs.Requests.{word_at, step_by, count_by, place_by, Step
 use c_entry::{Flat, entry_of};
 use pending::{clear, oldest, step, waiting};
 use slots::Slot;
-use slots::decide::{Place, Report, Waiting};
+use slots::decide::Report;
+use refusal::Refusal;
 
 // Number 0, the report and, where it is taken or answered, the slot's place; or the number that refuses the table, and zeros.
 #[repr(C)]
@@ -96,36 +97,36 @@ fn reported(report: u8, place: usize) -> StepAnswer
     }
 }
 
-fn count_answer(count: Waiting) -> CountAnswer
+fn count_answer(count: Result<u32, Refusal>) -> CountAnswer
     ensures { result ≡ count_by (waiting_told count) }
 {
     match count {
-        Waiting::Count(n) => CountAnswer {
+        Ok(n) => CountAnswer {
             number: 0,
             count: n,
         },
-        Waiting::Refused(number) => CountAnswer {
+        Err(number) => CountAnswer {
             number: number,
             count: 0,
         },
     }
 }
 
-fn place_answer(place: Place) -> PlaceAnswer
+fn place_answer(place: Result<Option<usize>, Refusal>) -> PlaceAnswer
     ensures { result ≡ place_by (place_told place) }
 {
     match place {
-        Place::At(at) => PlaceAnswer {
+        Ok(Some(at)) => PlaceAnswer {
             number: 0,
             present: 1,
             place: at,
         },
-        Place::Nowhere => PlaceAnswer {
+        Ok(None) => PlaceAnswer {
             number: 0,
             present: 0,
             place: 0,
         },
-        Place::Refused(number) => PlaceAnswer {
+        Err(number) => PlaceAnswer {
             number: number,
             present: 0,
             place: 0,

@@ -6,9 +6,9 @@ ghost use Rattle.capi.specs.Streams.{StreamFed, StreamEnded, stream_by, ended_by
 
 use crate::blank_entry;
 use c_entry::{Flat, flatten};
-use refusal::NO_STREAM;
+use refusal::Refusal;
 use scan::Pieces;
-use stream::{Answer, feed, finish};
+use stream::{feed, finish};
 use units::State;
 
 // Number 0, that a unit ended and its entry; the number that refuses the unit that ended; number 0 and no unit; or number 53 and nothing. Then where the
@@ -80,25 +80,25 @@ fn finish_by(state: State, pieces: Pieces, rest: &[u8], slots: &mut [u32]) -> St
     stream_answer(0, next, answer)
 }
 
-fn stream_answer(at: usize, state: State, answer: Answer) -> StreamAnswer
+fn stream_answer(at: usize, state: State, answer: Result<Option<Entry>, Refusal>) -> StreamAnswer
     ensures { result ≡ stream_by at state (answer_told answer) }
 {
     match answer {
-        Answer::Entry(e) => StreamAnswer {
+        Ok(Some(e)) => StreamAnswer {
             number: 0,
             ended: 1,
             at: at,
             state: state,
             entry: flatten(e),
         },
-        Answer::Refused(number) => StreamAnswer {
+        Err(number) => StreamAnswer {
             number: number,
             ended: ended_with(number),
             at: at,
             state: state,
             entry: blank_entry(),
         },
-        Answer::Nothing => StreamAnswer {
+        Ok(None) => StreamAnswer {
             number: 0,
             ended: 0,
             at: at,

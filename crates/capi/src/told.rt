@@ -6,11 +6,8 @@ ghost use Rattle.questions.specs.Answers.{byte_told, word_told, wide_told, flag_
 ghost use Rattle.capi.specs.Told.{value_by, as_number, uuid_by, type_by, field_by, whole_field, source_number, range_by};
 
 use book::Uuid;
-use field::{Field, MaybeRange, Source, entry_of};
-use questions::described::MaybeDword;
-use questions::{
-    ByteAnswer, FieldAnswer, FlagAnswer, TypeAnswer, UuidAnswer, WideAnswer, WordAnswer,
-};
+use field::{Field, Source, entry_of};
+use refusal::Refusal;
 
 #[repr(C)]
 #[derive(Clone, Copy)]
@@ -72,50 +69,50 @@ pub struct NameTold {
     pub len: usize,
 }
 
-pub fn tell_byte(answer: ByteAnswer) -> ValueTold
+pub fn tell_byte(answer: Result<Option<u8>, Refusal>) -> ValueTold
     ensures { result ≡ value_by (byte_told answer) }
 {
     match answer {
-        ByteAnswer::Is(v) => value_of(0, 1, v as u64),
-        ByteAnswer::Absent => value_of(0, 0, 0),
-        ByteAnswer::Refused(number) => value_of(number, 0, 0),
+        Ok(Some(v)) => value_of(0, 1, v as u64),
+        Ok(None) => value_of(0, 0, 0),
+        Err(number) => value_of(number, 0, 0),
     }
 }
 
-pub fn tell_word(answer: WordAnswer) -> ValueTold
+pub fn tell_word(answer: Result<Option<u16>, Refusal>) -> ValueTold
     ensures { result ≡ value_by (word_told answer) }
 {
     match answer {
-        WordAnswer::Is(v) => value_of(0, 1, v as u64),
-        WordAnswer::Absent => value_of(0, 0, 0),
-        WordAnswer::Refused(number) => value_of(number, 0, 0),
+        Ok(Some(v)) => value_of(0, 1, v as u64),
+        Ok(None) => value_of(0, 0, 0),
+        Err(number) => value_of(number, 0, 0),
     }
 }
 
-pub fn tell_wide(answer: WideAnswer) -> ValueTold
+pub fn tell_wide(answer: Result<u64, Refusal>) -> ValueTold
     ensures { result ≡ value_by (wide_told answer) }
 {
     match answer {
-        WideAnswer::Is(v) => value_of(0, 1, v),
-        WideAnswer::Refused(number) => value_of(number, 0, 0),
+        Ok(v) => value_of(0, 1, v),
+        Err(number) => value_of(number, 0, 0),
     }
 }
 
-pub fn tell_flag(answer: FlagAnswer) -> ValueTold
+pub fn tell_flag(answer: Result<bool, Refusal>) -> ValueTold
     ensures { result ≡ value_by (as_number (flag_told answer)) }
 {
     match answer {
-        FlagAnswer::Is(b) => value_of(0, 1, b as u64),
-        FlagAnswer::Refused(number) => value_of(number, 0, 0),
+        Ok(b) => value_of(0, 1, b as u64),
+        Err(number) => value_of(number, 0, 0),
     }
 }
 
-pub fn tell_dword(answer: MaybeDword) -> ValueTold
+pub fn tell_dword(answer: Option<u32>) -> ValueTold
     ensures { result ≡ value_by (dword_told answer) }
 {
     match answer {
-        MaybeDword::Is(v) => value_of(0, 1, v as u64),
-        MaybeDword::Absent => value_of(0, 0, 0),
+        Some(v) => value_of(0, 1, v as u64),
+        None => value_of(0, 0, 0),
     }
 }
 
@@ -129,13 +126,13 @@ fn value_of(number: u8, present: u8, value: u64) -> ValueTold
     }
 }
 
-pub fn tell_uuid(answer: UuidAnswer) -> UuidTold
+pub fn tell_uuid(answer: Result<Option<Uuid>, Refusal>) -> UuidTold
     ensures { result ≡ uuid_by (uuid_told answer) }
 {
     match answer {
-        UuidAnswer::Is(u) => uuid_of(0, 1, u),
-        UuidAnswer::Absent => uuid_of(0, 0, no_uuid()),
-        UuidAnswer::Refused(number) => uuid_of(number, 0, no_uuid()),
+        Ok(Some(u)) => uuid_of(0, 1, u),
+        Ok(None) => uuid_of(0, 0, no_uuid()),
+        Err(number) => uuid_of(number, 0, no_uuid()),
     }
 }
 
@@ -163,13 +160,13 @@ fn uuid_of(number: u8, present: u8, u: Uuid) -> UuidTold
     }
 }
 
-pub fn tell_type(answer: TypeAnswer) -> TypeTold
+pub fn tell_type(answer: Result<Option<PacketType>, Refusal>) -> TypeTold
     ensures { result ≡ type_by (type_told answer) }
 {
     match answer {
-        TypeAnswer::Is(t) => type_of(0, 1, t.value, t.name.at),
-        TypeAnswer::Absent => type_of(0, 0, 0, 0),
-        TypeAnswer::Refused(number) => type_of(number, 0, 0, 0),
+        Ok(Some(t)) => type_of(0, 1, t.value, t.name.at),
+        Ok(None) => type_of(0, 0, 0, 0),
+        Err(number) => type_of(number, 0, 0, 0),
     }
 }
 
@@ -184,13 +181,13 @@ fn type_of(number: u8, present: u8, value: u32, name: usize) -> TypeTold
     }
 }
 
-pub fn tell_field(answer: FieldAnswer) -> FieldTold
+pub fn tell_field(answer: Result<Option<Field>, Refusal>) -> FieldTold
     ensures { result ≡ field_by (field_told answer) }
 {
     match answer {
-        FieldAnswer::Is(f) => whole_field(f),
-        FieldAnswer::Absent => no_field(0),
-        FieldAnswer::Refused(number) => no_field(number),
+        Ok(Some(f)) => whole_field(f),
+        Ok(None) => no_field(0),
+        Err(number) => no_field(number),
     }
 }
 
@@ -232,18 +229,18 @@ fn source_number(source: Source) -> u8
     }
 }
 
-pub fn tell_range(range: MaybeRange) -> RangeTold
+pub fn tell_range(range: Option<Range>) -> RangeTold
     ensures { result ≡ range_by (range_told range) }
 {
     match range {
-        MaybeRange::Is(g) => RangeTold {
+        Some(g) => RangeTold {
             present: 1,
             low: g.low,
             high: g.high,
             value: g.value,
             place: g.place.at,
         },
-        MaybeRange::Absent => RangeTold {
+        None => RangeTold {
             present: 0,
             low: 0,
             high: 0,

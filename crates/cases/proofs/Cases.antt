@@ -1,11 +1,10 @@
 -- Document 01's cases as one list with a single statement, P6 and P7 in lenient with their strict sides beside them, as document 02 has it; each was
 -- computed or proved where its definitions are. Assumes nothing.
+use Rattle.std.specs.Prelude.{Err, None, Ok, Some}
+use Rattle.text.specs.declared.number.BadNumber.TheVariants as BadNumber
 use Prim.Native.Nat.{ℕ, ◌+◌, ◌<◌, ◌^◌}
 use mathlib.Core.Path.{◌≡◌, refl}
 use mathlib.Core.List.{[], ◌∷◌}
-use mathlib.Core.Option.{some}
-use Rattle.text.specs.declared.number.Number.TheVariants as N
-use Rattle.text.specs.declared.number.Reading.TheVariants as X
 use Rattle.text.specs.Number.{hex_of}
 use Rattle.text.specs.Quote.{bytes}
 use Rattle.text.proofs.Cases.{case_P9}
@@ -35,7 +34,7 @@ use Rattle.questions.specs.Questions.{route_of, start_of, view_of, uuid_answer}
 use Rattle.questions.proofs.Cases.{case_P12, case_P13, case_P14}
 
 -- the text of P6's value is what its dwords are read from
-payload_P6 : payload_data (bytes "data=[0x1, zz, 0x2]") ≡ some (1 ∷ 2 ∷ [])
+payload_P6 : payload_data (bytes "data=[0x1, zz, 0x2]") ≡ Some (1 ∷ 2 ∷ [])
 unfolding payload_data text_at
 payload_P6 = rw case_P6.value_at case_P6.dwords
 
@@ -54,15 +53,15 @@ pub record Cases : Type 0 where
   pub P1-unknown : event_of 3 ≡ Unknown 3
   -- P2: run `a-1-b`: task `a_1`, pid 1
   pub P2-task : Task (bytes "a-1-b") (bytes "a-1")
-  pub P2-pid : pid_of (bytes "a-1-b") ≡ N.Value 1
+  pub P2-pid : pid_of (bytes "a-1-b") ≡ Some 1
   -- P3: `12.34.56: f`: 34 s, 56 µs
   pub P3 : stamp_of (bytes "12.34.56: f") ≡ S.At 34 56
   -- P4: `a=b=c`: one pair, a to b
   pub P4 : pairs_from (bytes "a=b=c") 0 ≡ placed 0 1 3 ∷ []
   -- P5: `size=1 size=2`: 2
-  pub P5 : decimal_of (bytes "size=1 size=2") (bytes "size") 0xffff ≡ N.Value 2
+  pub P5 : decimal_of (bytes "size=1 size=2") (bytes "size") 0xffff ≡ Some 2
   -- P6: `data=[0x1, zz, 0x2]`: 1, 2 in lenient; 18 in strict
-  pub P6 : payload_data (bytes "data=[0x1, zz, 0x2]") ≡ some (1 ∷ 2 ∷ [])
+  pub P6 : payload_data (bytes "data=[0x1, zz, 0x2]") ≡ Some (1 ∷ 2 ∷ [])
   pub P6-lenient : parse_of Lenient (bytes "a-1 [002] 1.2: f: type=t size=3 domain=0 route=0 data=[0x1, zz, 0x2]") 256 ≡ is (plain_entry 2)
   pub P6-dwords : line_dwords (bytes "a-1 [002] 1.2: f: type=t size=3 domain=0 route=0 data=[0x1, zz, 0x2]") ≡ 1 ∷ 2 ∷ []
   pub P6-strict : parse_of Strict (bytes "a-1 [002] 1.2: f: type=t size=3 domain=0 route=0 data=[0x1, zz, 0x2]") 256 ≡ refused 18
@@ -73,8 +72,8 @@ pub record Cases : Type 0 where
   pub P8-lenient : parse_of Lenient (bytes "a-1 [002] 1.2: f: type=t size=3 domain=0 route=0 data=[]") 256 ≡ refused 15
   pub P8-strict : parse_of Strict (bytes "a-1 [002] 1.2: f: type=t size=3 domain=0 route=0 data=[]") 256 ≡ refused 15
   -- P9: hex 16: `ffff` read, `10000` not
-  pub P9-read : hex_of 0xffff (bytes "ffff") ≡ X.Value 0xffff
-  pub P9-not : hex_of 0xffff (bytes "10000") ≡ X.TooWide
+  pub P9-read : hex_of 0xffff (bytes "ffff") ≡ Ok 0xffff
+  pub P9-not : hex_of 0xffff (bytes "10000") ≡ (Err BadNumber.TooWide)
   -- P10: bits 8 to 15 of 0x12345678: 0x56
   pub P10 : range_of 0x12345678 8 15 ≡ 0x56
   -- P11: bits 0 to 31: the dword

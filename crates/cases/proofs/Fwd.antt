@@ -1,4 +1,5 @@
 -- Document 01's `fwd` line as a record, byte by byte: what is written of the line's entry, read back, and written again, all computed. Assumes nothing.
+use Rattle.std.specs.Prelude.{None, Some}
 use Prim.Native.Nat.{ℕ}
 use mathlib.Core.Path.{◌≡◌, refl}
 use mathlib.Core.Bool.{false}
@@ -10,8 +11,6 @@ use Rattle.tlv.specs.Grammar as Layout
 use Rattle.tlv.specs.Number as Number
 use Rattle.tlv.specs.Reading as Step
 use Rattle.entry.specs.declared.Entry.{Entry}
-use Rattle.entry.specs.declared.optional.MaybeByte.TheVariants as B
-use Rattle.entry.specs.declared.optional.MaybeWord.TheVariants as W
 use Rattle.entry.specs.Entry as Value
 use Rattle.scan.specs.declared.Pieces.{Pieces}
 use Rattle.scan.specs.declared.Pieces.TheVariants.{Strict}
@@ -32,7 +31,7 @@ use Rattle.writer.specs.Writing.{write_of, bytes_of}
 unfoldable pub records_open : Unit {0}
 unfolding Class.between Class.is_digit Class.is_letter Class.is_word Layout.field_bytes Layout.fields_bytes Number.number_bytes Number.number
     Step.step_from Step.field_at Step.walk_from Step.walk Step.parts
-    Value.part_of Value.byte_value Value.word_value Value.value_of
+    Value.part_of Value.value_of
     Finding.span_among Finding.span_of Finding.place_of Finding.maybe_of Finding.number_of Finding.byte_of Finding.word_of
     Gathering.origin_of Gathering.packet_of Gathering.noted_of Gathering.entry_of
     Grammar.dwords_bytes Grammar.rows_of Grammar.present Grammar.record_bytes
@@ -70,13 +69,13 @@ fwd_record =
 
 -- the entry as it lies in the line, on any CPU and on its own; and as it lies in the record
 abbrev pub fwd_on : ℕ → Entry
-fwd_on cpu = record { task_at = 1; task_len = 3; pid = 7; cpu = cpu; seconds = 12; microseconds = 345; function_at = 30; function_len = 5; kind = 1; size = 3; dropped = false; domain = 0; route = 0; offset = W.Absent; code = B.Absent; len = W.Absent; port = B.Absent; config = B.Absent; seq = B.Absent; unplug = B.Absent; dwords = 3 }
+fwd_on cpu = record { task_at = 1; task_len = 3; pid = 7; cpu = cpu; seconds = 12; microseconds = 345; function_at = 30; function_len = 5; kind = 1; size = 3; dropped = false; domain = 0; route = 0; offset = None; code = None; len = None; port = None; config = None; seq = None; unplug = None; dwords = 3 }
 
 abbrev pub fwd_in_line : Entry
 fwd_in_line = fwd_on 2
 
 abbrev pub fwd_in_record : Entry
-fwd_in_record = record { task_at = 6; task_len = 3; pid = 7; cpu = 2; seconds = 12; microseconds = 345; function_at = 46; function_len = 5; kind = 1; size = 3; dropped = false; domain = 0; route = 0; offset = W.Absent; code = B.Absent; len = W.Absent; port = B.Absent; config = B.Absent; seq = B.Absent; unplug = B.Absent; dwords = 3 }
+fwd_in_record = record { task_at = 6; task_len = 3; pid = 7; cpu = 2; seconds = 12; microseconds = 345; function_at = 46; function_len = 5; kind = 1; size = 3; dropped = false; domain = 0; route = 0; offset = None; code = None; len = None; port = None; config = None; seq = None; unplug = None; dwords = 3 }
 
 pub record FwdRecord : Type 0 where
   pub line : (pieces : Pieces) → parse_of pieces fwd_line 256 ≡ is fwd_in_line

@@ -9,15 +9,8 @@ use scan::Pieces;
 use std::env::{Env, FillError};
 use text::same::same;
 
-// The choice, or that the arguments are none that the program takes.
-#[derive(Clone, Copy)]
-pub enum Asked {
-    Choice(Pieces),
-    Wrong,
-}
-
 // What the arguments behind the first so many say, the program's name counted: nothing more is strict, `lenient` alone is lenient.
-pub fn ask_choice<E: Env>(env: &E, before: usize) -> Asked {
+pub fn ask_choice<E: Env>(env: &E, before: usize) -> Option<Pieces> {
     ask_among(env, arg_count(env), before)
 }
 
@@ -33,37 +26,37 @@ pub fn arg_count<E: Env>(env: &E) -> usize {
     usize::MAX
 }
 
-fn ask_among<E: Env>(env: &E, count: usize, before: usize) -> Asked
+fn ask_among<E: Env>(env: &E, count: usize, before: usize) -> Option<Pieces>
     ensures { StrictByNone count before result }
 {
     if count == before {
-        return Asked::Choice(Pieces::Strict);
+        return Some(Pieces::Strict);
     }
     if count < before {
-        return Asked::Wrong;
+        return None;
     }
     if count - before == 1 {
         return choice_at(env, before);
     }
-    Asked::Wrong
+    None
 }
 
 // An argument that is longer than the buffer is no word of ours.
-fn choice_at<E: Env>(env: &E, place: usize) -> Asked
+fn choice_at<E: Env>(env: &E, place: usize) -> Option<Pieces>
     ensures { NotStrict result }
 {
     let mut word = [0u8; 4096];
     match env.arg(place, &mut word) {
         Ok(n) => choice_of(&word[..n]),
-        Err(_) => Asked::Wrong,
+        Err(_) => None,
     }
 }
 
-fn choice_of(word: &[u8]) -> Asked
+fn choice_of(word: &[u8]) -> Option<Pieces>
     ensures { result ≡ asked_by word.now }
 {
     if same(word, b"lenient") {
-        return Asked::Choice(Pieces::Lenient);
+        return Some(Pieces::Lenient);
     }
-    Asked::Wrong
+    None
 }

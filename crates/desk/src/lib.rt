@@ -16,7 +16,7 @@ ghost use Rattle.desk.specs.Turn.{Entered, Refusing, Turned};
 use crate::reports::{counted, noted, row_of};
 use channel::sink::sum;
 use entry::Entry;
-use scan::{Answer, Pieces, parse};
+use scan::{Pieces, parse};
 use table::{Table, empty, step_held};
 use unanswered_rows::{Counts, Note, Row};
 
@@ -67,8 +67,8 @@ pub fn step_line(line: &[u8], pieces: Pieces, desk: Desk) -> Turn
 {
     let mut slots = [0u32; 256];
     match parse(line, pieces, &mut slots) {
-        Answer::Entry(e) => step_entry(e, desk),
-        Answer::Refused(number) => refuse(number, desk),
+        Ok(e) => step_entry(e, desk),
+        Err(number) => refuse(number, desk),
     }
 }
 

@@ -1,19 +1,10 @@
 -- The entry as a value: texts by their bytes, dwords as a list, wherever they lie.
-use Rattle.std.specs.Prelude.{ℕ, ◌+◌, ◌≤◌, ◌≡◌, Bool, cond, ◌||◌, List, [], leb, eqb, length, take, drop}
-use Rattle.std.proofs.Math.Option.{Option, some, none}
+use Rattle.std.specs.Prelude.{ℕ, ◌+◌, ◌≤◌, ◌≡◌, Bool, cond, ◌||◌, List, [], leb, eqb, length, take, drop, None, Option, Some}
 use Rattle.text.specs.Part.{Slice, OwnPart}
 use Rattle.entry.specs.Event.{event_of}
 use Rattle.text.specs.Told.{Told, is, absent}
 use Rattle.entry.specs.declared.events.Event.{Event}
 use Rattle.entry.specs.declared.Entry.{Entry}
-use Rattle.entry.specs.declared.optional.MaybeByte.{MaybeByte}
-use Rattle.entry.specs.declared.optional.MaybeByte.TheVariants as B
-use Rattle.entry.specs.declared.optional.MaybeWord.{MaybeWord}
-use Rattle.entry.specs.declared.optional.MaybeWord.TheVariants as W
-use Rattle.entry.specs.declared.optional.MaybeFlag.{MaybeFlag}
-use Rattle.entry.specs.declared.optional.MaybeFlag.TheVariants as F
-use Rattle.entry.specs.declared.optional.MaybeEvent.{MaybeEvent}
-use Rattle.entry.specs.declared.optional.MaybeEvent.TheVariants as E
 
 -- what an entry says, in the order of the record's fields
 pub record EntryValue : Type 0 where
@@ -49,16 +40,6 @@ part_from l at n = cond (leb (at + n) (length l)) at 0
 abbrev pub OwnPartAt : ℕ → Slice → ℕ → ℕ → Slice → Type 0
 OwnPartAt size lent at n part = OwnPart size lent (part_from lent.now at n) (part_of lent.now at n) part
 
--- a byte that may be absent, as a value
-unfoldable pub byte_value : MaybeByte → Option ℕ
-byte_value (B.Is b) = some b
-byte_value B.Absent = none
-
--- two bytes that may be absent, as a value
-unfoldable pub word_value : MaybeWord → Option ℕ
-word_value (W.Is w) = some w
-word_value W.Absent = none
-
 -- what an entry says, given the text and the slots that it was read into
 unfoldable pub value_of : Entry → List ℕ → List ℕ → EntryValue
 value_of e text slots =
@@ -74,13 +55,13 @@ value_of e text slots =
       dropped = e.dropped;
       domain = e.domain;
       route = e.route;
-      offset = word_value e.offset;
-      code = byte_value e.code;
-      len = word_value e.len;
-      port = byte_value e.port;
-      config = byte_value e.config;
-      seq = byte_value e.seq;
-      unplug = byte_value e.unplug;
+      offset = e.offset;
+      code = e.code;
+      len = e.len;
+      port = e.port;
+      config = e.config;
+      seq = e.seq;
+      unplug = e.unplug;
       dwords = part_of slots 0 e.dwords;
     }
 
@@ -97,36 +78,36 @@ pub record SameEntry (e : Entry) (text slots : List ℕ) (f : Entry) (other plac
   pub same : value_of e text slots ≡ value_of f other places
 
 -- what each case of an answer tells: a flag, or none
-abbrev pub maybe_flag : MaybeFlag → Told Bool
-maybe_flag (F.Is b) = is b
-maybe_flag F.Absent = absent
+abbrev pub maybe_flag : Option Bool → Told Bool
+maybe_flag (Some b) = is b
+maybe_flag None = absent
 
 -- an event, whose number is its code (`code_of`), or none
-abbrev pub maybe_event : MaybeEvent → Told Event
-maybe_event (E.Is e) = is e
-maybe_event E.Absent = absent
+abbrev pub maybe_event : Option Event → Told Event
+maybe_event (Some e) = is e
+maybe_event None = absent
 
 -- a byte, or none
-abbrev pub maybe_byte : MaybeByte → Told ℕ
-maybe_byte (B.Is b) = is b
-maybe_byte B.Absent = absent
+abbrev pub maybe_byte : Option ℕ → Told ℕ
+maybe_byte (Some b) = is b
+maybe_byte None = absent
 
 -- a number of two bytes, or none
-abbrev pub maybe_word : MaybeWord → Told ℕ
-maybe_word (W.Is w) = is w
-maybe_word W.Absent = absent
+abbrev pub maybe_word : Option ℕ → Told ℕ
+maybe_word (Some w) = is w
+maybe_word None = absent
 
 -- the event question: that of the code, none without one
-unfoldable pub event_of_code : MaybeByte → Told Event
-event_of_code (B.Is code) = is (event_of code)
-event_of_code B.Absent = absent
+unfoldable pub event_of_code : Option ℕ → Told Event
+event_of_code (Some code) = is (event_of code)
+event_of_code None = absent
 
 -- the adapter question: the port, none for events 33 and 36
-unfoldable pub adapter_of : MaybeByte → MaybeByte → Told ℕ
-adapter_of (B.Is code) port = cond (eqb code 33 || eqb code 36) absent (maybe_byte port)
-adapter_of B.Absent port = maybe_byte port
+unfoldable pub adapter_of : Option ℕ → Option ℕ → Told ℕ
+adapter_of (Some code) port = cond (eqb code 33 || eqb code 36) absent (maybe_byte port)
+adapter_of None port = maybe_byte port
 
 -- the unplug question: whether the byte is 1, none without one
-unfoldable pub unplug_of : MaybeByte → Told Bool
-unplug_of (B.Is b) = is (eqb b 1)
-unplug_of B.Absent = absent
+unfoldable pub unplug_of : Option ℕ → Told Bool
+unplug_of (Some b) = is (eqb b 1)
+unplug_of None = absent

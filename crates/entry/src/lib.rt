@@ -10,7 +10,6 @@ ghost use Rattle.std.specs.Prelude.{◌≡◌};
 ghost use Rattle.entry.specs.Entry.{OwnPartAt, maybe_byte, maybe_event, maybe_flag, event_of_code, adapter_of, unplug_of};
 
 use crate::events::{Event, from_code};
-use crate::optional::{MaybeByte, MaybeEvent, MaybeFlag, MaybeWord};
 
 #[derive(Clone, Copy)]
 pub struct Entry {
@@ -27,55 +26,55 @@ pub struct Entry {
     pub dropped: bool,
     pub domain: u32,
     pub route: u64,
-    pub offset: MaybeWord,
-    pub code: MaybeByte,
-    pub len: MaybeWord,
-    pub port: MaybeByte,
-    pub config: MaybeByte,
-    pub seq: MaybeByte,
-    pub unplug: MaybeByte,
+    pub offset: Option<u16>,
+    pub code: Option<u8>,
+    pub len: Option<u16>,
+    pub port: Option<u8>,
+    pub config: Option<u8>,
+    pub seq: Option<u8>,
+    pub unplug: Option<u8>,
     pub dwords: usize,
 }
 
 // The notification's event, where the entry has a code.
-pub fn event(e: Entry) -> MaybeEvent
+pub fn event(e: Entry) -> Option<Event>
     ensures { maybe_event result ≡ event_of_code e.code }
 {
     let code = e.code;
     match code {
-        MaybeByte::Is(c) => MaybeEvent::Is(from_code(c)),
-        MaybeByte::Absent => MaybeEvent::Absent,
+        Some(c) => Some(from_code(c)),
+        None => None,
     }
 }
 
 // The adapter: the port, but for the two events that carry something else in its place.
-pub fn adapter_num(e: Entry) -> MaybeByte
+pub fn adapter_num(e: Entry) -> Option<u8>
     ensures { maybe_byte result ≡ adapter_of e.code e.port }
 {
     let code = e.code;
     let port = e.port;
     match code {
-        MaybeByte::Is(c) => {
+        Some(c) => {
             if c == 33 {
-                return MaybeByte::Absent;
+                return None;
             }
             if c == 36 {
-                return MaybeByte::Absent;
+                return None;
             }
             port
         }
-        MaybeByte::Absent => port,
+        None => port,
     }
 }
 
 // Does the entry report an unplug? The byte itself stays in the entry.
-pub fn unplug(e: Entry) -> MaybeFlag
+pub fn unplug(e: Entry) -> Option<bool>
     ensures { maybe_flag result ≡ unplug_of e.unplug }
 {
     let byte = e.unplug;
     match byte {
-        MaybeByte::Is(b) => MaybeFlag::Is(b == 1),
-        MaybeByte::Absent => MaybeFlag::Absent,
+        Some(b) => Some(b == 1),
+        None => None,
     }
 }
 

@@ -1,5 +1,7 @@
 -- A description's source by the tests that find it, and its ranges by their places: each case of place and test leaves one answer.
 -- Assumes nothing.
+use Rattle.std.specs.Prelude.{None, Option, Some}
+use Rattle.field.specs.declared.Range.{Range}
 use Prim.Native.Nat.{ℕ, zero, suc, ◌+◌, ◌≤◌, ◌<◌}
 use mathlib.Core.Path.{◌≡◌, refl, sym}
 use mathlib.Core.Bool.{true, false}
@@ -10,8 +12,6 @@ use lib.Dec.{ltb}
 use lib.ListN.{get_or}
 use Rattle.text.specs.Told.{is, absent}
 use Rattle.text.proofs.Told.{by_cases, fixed_by_told}
-use Rattle.text.specs.declared.place.Found.{Found}
-use Rattle.text.specs.declared.place.Found.TheVariants.{At, Nothing}
 use Rattle.tlv.specs.declared.Step.TheVariants as T
 use Rattle.tlv.specs.Reading.{field_at}
 use Rattle.book.proofs.Steps as steps
@@ -19,19 +19,17 @@ use Rattle.book.specs.Finders.{control_table, uuid_table}
 use Rattle.packet.specs.Packet.{zero_uuid}
 use Rattle.packet.specs.Field as dword
 use Rattle.field.specs.declared.Source.TheVariants.{Control, Header, Protocol, Bare}
-use Rattle.field.specs.declared.MaybeRange.{MaybeRange}
-use Rattle.field.specs.declared.MaybeRange.TheVariants as R
 use Rattle.field.specs.Source.{stands_in, source_of}
 use Rattle.field.specs.Ranges.{range_told, range_at}
 
 -- ---- in a table or not
 
-module _ (s : List ℕ) (entry : ℕ) {table : Found} where
-  pub no_table : table ≡ Nothing → false ≡ stands_in s table entry
+module _ (s : List ℕ) (entry : ℕ) {table : Option ℕ} where
+  pub no_table : table ≡ None → false ≡ stands_in s table entry
   unfolding stands_in
   no_table e = rw e
 
-  module _ {at : ℕ} (found : table ≡ At at) where
+  module _ {at : ℕ} (found : table ≡ Some at) where
     pub no_field : steps.Bare (field_at s at) → false ≡ stands_in s table entry
     unfolding stands_in
     no_field b = rw found (sym (steps.field_bare _ false (field_at s at) b))
@@ -87,9 +85,9 @@ module _ (s : List ℕ) (value : ℕ) where
   range_at_lem (suc p) n l h v = λ i. is (record { low = l i; high = h i; value = v i; place = record { at = suc p } })
 
 -- no second answer to `nth_range` and `range_named`: two answers that tell the same are the same
-pub one_range : (a b : MaybeRange) → range_told a ≡ range_told b → a ≡ b
-one_range = fixed_by_told range_told (by_cases R.Is R.Absent (λ k. R.Absent)) same
+pub one_range : (a b : Option Range) → range_told a ≡ range_told b → a ≡ b
+one_range = fixed_by_told range_told (by_cases Some None (λ k. None)) same
   where
-    same : (a : MaybeRange) → by_cases R.Is R.Absent (λ k. R.Absent) (range_told a) ≡ a
-    same (R.Is range) = refl
-    same R.Absent = refl
+    same : (a : Option Range) → by_cases Some None (λ k. None) (range_told a) ≡ a
+    same (Some range) = refl
+    same None = refl

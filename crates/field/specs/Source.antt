@@ -1,8 +1,6 @@
 -- A field of a packet: a dword, its offset, and the table that its description comes from.
 -- Assumes nothing.
-use Rattle.std.specs.Prelude.{ℕ, zero, suc, Bool, false, cond, ◌&&◌, List, leb, ltb}
-use Rattle.text.specs.declared.place.Found.{Found}
-use Rattle.text.specs.declared.place.Found.TheVariants.{At, Nothing}
+use Rattle.std.specs.Prelude.{ℕ, zero, suc, Bool, false, cond, ◌&&◌, List, leb, ltb, None, Option, Some}
 use Rattle.tlv.specs.Reading.{field_at}
 use Rattle.book.specs.Search.{at_field}
 use Rattle.book.specs.Finders.{control_table, uuid_table}
@@ -12,9 +10,9 @@ use Rattle.field.specs.declared.Source.TheVariants.{Control, Header, Protocol, B
 use Rattle.field.specs.declared.Field.{Field}
 
 -- an entry stands in a table: its place is one of the table's body
-unfoldable pub stands_in : List ℕ → Found → ℕ → Bool
-stands_in s (At table) entry = at_field (λ tag from to. leb from entry && ltb entry to) false (field_at s table)
-stands_in s Nothing entry = false
+unfoldable pub stands_in : List ℕ → Option ℕ → ℕ → Bool
+stands_in s (Some table) entry = at_field (λ tag from to. leb from entry && ltb entry to) false (field_at s table)
+stands_in s None entry = false
 
 -- a description comes from the control, header or protocol table, or there is none
 unfoldable pub source_of : ℕ → List ℕ → ℕ → Source

@@ -60,12 +60,6 @@ pub struct Range {
     pub place: Place,
 }
 
-#[derive(Clone, Copy)]
-pub enum MaybeRange {
-    Is(Range),
-    Absent,
-}
-
 // The field of a dword at an offset, whose entry has that place, 0 for none.
 pub fn field_of(kind: u8, book: &[u8], offset: u16, dword: u32, entry: usize) -> Field
     ensures { result ≡ field_of kind book.now offset dword entry }
@@ -125,31 +119,31 @@ pub fn count_ranges(book: &[u8], field: Field) -> usize
 }
 
 // The bit range with `k` before it.
-pub fn nth_range(book: &[u8], field: Field, k: usize) -> MaybeRange
+pub fn nth_range(book: &[u8], field: Field, k: usize) -> Option<Range>
     ensures { range_told result ≡ nth_range book.now field k }
 {
     let entry = entry_of(field);
     if entry == 0 {
-        return MaybeRange::Absent;
+        return None;
     }
     range_at(book, find::nth_range(book, entry, k), field.value)
 }
 
 // The first bit range of a name.
-pub fn range_named(book: &[u8], field: Field, name: &[u8]) -> MaybeRange
+pub fn range_named(book: &[u8], field: Field, name: &[u8]) -> Option<Range>
     ensures { range_told result ≡ range_named book.now field name.now }
 {
     range_at(book, range_in(book, name, entry_of(field)), field.value)
 }
 
 // The bit range at a place, 0 for none, with its value in a dword.
-fn range_at(book: &[u8], place: usize, dword: u32) -> MaybeRange
+fn range_at(book: &[u8], place: usize, dword: u32) -> Option<Range>
     ensures { range_told result ≡ range_at book.now place dword }
 {
     if place == 0 {
-        return MaybeRange::Absent;
+        return None;
     }
-    MaybeRange::Is(Range {
+    Some(Range {
         low: find::low_of(book, place),
         high: find::high_of(book, place),
         value: value_in(book, place, dword),

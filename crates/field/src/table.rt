@@ -5,7 +5,6 @@ ghost use Rattle.packet.specs.Packet.{zero_uuid};
 ghost use Rattle.field.specs.Source.{stands_in};
 
 use book::{Uuid, find};
-use text::place::Found;
 use tlv::Step;
 
 // Does the entry stand in the control table of the kind?
@@ -32,10 +31,10 @@ pub fn is_in_header(book: &[u8], entry: usize) -> bool
 }
 
 // Is there a table, and is the place in its body?
-fn is_in(book: &[u8], table: Found, place: usize) -> bool
+fn is_in(book: &[u8], table: Option<usize>, place: usize) -> bool
     ensures { result ≡ stands_in book.now table place }
 {
-    let Found::At(at) = table else {
+    let Some(at) = table else {
         return false;
     };
     let step = tlv::field_at(book, at);

@@ -1,4 +1,6 @@
 -- What is accepted has a record, which is written into the rest of a buffer as it would be into one of its own. Assumes nothing.
+use Rattle.std.specs.Prelude.{Err, None, Ok, Result, Some}
+use Rattle.refusal.specs.declared.Refusal.{Refusal}
 use Prim.Native.Nat.{ℕ, ◌+◌, ◌-◌, ◌≤◌}
 use mathlib.Core.Path.{◌≡◌, refl, sym, ap, ◌∙◌}
 use mathlib.Core.Bool.{Bool, true, false}
@@ -13,12 +15,9 @@ use Rattle.tlv.proofs.Places.{bytes_take}
 use Rattle.entry.specs.declared.Entry.{Entry}
 use Rattle.entry.specs.Entry.{EntryValue, value_of, part_of}
 use Rattle.scan.specs.declared.Pieces.{Pieces}
-use Rattle.scan.specs.declared.Answer.TheVariants as Scan
 use Rattle.scan.specs.Parse.{slots_by}
 use Rattle.scan.proofs.Values.{dwords_part, dwords_whole}
 use Rattle.record.specs.Grammar.{record_bytes}
-use Rattle.writer.specs.declared.Written.{Written}
-use Rattle.writer.specs.declared.Written.TheVariants as W
 use Rattle.writer.specs.Writing.{Writing, written_told, bytes_of, buffer_by}
 use Rattle.writer.proofs.RoundTrips.{one_written, some_written}
 use Rattle.intake.specs.Intake.{starts_a1, taken_of, taken_dwords}
@@ -28,7 +27,6 @@ use Rattle.intake.proofs.Slots.{taken_count}
 use Rattle.units.specs.declared.Unit.{Unit}
 use Rattle.units.specs.declared.Unit.TheVariants as U
 use Rattle.units.specs.Feeding.{text_length}
-use Rattle.stream.specs.declared.Answer.TheVariants as A
 use Rattle.stream.specs.Answers.{said_by, records_of}
 use Rattle.stream.specs.Feeding.{UnitRead, unit_told}
 use Rattle.listing_rows.specs.Rows.{Put}
@@ -45,7 +43,7 @@ text_read pieces U.Open rest room q = absurd (let z : ◌≡◌ {A = ℕ} 0 1 = 
 text_read pieces U.Alien rest room q = absurd (let z : ◌≡◌ {A = ℕ} 0 1 = cc in omega arith)
 
 -- an accepted line has a record, and an accepted record is one
-has_record : (pieces : Pieces) (text slots : List ℕ) (e : Entry) (left : List ℕ) → ReadCall pieces text slots (Scan.Entry e) left → (v : EntryValue) × HasRecord text e left v
+has_record : (pieces : Pieces) (text slots : List ℕ) (e : Entry) (left : List ℕ) → ReadCall pieces text slots (Ok e) left → (v : EntryValue) × HasRecord text e left v
 has_record pieces text slots e left call = go (starts_a1 text) refl
   where
     go : (b : Bool) → starts_a1 text ≡ b → (v : EntryValue) × HasRecord text e left v
@@ -53,7 +51,7 @@ has_record pieces text slots e left call = go (starts_a1 text) refl
     go false q = let h = line_has_a_record pieces text slots e left q call in (h.0, h.2)
 
 -- the entry of a unit that was cut off has a record, and it is the unit's record
-module _ (pieces : Pieces) (cut : Unit) (rest slots left : List ℕ) {e : Entry} (bytes : Bytes rest) (size : length slots ≡ 256) (p : UnitRead pieces cut rest slots left (A.Entry e)) where
+module _ (pieces : Pieces) (cut : Unit) (rest slots left : List ℕ) {e : Entry} (bytes : Bytes rest) (size : length slots ≡ 256) (p : UnitRead pieces cut rest slots left (Ok (Some e))) where
   abbrev text : List ℕ
   text = take (text_length cut) rest
 
@@ -63,7 +61,7 @@ module _ (pieces : Pieces) (cut : Unit) (rest slots left : List ℕ) {e : Entry}
   left_is : left ≡ slots_by (T.is e) (taken_dwords (take (text_length cut) rest)) slots
   left_is = p.slots_are ∙ ap (λ (t : T.Told Entry). slots_by t (taken_dwords (take (text_length cut) rest)) slots) (sym p.answer)
 
-  call : ReadCall pieces (take (text_length cut) rest) slots (Scan.Entry e) left
+  call : ReadCall pieces (take (text_length cut) rest) slots (Ok e) left
   call = record { bytes = bytes_take rest (text_length cut) bytes; enough = omega (arith, size); contract = record { answer = sym taken; slots = left_is } }
 
   pub unit_recorded : Recorded (take (text_length cut) rest) e left
@@ -89,17 +87,17 @@ module _ (pieces : Pieces) (cut : Unit) (rest slots left : List ℕ) {e : Entry}
       append-nil (record_bytes (value_of e (take (text_length cut) rest) (taken_dwords (take (text_length cut) rest)))) ∙ rw (whole, now)
 
 -- a record written into the rest of a buffer
-module _ (text : List ℕ) (e : Entry) (dwords : List ℕ) (has : Recorded text e dwords) (out : List ℕ) (at : ℕ) (room : at + 5227 ≤ length out) (left : List ℕ) {r : Written} (w : Writing text e dwords (take (length out - at) (drop at out)) r left) where
+module _ (text : List ℕ) (e : Entry) (dwords : List ℕ) (has : Recorded text e dwords) (out : List ℕ) (at : ℕ) (room : at + 5227 ≤ length out) (left : List ℕ) {r : Result ℕ Refusal} (w : Writing text e dwords (take (length out - at) (drop at out)) r left) where
   rest_is : take (length out - at) (drop at out) ≡ drop at out
   rest_is = take_all (length out - at) (drop at out) (omega (arith, length-drop at out))
 
   behind_none : post_of at (length out - at) out ≡ []
   behind_none = Post-is at (length out) out (omega arith) ∙ drop-length out
 
-  pub rest_written : r ≡ W.Bytes (length (bytes_of text e dwords))
+  pub rest_written : r ≡ Ok (length (bytes_of text e dwords))
   rest_written =
       let size : length (take (length out - at) (drop at out)) ≡ length out - at = ap length rest_is ∙ length-drop at out in
-      one_written r (W.Bytes (length (bytes_of text e dwords))) (w.answer ∙ rw size (has.written (length out - at) (omega arith)))
+      one_written r (Ok (length (bytes_of text e dwords))) (w.answer ∙ rw size (has.written (length out - at) (omega arith)))
 
   pub rest_put : Put out at (bytes_of text e dwords) (put_mid at (length out - at) out left) (at + length (bytes_of text e dwords))
   unfolding buffer_by

@@ -1,4 +1,6 @@
 -- What a unit puts out, from what the row or the record puts out. Assumes nothing.
+use Rattle.std.specs.Prelude.{Err, None, Ok, Option, Result, Some}
+use Rattle.refusal.specs.declared.Refusal.{Refusal}
 use Prim.Native.Nat.{ℕ, ◌+◌, ◌≤◌}
 use mathlib.Core.Path.{◌≡◌, refl, ap, ◌∙◌}
 use mathlib.Core.List.{List, [], ◌∷◌, ◌++◌}
@@ -10,17 +12,12 @@ use Rattle.text.specs.Quote.{bytes}
 use Rattle.entry.specs.declared.Entry.{Entry}
 use Rattle.scan.specs.declared.Pieces.{Pieces}
 use Rattle.scan.specs.declared.Pieces.TheVariants.{Lenient}
-use Rattle.scan.specs.declared.Answer as Scan
-use Rattle.scan.specs.declared.Answer.TheVariants as SA
 use Rattle.scan.specs.Parse.{parse_of}
 use Rattle.scan.specs.Parse as ScanParse
-use Rattle.writer.specs.declared.Written.TheVariants as W
 use Rattle.writer.specs.Writing.{bytes_of}
 use Rattle.units.specs.declared.Unit.{Unit}
 use Rattle.units.specs.declared.Unit.TheVariants as U
 use Rattle.units.specs.Feeding.{text_length}
-use Rattle.stream.specs.declared.Answer.{Answer}
-use Rattle.stream.specs.declared.Answer.TheVariants as A
 use Rattle.stream.specs.Answers.{answer_told}
 use Rattle.stream.specs.Feeding.{unit_told}
 use Rattle.listing_rows.specs.Rows.{Put, word_and_number, refused_row, entry_row, totals_row}
@@ -38,22 +35,22 @@ use Rattle.filters.proofs.Parts.{put_none}
 
 -- what a row says, from the answer of a reader
 module _ {k : ℕ} (enough : k ≡ 256) where
-  pub text_entry : (u : List ℕ) {r : Scan.Answer} {e : Entry} → ScanParse.answer_told r ≡ parse_of Lenient u k → r ≡ SA.Entry e → S.Entry e.kind e.dwords ≡ seen_line Lenient u
+  pub text_entry : (u : List ℕ) {r : Result Entry Refusal} {e : Entry} → ScanParse.answer_told r ≡ parse_of Lenient u k → r ≡ Ok e → S.Entry e.kind e.dwords ≡ seen_line Lenient u
   unfolding seen_line seen_by
   text_entry u a q = rw (← enough, ← a, q)
 
-  pub text_refused : (u : List ℕ) {r : Scan.Answer} {n : ℕ} → ScanParse.answer_told r ≡ parse_of Lenient u k → r ≡ SA.Refused n → S.Refused n ≡ seen_line Lenient u
+  pub text_refused : (u : List ℕ) {r : Result Entry Refusal} {n : ℕ} → ScanParse.answer_told r ≡ parse_of Lenient u k → r ≡ Err n → S.Refused n ≡ seen_line Lenient u
   unfolding seen_line seen_by
   text_refused u a q = rw (← enough, ← a, q)
 
-  module _ (pieces : Pieces) (cut : Unit) (rest : List ℕ) {r : Answer} (a : answer_told r ≡ unit_told pieces cut rest k) where
-    pub unit_is : {e : Entry} → r ≡ A.Entry e → unit_told pieces cut rest 256 ≡ T.is e
+  module _ (pieces : Pieces) (cut : Unit) (rest : List ℕ) {r : Result (Option Entry) Refusal} (a : answer_told r ≡ unit_told pieces cut rest k) where
+    pub unit_is : {e : Entry} → r ≡ Ok (Some e) → unit_told pieces cut rest 256 ≡ T.is e
     unit_is q = rw (← enough, ← a, q)
 
-    pub unit_refused : {n : ℕ} → r ≡ A.Refused n → unit_told pieces cut rest 256 ≡ T.refused n
+    pub unit_refused : {n : ℕ} → r ≡ Err n → unit_told pieces cut rest 256 ≡ T.refused n
     unit_refused q = rw (← enough, ← a, q)
 
-    pub unit_none : r ≡ A.Nothing → unit_told pieces cut rest 256 ≡ T.absent
+    pub unit_none : r ≡ (Ok None) → unit_told pieces cut rest 256 ≡ T.absent
     unit_none q = rw (← enough, ← a, q)
 
 -- and from what is told
@@ -288,10 +285,10 @@ module _ (out told : List ℕ) (run : Run) (at_room : run.at ≤ length out) (to
   last_pack pieces p = record { counts_is = refl; put = put_none out run.at at_room; tells = p }
 
 -- the size of a record that was written
-pub bytes_size : {m n : ℕ} → W.Bytes m ≡ W.Bytes n → m ≡ n
+pub bytes_size : {m n : ℕ} → Ok m ≡ Ok n → m ≡ n
 bytes_size e = cc
 
 -- a record that was put
-pub record_unit : (text : List ℕ) (e : Entry) (dwords out : List ℕ) (run : Run) (out' : List ℕ) (n : ℕ) {next : Counts} → next ≡ counted run.counts (S.Entry e.kind e.dwords) → W.Bytes (length (bytes_of text e dwords)) ≡ W.Bytes n → Put out run.at (bytes_of text e dwords) out' (run.at + length (bytes_of text e dwords)) → RecordPut text e dwords out run out' (record { from = run.from; state = run.state; at = run.at + n; told = run.told; counts = next })
+pub record_unit : (text : List ℕ) (e : Entry) (dwords out : List ℕ) (run : Run) (out' : List ℕ) (n : ℕ) {next : Counts} → next ≡ counted run.counts (S.Entry e.kind e.dwords) → Ok (length (bytes_of text e dwords)) ≡ Ok n → Put out run.at (bytes_of text e dwords) out' (run.at + length (bytes_of text e dwords)) → RecordPut text e dwords out run out' (record { from = run.from; state = run.state; at = run.at + n; told = run.told; counts = next })
 record_unit text e dwords out run out' n count q p =
     record { from_is = refl; state_is = refl; counts_is = count; told_is = refl; put = rw (← bytes_size q) p }

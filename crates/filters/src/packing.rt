@@ -12,9 +12,9 @@ use crate::row::{Seen, count};
 use entry::Entry;
 use listing_rows::put_refused;
 use scan::Pieces;
-use stream::{Answer, read_unit};
+use stream::read_unit;
 use units::Unit;
-use writer::{Written, write};
+use writer::write;
 
 // A line's record, or a record as it is: what is accepted as one is what writing its entry gives. Asked for: that the unit's bytes stand in
 // the buffer, and room for a record and its row, which `turn` and `finish` have seen to.
@@ -32,9 +32,9 @@ pub fn pack_unit(
     let size = text_size(cut);
     let mut slots = [0u32; 256];
     match read_unit(cut, pieces, unit, &mut slots) {
-        Answer::Entry(e) => put_record(&unit[..size], e, &slots, out, run),
-        Answer::Refused(number) => tell(told, run, number),
-        Answer::Nothing => run,
+        Ok(Some(e)) => put_record(&unit[..size], e, &slots, out, run),
+        Err(number) => tell(told, run, number),
+        Ok(None) => run,
     }
 }
 
@@ -59,7 +59,7 @@ fn put_record(text: &[u8], e: Entry, dwords: &[u32], out: &mut [u8], run: Run) -
     let at = run.at;
     let mut done = run;
     match write(text, e, dwords, &mut out[at..]) {
-        Written::Bytes(n) => {
+        Ok(n) => {
             done.at = at + n;
             done.counts = count(
                 run.counts,
@@ -70,7 +70,7 @@ fn put_record(text: &[u8], e: Entry, dwords: &[u32], out: &mut [u8], run: Run) -
             );
             return done;
         }
-        Written::Refused(_) => {
+        Err(_) => {
             return done;
         }
     }

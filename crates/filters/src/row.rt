@@ -10,7 +10,7 @@ ghost use Rattle.filters.specs.Rows.{RowPut};
 use crate::{Counts, Run};
 use listing_rows::{put_entry, put_refused};
 use scan::{Pieces, parse};
-use stream::{Answer, read_unit};
+use stream::read_unit;
 use units::Unit;
 
 // What a row says: the kind and how many dwords there are, or the number that refuses it; or that no unit ended.
@@ -40,11 +40,11 @@ fn see_text(line: &[u8]) -> Seen
 {
     let mut slots = [0u32; 256];
     match parse(line, Pieces::Lenient, &mut slots) {
-        scan::Answer::Entry(e) => Seen::Entry {
+        Ok(e) => Seen::Entry {
             kind: e.kind,
             dwords: e.dwords,
         },
-        scan::Answer::Refused(number) => Seen::Refused(number),
+        Err(number) => Seen::Refused(number),
     }
 }
 
@@ -55,12 +55,12 @@ pub fn see_unit(cut: Unit, pieces: Pieces, unit: &[u8]) -> Seen
 {
     let mut slots = [0u32; 256];
     match read_unit(cut, pieces, unit, &mut slots) {
-        Answer::Entry(e) => Seen::Entry {
+        Ok(Some(e)) => Seen::Entry {
             kind: e.kind,
             dwords: e.dwords,
         },
-        Answer::Refused(number) => Seen::Refused(number),
-        Answer::Nothing => Seen::Nothing,
+        Err(number) => Seen::Refused(number),
+        Ok(None) => Seen::Nothing,
     }
 }
 

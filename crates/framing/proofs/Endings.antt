@@ -1,5 +1,6 @@
 -- Where the open unit ends: a line at the first newline, since its last byte alone tells; a record where its first three bytes say, since
 -- they are the same in every front that has them. Assumes nothing.
+use Rattle.std.specs.Prelude.{None, Some}
 use Prim.Native.Nat.{ℕ, suc, min, ◌+◌, ◌*◌, ◌-◌, ◌≤◌, ◌<◌}
 use mathlib.Core.Path.{◌≡◌, refl, sym, ap, ◌∙◌}
 use mathlib.Core.Bool.{Bool, true, false, cond, ◌&&◌}
@@ -9,7 +10,6 @@ use lib.Dec.{eqb, leb}
 use lib.ListN.{length, get_or, take, drop, length-append, length-drop, get_or-append}
 use lib.Seq.{take-suc, take-append-add, length-take-le, get_or-take, get_or-drop, get_or-append-add}
 use borrow.Author.Tests.{eq-eqb, ne_eqb, le-leb, lt-leb, leb-true, leb-false}
-use Rattle.text.specs.declared.place.Found.TheVariants.{At, Nothing}
 use Rattle.text.specs.Place.{First, first_byte, is_at}
 use Rattle.text.proofs.Places.{clash, first_is, first_free}
 use Rattle.framing.specs.declared.Framing.TheVariants as F
@@ -34,11 +34,11 @@ module _ (s : List ℕ) (from : ℕ) (h : List ℕ) where
       ap (between s from) e ∙ between_byte s from (k - 1) (omega arith) (omega arith) in
       rw (bytes, ← append_assoc h (between s from (k - 1)) (get_or s (k - 1) 0 ∷ [])) (line_whole (h ++ between s from (k - 1)) (get_or s (k - 1) 0))
 
-  pub newline_within : {k : ℕ} → first_byte 10 s from ≡ At k → (from ≤ k) × (k < length s)
+  pub newline_within : {k : ℕ} → first_byte 10 s from ≡ Some k → (from ≤ k) × (k < length s)
   unfolding first_byte
   newline_within e = let r = first_is (is_at 10 s) e in (r.from, r.within)
 
-  pub line_ends : {k : ℕ} → first_byte 10 s from ≡ At k → Ends F.Lines s from h (record { at = k + 1; whole = true })
+  pub line_ends : {k : ℕ} → first_byte 10 s from ≡ Some k → Ends F.Lines s from h (record { at = k + 1; whole = true })
   unfolding first_byte
   line_ends {k} e =
       let w : First (is_at 10 s) from (length s) k = first_is (is_at 10 s) e in
@@ -51,7 +51,7 @@ module _ (s : List ℕ) (from : ℕ) (h : List ℕ) where
         all_of_it = λ z. absurd (clash refl z);
       }
 
-  pub line_open : from < length s → first_byte 10 s from ≡ Nothing → Ends F.Lines s from h (record { at = length s; whole = false })
+  pub line_open : from < length s → first_byte 10 s from ≡ None → Ends F.Lines s from h (record { at = length s; whole = false })
   unfolding first_byte
   line_open some e =
       let free = first_free (is_at 10 s) e (omega arith) in

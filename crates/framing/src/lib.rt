@@ -8,7 +8,7 @@ ghost use Rattle.framing.specs.Units.{stated_size};
 ghost use Rattle.framing.specs.Feeding.{Fed as FedBy, Ends, units_in};
 
 use print::put::put;
-use text::place::{Found, first};
+use text::place::first;
 
 // How a stream is cut: a line ends with its newline, a record where its length says.
 #[derive(Clone, Copy)]
@@ -82,11 +82,11 @@ fn line_end(part: &[u8], from: usize, held: &[u8]) -> UnitEnd
     ensures { Ends F.Lines part.now from held.now result }
 {
     match first(part, b'\n', from) {
-        Found::At(k) => UnitEnd {
+        Some(k) => UnitEnd {
             at: k + 1,
             whole: true,
         },
-        Found::Nothing => UnitEnd {
+        None => UnitEnd {
             at: part.len(),
             whole: false,
         },

@@ -1,7 +1,6 @@
 -- Cases P2 and P3 of document 01, by computation. Assumes nothing.
+use Rattle.std.specs.Prelude.{None, Some}
 use mathlib.Core.Path.{◌≡◌, refl}
-use Rattle.text.specs.declared.number.Number.TheVariants as N
-use Rattle.text.specs.declared.place.Found.TheVariants as F
 use Rattle.text.specs.Class.{between, is_blank, is_digit, is_letter, is_word, in_class}
 use Rattle.text.specs.Number.{digit_of, value, all_digits, number_of}
 use Rattle.text.specs.Place.{first_of, first_in, found_below, first_place, last_place, byte_before}
@@ -18,8 +17,8 @@ texts = tt
 
 -- run `a-1-b`: the task is its first three bytes, `a_1`, and the pid is 1
 pub record P2 : Type 0 where
-  pub task : task_of (bytes "a-1-b") ≡ F.At 3
-  pub pid : pid_of (bytes "a-1-b") ≡ N.Value 1
+  pub task : task_of (bytes "a-1-b") ≡ Some 3
+  pub pid : pid_of (bytes "a-1-b") ≡ Some 1
 
 pub case_P2 : P2
 unfolding texts dash_at first_run task_of digits_behind pid_of

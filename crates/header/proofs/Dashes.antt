@@ -1,4 +1,5 @@
 -- Task and pid: both are last dashes of the first run, so their laws are those of last places. Assumes nothing.
+use Rattle.std.specs.Prelude.{None, Option, Some}
 use Prim.Native.Nat.{ℕ, zero, suc, ◌+◌, ◌-◌, ◌^◌, ◌≤◌, ◌<◌}
 use mathlib.Core.Path.{◌≡◌, refl, sym, ap, ◌∙◌}
 use mathlib.Core.Bool.{Bool, true, false, ◌&&◌}
@@ -9,9 +10,6 @@ use lib.Dec.{eqb, ltb}
 use lib.ListN.{length, get_or, take, drop}
 use borrow.Author.Tests.{lt-ltb, eq-eqb, ne_eqb, eqb-true, eqb-false}
 use Rattle.text.specs.declared.class.Class.TheVariants.{NotSpace}
-use Rattle.text.specs.declared.number.Number.TheVariants as N
-use Rattle.text.specs.declared.place.Found.{Found}
-use Rattle.text.specs.declared.place.Found.TheVariants.{At, Nothing}
 use Rattle.text.specs.Class.{is_digit, in_class}
 use Rattle.text.specs.Number.{number_of}
 use Rattle.text.specs.Place.{last_place, is_at}
@@ -58,9 +56,9 @@ unfolding first_run
 first_run_all h r = run_all (in_class NotSpace) h r
 
 -- the place of a dash that has a byte before it, as a number: 0 stands for none
-unfoldable pub dash_named : ℕ → Found
-dash_named zero = Nothing
-dash_named (suc k) = At (suc k)
+unfoldable pub dash_named : ℕ → Option ℕ
+dash_named zero = None
+dash_named (suc k) = Some (suc k)
 
 -- what a walk along the first run holds at place i: the run goes on from there, and `dash` names the last dash before it
 pub record Walked (h : List ℕ) (dash i : ℕ) : Type 0 where
@@ -114,17 +112,17 @@ module _ (h : List ℕ) where
     walked_whole l = ap (last_place (dash_at false h)) (r.goes_on ∙ run_over (in_class NotSpace) h l) ∙ r.last
 
   -- what the walk names is the task's dash
-  pub task_none : {dash : ℕ} → task_of h ≡ dash_named dash → dash ≡ 0 → Nothing ≡ task_of h
+  pub task_none : {dash : ℕ} → task_of h ≡ dash_named dash → dash ≡ 0 → None ≡ task_of h
   unfolding dash_named
   task_none e z = sym (e ∙ ap dash_named z)
 
-  pub task_some : (dash : ℕ) → task_of h ≡ dash_named dash → (dash ≡ 0 → ⊥) → At dash ≡ task_of h
+  pub task_some : (dash : ℕ) → task_of h ≡ dash_named dash → (dash ≡ 0 → ⊥) → Some dash ≡ task_of h
   unfolding dash_named
   task_some zero e n = absurd (n refl)
   task_some (suc k) e n = sym e
 
 -- the task is what the sentence says, and nothing else is
-pub task_is : (h : List ℕ) {m : ℕ} → task_of h ≡ At m → Task h (take m h)
+pub task_is : (h : List ℕ) {m : ℕ} → task_of h ≡ Some m → Task h (take m h)
 unfolding task_of
 task_is h {m} e =
     record {
@@ -135,7 +133,7 @@ task_is h {m} e =
       before = refl;
     }
 
-pub task_all : (h : List ℕ) {t : List ℕ} (r : Task h t) → task_of h ≡ At r.dash
+pub task_all : (h : List ℕ) {t : List ℕ} (r : Task h t) → task_of h ≡ Some r.dash
 unfolding task_of
 task_all h r = rw (first_run_all h r.first_run) (last_all (dash_at false h) r.run r.last_dash)
 
@@ -147,7 +145,7 @@ one_task h a b =
     a.before ∙ ap (λ (m : ℕ). take m h) e ∙ sym b.before
 
 -- the task's bytes end before the header does
-pub task_within : (h : List ℕ) {m : ℕ} → task_of h ≡ At m → m < length h
+pub task_within : (h : List ℕ) {m : ℕ} → task_of h ≡ Some m → m < length h
 unfolding task_of
 task_within h e =
     let r = last_is (dash_at false h) e in
@@ -163,27 +161,27 @@ no_numbered h k e = go (ltb 0 k && is_at 45 h k) refl
     go false t = refl
 
 -- behind the task's dash the first run has no dash at all
-pub pid_before_task : (h : List ℕ) {m : ℕ} → task_of h ≡ At m → last_place (dash_at true h) (first_run h) ≡ last_place (dash_at true h) (m + 1)
+pub pid_before_task : (h : List ℕ) {m : ℕ} → task_of h ≡ Some m → last_place (dash_at true h) (first_run h) ≡ last_place (dash_at true h) (m + 1)
 unfolding task_of
 pid_before_task h {m} e =
     let r = last_is (dash_at false h) e in
     last_skip_to (dash_at true h) (omega (arith, r.within)) (λ k a b. no_numbered h k (r.after k (omega arith) b))
 
 -- the digits behind a dash, as code cuts them
-pub pid_some : (h : List ℕ) {k : ℕ} → last_place (dash_at true h) (first_run h) ≡ At k → number_of 10 (2 ^ 32 - 1) (take (run_end is_digit h (k + 1) - (k + 1)) (drop (k + 1) h)) ≡ pid_of h
+pub pid_some : (h : List ℕ) {k : ℕ} → last_place (dash_at true h) (first_run h) ≡ Some k → number_of 10 (2 ^ 32 - 1) (take (run_end is_digit h (k + 1) - (k + 1)) (drop (k + 1) h)) ≡ pid_of h
 unfolding pid_of digits_behind
 pid_some h e = rw e
 
-pub pid_none : (h : List ℕ) → last_place (dash_at true h) (first_run h) ≡ Nothing → N.Unreadable ≡ pid_of h
+pub pid_none : (h : List ℕ) → last_place (dash_at true h) (first_run h) ≡ None → None ≡ pid_of h
 unfolding pid_of digits_behind
 pid_none h e = rw e
 
-pub pid_is : (h : List ℕ) {v : ℕ} → pid_of h ≡ N.Value v → Pid h v
+pub pid_is : (h : List ℕ) {v : ℕ} → pid_of h ≡ Some v → Pid h v
 unfolding pid_of digits_behind
 pid_is h {v} e = go (last_place (dash_at true h) (first_run h)) refl e
   where
-    go : (f : Found) → last_place (dash_at true h) (first_run h) ≡ f → digits_behind h f ≡ N.Value v → Pid h v
-    go (At k) q n =
+    go : (f : Option ℕ) → last_place (dash_at true h) (first_run h) ≡ f → digits_behind h f ≡ Some v → Pid h v
+    go (Some k) q n =
         let d = last_is (dash_at true h) q in
         let near : k + 1 ≤ length h = omega (arith, d.within, first_run_within h) in
         record {
@@ -195,11 +193,11 @@ pid_is h {v} e = go (last_place (dash_at true h) (first_run h)) refl e
           digits = run_is is_digit h near;
           value = number_is 10 (2 ^ 32 - 1) _ n;
         }
-    go Nothing q n = absurd (let z : ◌≡◌ {A = ℕ} 0 1 = cc in omega arith)
+    go None q n = absurd (let z : ◌≡◌ {A = ℕ} 0 1 = cc in omega arith)
 
-pub pid_all : (h : List ℕ) {v : ℕ} → Pid h v → pid_of h ≡ N.Value v
+pub pid_all : (h : List ℕ) {v : ℕ} → Pid h v → pid_of h ≡ Some v
 pid_all h {v} r =
-    let place : last_place (dash_at true h) (first_run h) ≡ At r.dash =
+    let place : last_place (dash_at true h) (first_run h) ≡ Some r.dash =
     rw (first_run_all h r.first_run) (last_all (dash_at true h) r.run r.last_dash) in
     sym (pid_some h place) ∙ rw (run_all is_digit h r.digits) (number_all 10 (2 ^ 32 - 1) _ r.value)
 

@@ -1,4 +1,5 @@
 -- The function is a run that ends the header, before it a run that ends what is left: one of each. Assumes nothing.
+use Rattle.std.specs.Prelude.{None, Some}
 use Prim.Native.Nat.{ℕ, ◌≤◌, ◌<◌}
 use mathlib.Core.Path.{◌≡◌, refl, sym, ap, ◌∙◌}
 use mathlib.Core.Bool.{Bool, true, false, ◌&&◌}
@@ -7,7 +8,6 @@ use native.Mathlib.Omega.{arith}
 use lib.Dec.{ltb, eqb}
 use lib.ListN.{length, take, drop}
 use borrow.Author.Tests.{lt-ltb, le-ltb, eq-eqb, ne_eqb, ltb-true, eqb-true}
-use Rattle.text.specs.declared.place.Found.TheVariants.{At, Nothing}
 use Rattle.text.specs.Class.{is_word, is_blank}
 use Rattle.text.specs.Place.{byte_before}
 use Rattle.text.specs.Run.{run_start}
@@ -17,35 +17,35 @@ use Rattle.header.specs.Function.{Function, function_of}
 
 -- the ways of the search, with the two places as code has them
 module _ (h : List ℕ) (word blank : ℕ) (word-is : word ≡ run_start is_word h) where
-  pub no_word_lem : length h ≤ word → function_of h ≡ Nothing
+  pub no_word_lem : length h ≤ word → function_of h ≡ None
   unfolding function_of
   no_word_lem l = rw (← word-is, le-ltb word (length h) l)
 
   module _ (some_word : word < length h) (blank-is : blank ≡ run_start is_blank (take word h)) where
-    pub no_blank : word ≤ blank → function_of h ≡ Nothing
+    pub no_blank : word ≤ blank → function_of h ≡ None
     unfolding function_of
     no_blank l = rw (← word-is, ← blank-is, lt-ltb word (length h) some_word, le-ltb blank word l)
 
-    pub no_colon : blank < word → (byte_before h blank ≡ 58 → ⊥) → function_of h ≡ Nothing
+    pub no_colon : blank < word → (byte_before h blank ≡ 58 → ⊥) → function_of h ≡ None
     unfolding function_of
     no_colon l n = rw (← word-is, ← blank-is, lt-ltb word (length h) some_word, lt-ltb blank word l, ne_eqb _ _ n)
 
-    pub all_there : blank < word → byte_before h blank ≡ 58 → function_of h ≡ At word
+    pub all_there : blank < word → byte_before h blank ≡ 58 → function_of h ≡ Some word
     unfolding function_of
     all_there l e = rw (← word-is, ← blank-is, lt-ltb word (length h) some_word, lt-ltb blank word l, eq-eqb _ _ e)
 
-pub function_all : (h : List ℕ) {f : List ℕ} (r : Function h f) → function_of h ≡ At r.word
+pub function_all : (h : List ℕ) {f : List ℕ} (r : Function h f) → function_of h ≡ Some r.word
 function_all h r =
     all_there h r.word r.blank (sym (back_all is_word h r.word r.last_run)) r.some_word
     (sym (back_all is_blank (take r.word h) r.blank r.blanks)) r.some_blank r.colon
 
-pub function_is : (h : List ℕ) {k : ℕ} → function_of h ≡ At k → Function h (drop k h)
+pub function_is : (h : List ℕ) {k : ℕ} → function_of h ≡ Some k → Function h (drop k h)
 unfolding function_of
 function_is h {k} e = go (ltb (run_start is_word h) (length h) && ltb (run_start is_blank (take (run_start is_word h) h)) (run_start is_word h) && eqb (byte_before h (run_start is_blank (take (run_start is_word h) h))) 58) refl
   where
     go : (b : Bool) → (ltb (run_start is_word h) (length h) && ltb (run_start is_blank (take (run_start is_word h) h)) (run_start is_word h) && eqb (byte_before h (run_start is_blank (take (run_start is_word h) h))) 58) ≡ b → Function h (drop k h)
     go true t =
-        let same : At (run_start is_word h) ≡ At k = rw t at e in
+        let same : Some (run_start is_word h) ≡ Some k = rw t at e in
         let k-is : run_start is_word h ≡ k = cc in
         let front = both_left _ _ t in
         record {
@@ -59,7 +59,7 @@ function_is h {k} e = go (ltb (run_start is_word h) (length h) && ltb (run_start
           is = ap (λ (m : ℕ). drop m h) (sym k-is);
         }
     go false t =
-        let same : Nothing ≡ At k = rw t at e in
+        let same : None ≡ Some k = rw t at e in
         absurd (let z : ◌≡◌ {A = ℕ} 0 1 = cc in omega arith)
 
 pub one_function : (h : List ℕ) {f g : List ℕ} → Function h f → Function h g → f ≡ g
@@ -70,7 +70,7 @@ one_function h a b =
     a.is ∙ ap (λ (m : ℕ). drop m h) e ∙ sym b.is
 
 -- the function starts within the header
-pub function_within : (h : List ℕ) {k : ℕ} → function_of h ≡ At k → k < length h
+pub function_within : (h : List ℕ) {k : ℕ} → function_of h ≡ Some k → k < length h
 function_within h {k} e =
     let r = function_is h e in
     let x = function_all h r in

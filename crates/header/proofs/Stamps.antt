@@ -1,5 +1,6 @@
 -- The timestamp: looking back from a colon finds the two digit runs of the stamp that ends there, and stamps come in the order of their
 -- colons, so the first colon that ends one ends the first; and that is the sentence's first whole run. Assumes nothing.
+use Rattle.std.specs.Prelude.{None, Option, Some}
 use Prim.Native.Nat.{ℕ, zero, suc, ◌+◌, ◌-◌, ◌^◌, ◌≤◌, ◌<◌}
 use mathlib.Core.Path.{◌≡◌, refl, sym, ◌∙◌}
 use mathlib.Core.Bool.{Bool, true, false, not, ◌&&◌}
@@ -9,10 +10,6 @@ use lib.Dec.{ltb, eqb}
 use lib.ListN.{length, get_or, take, drop}
 use lib.Seq.{get_or-take, length-take-le}
 use borrow.Author.Tests.{lt-ltb, eq-eqb, ltb-true, eqb-true, not-true}
-use Rattle.text.specs.declared.number.Number.{Number}
-use Rattle.text.specs.declared.number.Number.TheVariants as N
-use Rattle.text.specs.declared.place.Found.{Found}
-use Rattle.text.specs.declared.place.Found.TheVariants as F
 use Rattle.text.specs.Class.{between, is_digit, is_blank}
 use Rattle.text.specs.Number.{number_of}
 use Rattle.text.specs.Place.{First, is_at, first_place, first_byte, byte_before}
@@ -158,34 +155,34 @@ module _ (h : List ℕ) where
     parts_none r e = rw e at r
 
   -- the two runs of a stamp, as code cuts and reads them
-  seconds_none : (u : Number) → both_read N.Unreadable u ≡ S.Unreadable
+  seconds_none : (u : Option ℕ) → both_read None u ≡ S.Unreadable
   unfolding both_read
-  seconds_none (N.Value u) = refl
-  seconds_none N.Unreadable = refl
+  seconds_none (Some u) = refl
+  seconds_none None = refl
 
-  microseconds_none : (s : Number) → both_read s N.Unreadable ≡ S.Unreadable
+  microseconds_none : (s : Option ℕ) → both_read s None ≡ S.Unreadable
   unfolding both_read
-  microseconds_none (N.Value s) = refl
-  microseconds_none N.Unreadable = refl
+  microseconds_none (Some s) = refl
+  microseconds_none None = refl
 
   module _ (i j k : ℕ) (j-is : j ≡ run_end is_digit h i) (k-is : k ≡ run_end is_digit h (j + 1)) where
-    pub read_none : number_of 10 (2 ^ 63 - 1) (take (j - i) (drop i h)) ≡ N.Unreadable → S.Unreadable ≡ read_stamp h i
+    pub read_none : number_of 10 (2 ^ 63 - 1) (take (j - i) (drop i h)) ≡ None → S.Unreadable ≡ read_stamp h i
     unfolding read_stamp
     read_none e = rw (← j-is, ← k-is, e) (sym (seconds_none _))
 
-    pub read_half : number_of 10 (2 ^ 63 - 1) (take (k - (j + 1)) (drop (j + 1) h)) ≡ N.Unreadable → S.Unreadable ≡ read_stamp h i
+    pub read_half : number_of 10 (2 ^ 63 - 1) (take (k - (j + 1)) (drop (j + 1) h)) ≡ None → S.Unreadable ≡ read_stamp h i
     unfolding read_stamp
     read_half e = rw (← j-is, ← k-is, e) (sym (microseconds_none _))
 
-    pub read_both : {s u : ℕ} → number_of 10 (2 ^ 63 - 1) (take (j - i) (drop i h)) ≡ N.Value s → number_of 10 (2 ^ 63 - 1) (take (k - (j + 1)) (drop (j + 1) h)) ≡ N.Value u → S.At s u ≡ read_stamp h i
+    pub read_both : {s u : ℕ} → number_of 10 (2 ^ 63 - 1) (take (j - i) (drop i h)) ≡ Some s → number_of 10 (2 ^ 63 - 1) (take (k - (j + 1)) (drop (j + 1) h)) ≡ Some u → S.At s u ≡ read_stamp h i
     unfolding read_stamp both_read
     read_both a b = rw (← j-is, ← k-is, a, b)
 
-  pub stamp_some : {i : ℕ} → first_place (stamp_at h) (length h) 0 ≡ F.At i → read_stamp h i ≡ stamp_of h
+  pub stamp_some : {i : ℕ} → first_place (stamp_at h) (length h) 0 ≡ Some i → read_stamp h i ≡ stamp_of h
   unfolding stamp_of stamp_from
   stamp_some e = rw e
 
-  pub stamp_none : first_place (stamp_at h) (length h) 0 ≡ F.Nothing → S.Unreadable ≡ stamp_of h
+  pub stamp_none : first_place (stamp_at h) (length h) 0 ≡ None → S.Unreadable ≡ stamp_of h
   unfolding stamp_of stamp_from
   stamp_none e = rw e
 
@@ -226,7 +223,7 @@ module _ (h : List ℕ) where
       go false t = refl
 
   -- a stamp with none that starts before it is the first
-  first_stamp : {i j k : ℕ} → StampAt h i j k → ((a b c : ℕ) → a < i → StampAt h a b c → ⊥) → first_place (stamp_at h) (length h) 0 ≡ F.At i
+  first_stamp : {i j k : ℕ} → StampAt h i j k → ((a b c : ℕ) → a < i → StampAt h a b c → ⊥) → first_place (stamp_at h) (length h) 0 ≡ Some i
   first_stamp {i} {j} {k} r n =
       first_all (stamp_at h)
       (record {
@@ -263,12 +260,12 @@ module _ (h : List ℕ) where
   pub seeking_starts : Seeking 0
   seeking_starts = record { within = omega arith; later = λ i j k r. omega arith }
 
-  pub next_colon : {n c : ℕ} → first_byte 58 h n ≡ F.At c → First (is_at 58 h) n (length h) c
+  pub next_colon : {n c : ℕ} → first_byte 58 h n ≡ Some c → First (is_at 58 h) n (length h) c
   unfolding first_byte
   next_colon e = first_is (is_at 58 h) e
 
   module _ {n : ℕ} (s : Seeking n) where
-    module _ {c : ℕ} (e : first_byte 58 h n ≡ F.At c) where
+    module _ {c : ℕ} (e : first_byte 58 h n ≡ Some c) where
       none-sooner : (i j k : ℕ) → StampAt h i j k → c ≤ k
       none-sooner i j k r =
           by_order k c (λ l. absurd (clash (eq-eqb _ _ r.colon) ((next_colon e).before k (s.later i j k r) l)))
@@ -283,11 +280,11 @@ module _ (h : List ℕ) where
             later = λ i j k r. by_order c k (λ l. omega arith) (λ q. absurd (none i j (rw q r))) (λ l. absurd (omega (arith, none-sooner i j k r)));
           }
 
-      pub seeking_hits : {from dot : ℕ} → StampAt h from dot c → first_place (stamp_at h) (length h) 0 ≡ F.At from
+      pub seeking_hits : {from dot : ℕ} → StampAt h from dot c → first_place (stamp_at h) (length h) 0 ≡ Some from
       seeking_hits r =
           first_stamp r (λ i j k l q. absurd (omega (arith, starts_later r q l, none-sooner i j k q)))
 
-    pub seeking_ends : first_byte 58 h n ≡ F.Nothing → first_place (stamp_at h) (length h) 0 ≡ F.Nothing
+    pub seeking_ends : first_byte 58 h n ≡ None → first_place (stamp_at h) (length h) 0 ≡ None
     unfolding first_byte
     seeking_ends e =
         first_none (stamp_at h) {i = 0} {n = length h}
@@ -298,23 +295,23 @@ module _ (h : List ℕ) where
   timestamp_all {s} {u} r =
       let j-is : r.dot ≡ run_end is_digit h r.from = sym (run_all is_digit h r.here.whole) in
       let k-is : r.colon ≡ run_end is_digit h (r.dot + 1) = sym (run_all is_digit h r.here.digits) in
-      let place : first_place (stamp_at h) (length h) 0 ≡ F.At r.from = first_stamp r.here r.first in
+      let place : first_place (stamp_at h) (length h) 0 ≡ Some r.from = first_stamp r.here r.first in
       sym (stamp_some place)
       ∙ sym (read_both r.from r.dot r.colon j-is k-is (number_all 10 (2 ^ 63 - 1) _ r.seconds_read) (number_all 10 (2 ^ 63 - 1) _ r.microseconds_read))
 
-  both_values : (a b : Number) {s u : ℕ} → both_read a b ≡ S.At s u → (a ≡ N.Value s) × (b ≡ N.Value u)
+  both_values : (a b : Option ℕ) {s u : ℕ} → both_read a b ≡ S.At s u → (a ≡ Some s) × (b ≡ Some u)
   unfolding both_read
-  both_values (N.Value x) (N.Value y) e = (cc, cc)
-  both_values (N.Value x) N.Unreadable e = absurd (let z : ◌≡◌ {A = ℕ} 0 1 = cc in omega arith)
-  both_values N.Unreadable (N.Value y) e = absurd (let z : ◌≡◌ {A = ℕ} 0 1 = cc in omega arith)
-  both_values N.Unreadable N.Unreadable e = absurd (let z : ◌≡◌ {A = ℕ} 0 1 = cc in omega arith)
+  both_values (Some x) (Some y) e = (cc, cc)
+  both_values (Some x) None e = absurd (let z : ◌≡◌ {A = ℕ} 0 1 = cc in omega arith)
+  both_values None (Some y) e = absurd (let z : ◌≡◌ {A = ℕ} 0 1 = cc in omega arith)
+  both_values None None e = absurd (let z : ◌≡◌ {A = ℕ} 0 1 = cc in omega arith)
 
   pub timestamp_is : {s u : ℕ} → stamp_of h ≡ S.At s u → Timestamp h s u
   unfolding stamp_of stamp_from read_stamp
   timestamp_is {s} {u} e = go (first_place (stamp_at h) (length h) 0) refl e
     where
-      go : (f : Found) → first_place (stamp_at h) (length h) 0 ≡ f → stamp_from h f ≡ S.At s u → Timestamp h s u
-      go (F.At i) q t =
+      go : (f : Option ℕ) → first_place (stamp_at h) (length h) 0 ≡ f → stamp_from h f ≡ S.At s u → Timestamp h s u
+      go (Some i) q t =
           let f = first_is (stamp_at h) q in
           let both = both_values _ _ t in
           record {
@@ -326,7 +323,7 @@ module _ (h : List ℕ) where
             seconds_read = number_is 10 (2 ^ 63 - 1) _ both.0;
             microseconds_read = number_is 10 (2 ^ 63 - 1) _ both.1;
           }
-      go F.Nothing q t = absurd (let z : ◌≡◌ {A = ℕ} 0 1 = cc in omega arith)
+      go None q t = absurd (let z : ◌≡◌ {A = ℕ} 0 1 = cc in omega arith)
 
   pub one_timestamp : {s u s' u' : ℕ} → Timestamp h s u → Timestamp h s' u' → (s ≡ s') × (u ≡ u')
   one_timestamp a b = let x = timestamp_all a in let y = timestamp_all b in (cc, cc)

@@ -1,9 +1,5 @@
 -- The CPU.
-use Rattle.std.specs.Prelude.{ℕ, ◌+◌, Bool, ◌&&◌, List, length, get_or, take, drop}
-use Rattle.text.specs.declared.number.Number.{Number}
-use Rattle.text.specs.declared.number.Number.TheVariants.{Unreadable}
-use Rattle.text.specs.declared.place.Found.{Found}
-use Rattle.text.specs.declared.place.Found.TheVariants.{At, Nothing}
+use Rattle.std.specs.Prelude.{ℕ, ◌+◌, Bool, ◌&&◌, List, length, get_or, take, drop, None, Option, Some}
 use Rattle.text.specs.Class.{is_digit}
 use Rattle.text.specs.Number.{Decimal, number_of}
 use Rattle.text.specs.Place.{First, first_place, is_at}
@@ -20,10 +16,10 @@ pub record Cpu (h : List ℕ) (cpu : ℕ) : Type 0 where
   pub value : Decimal 999 (take 3 (drop (place + 1) h)) cpu
 
 -- the three digits behind a bracket, read
-unfoldable pub digits_within : List ℕ → Found → Number
-digits_within h (At k) = number_of 10 999 (take 3 (drop (k + 1) h))
-digits_within h Nothing = Unreadable
+unfoldable pub digits_within : List ℕ → Option ℕ → Option ℕ
+digits_within h (Some k) = number_of 10 999 (take 3 (drop (k + 1) h))
+digits_within h None = None
 
 -- the CPU
-unfoldable pub cpu_of : List ℕ → Number
+unfoldable pub cpu_of : List ℕ → Option ℕ
 cpu_of h = digits_within h (first_place (cpu_at h) (length h) 0)

@@ -1,10 +1,6 @@
 -- Task and pid.
-use Rattle.std.specs.Prelude.{ℕ, ◌+◌, ◌-◌, ◌^◌, ◌≡◌, Bool, true, false, not, ◌&&◌, ◌||◌, List, ltb, get_or, take, drop}
+use Rattle.std.specs.Prelude.{ℕ, ◌+◌, ◌-◌, ◌^◌, ◌≡◌, Bool, true, false, not, ◌&&◌, ◌||◌, List, ltb, get_or, take, drop, None, Option, Some}
 use Rattle.text.specs.declared.class.Class.TheVariants.{NotSpace}
-use Rattle.text.specs.declared.number.Number.{Number}
-use Rattle.text.specs.declared.number.Number.TheVariants.{Unreadable}
-use Rattle.text.specs.declared.place.Found.{Found}
-use Rattle.text.specs.declared.place.Found.TheVariants.{At, Nothing}
 use Rattle.text.specs.Class.{is_digit, in_class}
 use Rattle.text.specs.Number.{Decimal, number_of}
 use Rattle.text.specs.Place.{Last, last_place, is_at}
@@ -37,14 +33,14 @@ unfoldable pub first_run : List ℕ → ℕ
 first_run h = run_end (in_class NotSpace) h 0
 
 -- the length of the task
-unfoldable pub task_of : List ℕ → Found
+unfoldable pub task_of : List ℕ → Option ℕ
 task_of h = last_place (dash_at false h) (first_run h)
 
 -- the digit run behind a dash, read
-unfoldable pub digits_behind : List ℕ → Found → Number
-digits_behind h (At k) = number_of 10 (2 ^ 32 - 1) (take (run_end is_digit h (k + 1) - (k + 1)) (drop (k + 1) h))
-digits_behind h Nothing = Unreadable
+unfoldable pub digits_behind : List ℕ → Option ℕ → Option ℕ
+digits_behind h (Some k) = number_of 10 (2 ^ 32 - 1) (take (run_end is_digit h (k + 1) - (k + 1)) (drop (k + 1) h))
+digits_behind h None = None
 
 -- the pid
-unfoldable pub pid_of : List ℕ → Number
+unfoldable pub pid_of : List ℕ → Option ℕ
 pid_of h = digits_behind h (last_place (dash_at true h) (first_run h))

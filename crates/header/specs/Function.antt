@@ -1,7 +1,5 @@
 -- The function.
-use Rattle.std.specs.Prelude.{ℕ, ◌<◌, ◌≡◌, cond, ◌&&◌, List, ltb, eqb, length, take, drop}
-use Rattle.text.specs.declared.place.Found.{Found}
-use Rattle.text.specs.declared.place.Found.TheVariants.{At, Nothing}
+use Rattle.std.specs.Prelude.{ℕ, ◌<◌, ◌≡◌, cond, ◌&&◌, List, ltb, eqb, length, take, drop, None, Option, Some}
 use Rattle.text.specs.Class.{is_word, is_blank}
 use Rattle.text.specs.Place.{byte_before}
 use Rattle.text.specs.Run.{RunBack, run_start}
@@ -18,8 +16,8 @@ pub record Function (h : List ℕ) (function : List ℕ) : Type 0 where
   pub is : function ≡ drop word h
 
 -- where the function starts
-unfoldable pub function_of : List ℕ → Found
+unfoldable pub function_of : List ℕ → Option ℕ
 function_of h =
     let word : ℕ = run_start is_word h in
     let blank : ℕ = run_start is_blank (take word h) in
-    cond (ltb word (length h) && ltb blank word && eqb (byte_before h blank) 58) (At word) Nothing
+    cond (ltb word (length h) && ltb blank word && eqb (byte_before h blank) 58) (Some word) None

@@ -1,9 +1,5 @@
 -- The timestamp.
-use Rattle.std.specs.Prelude.{ℕ, ◌+◌, ◌-◌, ◌<◌, ◌^◌, ◌≡◌, Bool, true, false, not, ◌&&◌, List, ltb, length, get_or, take, drop}
-use Rattle.text.specs.declared.number.Number.{Number}
-use Rattle.text.specs.declared.number.Number.TheVariants as N
-use Rattle.text.specs.declared.place.Found.{Found}
-use Rattle.text.specs.declared.place.Found.TheVariants as F
+use Rattle.std.specs.Prelude.{ℕ, ◌+◌, ◌-◌, ◌<◌, ◌^◌, ◌≡◌, Bool, true, false, not, ◌&&◌, List, ltb, length, get_or, take, drop, None, Option, Some}
 use Rattle.text.specs.Class.{is_digit, is_blank}
 use Rattle.text.specs.Number.{Decimal, number_of}
 use Rattle.text.specs.Place.{first_place, is_at, byte_before}
@@ -45,11 +41,11 @@ unfoldable pub stamp_at : List ℕ → ℕ → Bool
 stamp_at h i = not (is_digit (byte_before h i)) && ltb i (run_end is_digit h i) && followed h (run_end is_digit h i)
 
 -- two readings together
-unfoldable pub both_read : Number → Number → Stamp
-both_read (N.Value s) (N.Value u) = S.At s u
-both_read (N.Value s) N.Unreadable = S.Unreadable
-both_read N.Unreadable (N.Value u) = S.Unreadable
-both_read N.Unreadable N.Unreadable = S.Unreadable
+unfoldable pub both_read : Option ℕ → Option ℕ → Stamp
+both_read (Some s) (Some u) = S.At s u
+both_read (Some s) None = S.Unreadable
+both_read None (Some u) = S.Unreadable
+both_read None None = S.Unreadable
 
 -- the two digit runs from i on, read
 unfoldable pub read_stamp : List ℕ → ℕ → Stamp
@@ -59,9 +55,9 @@ read_stamp h i =
     both_read (number_of 10 (2 ^ 63 - 1) (take (j - i) (drop i h))) (number_of 10 (2 ^ 63 - 1) (take (k - (j + 1)) (drop (j + 1) h)))
 
 -- what stands at a place, if any
-unfoldable pub stamp_from : List ℕ → Found → Stamp
-stamp_from h (F.At i) = read_stamp h i
-stamp_from h F.Nothing = S.Unreadable
+unfoldable pub stamp_from : List ℕ → Option ℕ → Stamp
+stamp_from h (Some i) = read_stamp h i
+stamp_from h None = S.Unreadable
 
 -- the timestamp
 unfoldable pub stamp_of : List ℕ → Stamp

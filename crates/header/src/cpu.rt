@@ -3,18 +3,18 @@ ghost use Rattle.std.specs.Prelude.{◌≡◌, ◌<◌, length};
 ghost use Rattle.header.specs.Cpu.{cpu_at, cpu_of};
 
 use text::class::is_digit;
-use text::number::{Number, decimal};
-use text::place::{Found, byte_at, first};
+use text::number::decimal;
+use text::place::{byte_at, first};
 
 // The number between the first brackets that hold just three digits. The walk goes from bracket to bracket: all else is passed over by one
 // search.
-pub fn parse_cpu(h: &[u8]) -> Number
+pub fn parse_cpu(h: &[u8]) -> Option<u64>
     ensures { result ≡ cpu_of h.now }
 {
     let mut i = 0;
     loop {
         match first(h, b'[', i) {
-            Found::At(k) => {
+            Some(k) => {
                 if is_cpu(h, k) {
                     let from = k + 1;
                     let end = k + 4;
@@ -22,8 +22,8 @@ pub fn parse_cpu(h: &[u8]) -> Number
                 }
                 i = k + 1;
             }
-            Found::Nothing => {
-                return Number::Unreadable;
+            None => {
+                return None;
             }
         }
     }

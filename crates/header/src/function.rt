@@ -3,23 +3,23 @@ ghost use Rattle.std.specs.Prelude.{◌≡◌};
 ghost use Rattle.header.specs.Function.{function_of};
 
 use text::class::Class;
-use text::place::{Found, byte_before};
+use text::place::byte_before;
 use text::run::run_start;
 
 // Where the word run that ends the header starts, if blanks stand before it and a colon before them.
-pub fn parse_function(h: &[u8]) -> Found
+pub fn parse_function(h: &[u8]) -> Option<usize>
     ensures { result ≡ function_of h.now }
 {
     let word = run_start(h, Class::Word);
     if word == h.len() {
-        return Found::Nothing;
+        return None;
     }
     let blank = run_start(&h[..word], Class::Blank);
     if blank == word {
-        return Found::Nothing;
+        return None;
     }
     if byte_before(h, blank) != b':' {
-        return Found::Nothing;
+        return None;
     }
-    Found::At(word)
+    Some(word)
 }

@@ -3,8 +3,8 @@ ghost use Rattle.std.specs.Prelude.{◌≡◌, get_or};
 ghost use Rattle.header.specs.Stamp.{StampAt, PartsBefore, read_stamp, stamp_of};
 
 use text::class::{Class, is_blank};
-use text::number::{MAX_63, Number, decimal};
-use text::place::{Found, byte_at, byte_before, first};
+use text::number::{MAX_63, decimal};
+use text::place::{byte_at, byte_before, first};
 use text::run::run_start;
 
 #[derive(Clone, Copy)]
@@ -28,13 +28,13 @@ pub fn parse_timestamp(h: &[u8]) -> Stamp
     let mut i = 0;
     loop {
         match first(h, b':', i) {
-            Found::At(c) => {
+            Some(c) => {
                 if let Parts::At { from, dot } = parts_before(h, c) {
                     return read_stamp(h, from, dot, c);
                 }
                 i = c + 1;
             }
-            Found::Nothing => {
+            None => {
                 return Stamp::Unreadable;
             }
         }
@@ -72,10 +72,10 @@ fn read_stamp(h: &[u8], from: usize, dot: usize, colon: usize) -> Stamp
     ensures { result ≡ read_stamp h.now from }
 {
     let behind = dot + 1;
-    let Number::Value(seconds) = decimal(&h[from..dot], MAX_63) else {
+    let Some(seconds) = decimal(&h[from..dot], MAX_63) else {
         return Stamp::Unreadable;
     };
-    let Number::Value(microseconds) = decimal(&h[behind..colon], MAX_63) else {
+    let Some(microseconds) = decimal(&h[behind..colon], MAX_63) else {
         return Stamp::Unreadable;
     };
     Stamp::At {

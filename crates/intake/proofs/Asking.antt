@@ -1,4 +1,6 @@
 -- The ways to what a text is: the answer with 256 slots, and for a text that is accepted its first byte. Assumes nothing.
+use Rattle.std.specs.Prelude.{Err, Ok, Result}
+use Rattle.refusal.specs.declared.Refusal.{Refusal}
 use Prim.Native.Nat.{ℕ}
 use mathlib.Core.Path.{◌≡◌}
 use mathlib.Core.Bool.{true, false}
@@ -7,8 +9,6 @@ use lib.ListN.{length}
 use Rattle.text.specs.Told as T
 use Rattle.entry.specs.declared.Entry.{Entry}
 use Rattle.scan.specs.declared.Pieces.{Pieces}
-use Rattle.scan.specs.declared.Answer.{Answer}
-use Rattle.scan.specs.declared.Answer.TheVariants as A
 use Rattle.scan.specs.Parse.{answer_told}
 use Rattle.intake.specs.Intake.{starts_a1, taken_of, Taken}
 use Rattle.intake.specs.What.{Grammar, record_grammar, line_grammar, grammar_of, what_of}
@@ -22,14 +22,14 @@ module _ (t : List ℕ) where
   unfolding grammar_of
   starts_line e = rw e
 
-  module _ (pieces : Pieces) {slots left : List ℕ} {r : Answer} (taken : Taken pieces t slots left r) (lent : length slots ≡ 256) where
+  module _ (pieces : Pieces) {slots left : List ℕ} {r : Result Entry Refusal} (taken : Taken pieces t slots left r) (lent : length slots ≡ 256) where
     answer_256 : answer_told r ≡ taken_of pieces t 256
     answer_256 = rw lent at taken.answer
 
-    pub what_accepted : {e : Entry} → r ≡ A.Entry e → {told : T.Told Grammar} → told ≡ T.is (grammar_of t) → told ≡ what_of pieces t
+    pub what_accepted : {e : Entry} → r ≡ Ok e → {told : T.Told Grammar} → told ≡ T.is (grammar_of t) → told ≡ what_of pieces t
     unfolding what_of
     what_accepted n g = rw (← answer_256, n) g
 
-    pub what_refused : {k : ℕ} → r ≡ A.Refused k → T.refused k ≡ what_of pieces t
+    pub what_refused : {k : ℕ} → r ≡ Err k → T.refused k ≡ what_of pieces t
     unfolding what_of
     what_refused n = rw (← answer_256, n)

@@ -1,5 +1,7 @@
 -- Demand 3 for packets: a packet is asked for kind and dwords alone, and these are what the text says; a line and its record say one thing. However often a
 -- text is written and read again it says the same, so nothing is ever cut but what it says. Assumes nothing.
+use Rattle.std.specs.Prelude.{Err, None, Ok, Result, Some}
+use Rattle.refusal.specs.declared.Refusal.{Refusal}
 use Prim.Native.Nat.{ℕ, zero, suc, ◌≤◌, ◌%◌}
 use mathlib.Core.Path.{◌≡◌, refl, sym, ap, ap₂, subst, ◌∙◌}
 use mathlib.Core.Bool.{Bool, true, false, ◌&&◌}
@@ -13,21 +15,16 @@ use Rattle.text.specs.Part.{Slice, OwnDwords}
 use Rattle.text.proofs.OwnParts.{own_is, own_front}
 use Rattle.text.specs.Told as T
 use Rattle.entry.specs.declared.Entry.{Entry}
-use Rattle.entry.specs.declared.optional.MaybeWord.TheVariants as Word
 use Rattle.entry.specs.Entry.{EntryValue, part_of, value_of}
 use Rattle.scan.specs.declared.Pieces.{Pieces}
-use Rattle.scan.specs.declared.Answer.TheVariants as A
 use Rattle.scan.specs.Parse.{slots_by}
 use Rattle.scan.proofs.Values.{dwords_part}
-use Rattle.packet.specs.declared.Answer.{Answer}
-use Rattle.packet.specs.declared.Answer.TheVariants as P
 use Rattle.packet.specs.declared.Packet.{Packet}
 use Rattle.packet.specs.Packet.{is_read_response_or_write_request, entries_of, number_checked, number_of, places_of, view_from, packet_of, parse_of, list_by, answer_told}
 use Rattle.packet.proofs.Packets.{passed_whole, length_places, one_packet_answer}
 use Rattle.questions.specs.Questions.{refusal, view_of, DataView}
 use Rattle.questions.proofs.Views.{view_is_from_n, view_is_the_callers_own}
 use Rattle.record.specs.Grammar.{record_bytes, IsRecord}
-use Rattle.writer.specs.declared.Written.TheVariants as W
 use Rattle.intake.specs.Intake.{Belongs, starts_a1, taken_of, taken_dwords}
 use Rattle.intake.specs.Packets.{packet_by, packet_taken, kind_in}
 use Rattle.intake.specs.Demand3.{ReadCall, HasRecord}
@@ -40,7 +37,7 @@ use Rattle.intake.proofs.Demand3.{line_has_a_record, record_is_the_writers, line
 -- ---- what an accepted text says pieces
 
 -- an accepted text belongs, and what it says pieces has a record
-accepted_says : (pieces : Pieces) (text slots : List ℕ) (e : Entry) (left : List ℕ) → ReadCall pieces text slots (A.Entry e) left
+accepted_says : (pieces : Pieces) (text slots : List ℕ) (e : Entry) (left : List ℕ) → ReadCall pieces text slots (Ok e) left
     → (v : EntryValue) × Belongs pieces text v × HasRecord text e left v
 accepted_says pieces text slots e left c = by (starts_a1 text) refl
   where
@@ -61,13 +58,13 @@ record Read (pieces : Pieces) (text slots : List ℕ) (v : EntryValue) : Type 0 
   dwords : taken_dwords text ≡ v.dwords
   few : length v.dwords ≤ 256
 
-module _ (pieces : Pieces) (text book slots places : List ℕ) (answer : Answer) (slots_left places_left : List ℕ) (c : PacketCall pieces text book slots places answer slots_left places_left) where
+module _ (pieces : Pieces) (text book slots places : List ℕ) (answer : Result Packet Refusal) (slots_left places_left : List ℕ) (c : PacketCall pieces text book slots places answer slots_left places_left) where
   says : (v : EntryValue) → Belongs pieces text v → Read pieces text slots v
   unfolding slots_by value_of
   says v b =
       let accepted = (accepted_exactly_when_it_belongs pieces text c.bytes).1 (v, b) in
       let told : taken_of pieces text (length slots) ≡ T.is accepted.0 = with_more_slots pieces text c.bytes (length slots) c.enough_slots ∙ accepted.1 in
-      let read : ReadCall pieces text slots (A.Entry accepted.0) (slots_by (T.is accepted.0) (taken_dwords text) slots) =
+      let read : ReadCall pieces text slots (Ok accepted.0) (slots_by (T.is accepted.0) (taken_dwords text) slots) =
       record { bytes = c.bytes; enough = c.enough_slots; contract = record { answer = sym told; slots = refl } } in
       let h = accepted_says pieces text slots accepted.0 _ read in
       let one : h.0 ≡ v = one_reading pieces text h.0 v h.1 b in
@@ -107,7 +104,7 @@ module _ (pieces : Pieces) (text book slots places : List ℕ) (answer : Answer)
 -- ---- one packet
 
 -- the packet of v, its dwords and their places
-module _ (v : EntryValue) (book slots places : List ℕ) {answer : Answer} {slots_left places_left : List ℕ} (g : Gives v book slots places answer slots_left places_left) {p : Packet} (e : answer ≡ P.Packet p) where
+module _ (v : EntryValue) (book slots places : List ℕ) {answer : Result Packet Refusal} {slots_left places_left : List ℕ} (g : Gives v book slots places answer slots_left places_left) {p : Packet} (e : answer ≡ Ok p) where
   is_packet : p ≡ packet_of v.kind book v.dwords
   unfolding packet_for
   is_packet = packet_is v.kind book v.dwords (length v.dwords) (sym g.is ∙ ap answer_told e)
@@ -127,7 +124,7 @@ module _ (v : EntryValue) (book slots places : List ℕ) {answer : Answer} {slot
       (take-append_seam (places_of v.kind book v.dwords) (drop (length (places_of v.kind book v.dwords)) places))
 
 -- two calls that gave the packet of v gave the same
-same_packet : (v : EntryValue) (book : List ℕ) {slots places slots' places' : List ℕ} {a b : Answer} {slots-a places-a slots-b places-b : List ℕ}
+same_packet : (v : EntryValue) (book : List ℕ) {slots places slots' places' : List ℕ} {a b : Result Packet Refusal} {slots-a places-a slots-b places-b : List ℕ}
     → Gives v book slots places a slots-a places-a → Gives v book slots' places' b slots-b places-b
     → SamePacket a slots-a places-a b slots-b places-b
 same_packet v book {slots} {places} {slots'} {places'} {a} {b} g h =
@@ -158,13 +155,13 @@ accepted_number kind s ds room {p} q = by (number_of kind s (length ds) room) q
 
 -- the view of kinds 2 and 3 starts at n, which is within the dwords
 cut_at : (v : EntryValue) (book : List ℕ) → is_read_response_or_write_request v.kind ≡ true → length v.dwords ≤ 256 → {p : Packet} → packet_for v book ≡ T.is p
-    → (p.start ≡ Word.Is (entries_of book v.kind)) × (entries_of book v.kind ≤ length v.dwords)
+    → (p.start ≡ Some (entries_of book v.kind)) × (entries_of book v.kind ≤ length v.dwords)
 unfolding packet_for packet_of view_from
 cut_at v book view few {p} q =
     let within = enough_dwords v.kind book (length v.dwords) (length v.dwords) view (accepted_number v.kind book v.dwords (length v.dwords) q) in
     let whole : entries_of book v.kind % 65536 ≡ entries_of book v.kind = omega (arith, within, few) in
     let start = ap (λ (w : Packet). w.start) (packet_is v.kind book v.dwords (length v.dwords) q) in
-    (start ∙ rw view (ap Word.Is whole), within)
+    (start ∙ rw view (ap Some whole), within)
 
 -- a question about an accepted packet is answered
 no_refusal : (v : EntryValue) (book : List ℕ) {p : Packet} → packet_for v book ≡ T.is p → refusal v.kind book v.dwords ≡ 0
@@ -184,11 +181,11 @@ own_view v book count {left} kind none says slots dwords view slots_are first ha
 
 -- a packet of kind 2 or 3 has its view from n onward, as the text says pieces
 cut_once : (pieces : Pieces) (text : List ℕ) (v : EntryValue) → Belongs pieces text v → is_read_response_or_write_request v.kind ≡ true
-    → (book slots places : List ℕ) (p : Packet) (slots_left places_left : List ℕ) → PacketCall pieces text book slots places (P.Packet p) slots_left places_left
+    → (book slots places : List ℕ) (p : Packet) (slots_left places_left : List ℕ) → PacketCall pieces text book slots places (Ok p) slots_left places_left
     → CutOnce v book p slots_left
 cut_once pieces text v b view book slots places p slots_left places_left c =
-    let g = gives pieces text book slots places (P.Packet p) slots_left places_left c v b in
-    let r = says pieces text book slots places (P.Packet p) slots_left places_left c v b in
+    let g = gives pieces text book slots places (Ok p) slots_left places_left c v b in
+    let r = says pieces text book slots places (Ok p) slots_left places_left c v b in
     let at = cut_at v book view r.few (sym g.is) in
     let own = dwords_are v book slots places g refl in
     let none = no_refusal v book (sym g.is) in
@@ -206,7 +203,7 @@ cut_once pieces text v b view book slots places p slots_left places_left c =
 round_says : (pieces : Pieces) (text next : List ℕ) → Round pieces text next → (v : EntryValue) × Belongs pieces text v × IsRecord next v
 round_says pieces text next r =
     let h = accepted_says pieces text r.slots r.entry r.left r.read in
-    let w = h.2.written r.buffer (W.Bytes r.count) r.written r.write in
+    let w = h.2.written r.buffer (Ok r.count) r.written r.write in
     let number : r.count ≡ length (record_bytes h.0) = cc in
     let next_is : next ≡ record_bytes h.0 = r.handed_on ∙ ap (λ (n : ℕ). take n r.written) number ∙ w.first in
     (h.0, h.1, rw next_is h.2.is_record)

@@ -1,4 +1,7 @@
 -- The text's packet from its parts: once the text is read its number is settled, and the packet call says the rest. Assumes nothing.
+use Rattle.std.specs.Prelude.{Err, Ok, Result}
+use Rattle.refusal.specs.declared.Refusal.{Refusal}
+use Rattle.packet.specs.declared.Packet.{Packet}
 use Prim.Native.Nat.{ℕ, zero, suc}
 use mathlib.Core.Path.{◌≡◌, refl, sym, ap, ◌∙◌}
 use mathlib.Core.List.{List}
@@ -8,8 +11,6 @@ use Rattle.text.specs.Told as T
 use Rattle.entry.specs.declared.Entry.{Entry}
 use Rattle.pairs.specs.Data.{filled}
 use Rattle.scan.specs.declared.Pieces.{Pieces}
-use Rattle.packet.specs.declared.Answer as Packet
-use Rattle.packet.specs.declared.Answer.TheVariants as P
 use Rattle.packet.specs.declared.Packet as Described
 use Rattle.packet.specs.Packet.{number_of, packet_of, answer_told, parse_of, places_of, list_by, Parsed}
 use Rattle.packet.proofs.Packets.{one_packet_answer, length_listed}
@@ -18,15 +19,15 @@ use Rattle.intake.specs.Packets.{packet_by, packet_taken, kind_in, PacketTaken, 
 
 -- ---- a kind and dwords
 
-module _ (kind : ℕ) (s ds slots places : List ℕ) {places' : List ℕ} {r : Packet.Answer} (parsed : Parsed kind s ds places places' r) where
+module _ (kind : ℕ) (s ds slots places : List ℕ) {places' : List ℕ} {r : Result Packet Refusal} (parsed : Parsed kind s ds places places' r) where
   -- a packet, and its dwords in the slots
-  pub handed_packet : {p : Described.Packet} → r ≡ P.Packet p → {slots' : List ℕ} → slots' ≡ filled ds slots
-      → Handed kind s ds slots slots' places places' (P.Packet p)
+  pub handed_packet : {p : Described.Packet} → r ≡ Ok p → {slots' : List ℕ} → slots' ≡ filled ds slots
+      → Handed kind s ds slots slots' places places' (Ok p)
   unfolding list_by
   handed_packet e x = record { answer = ap answer_told (sym e) ∙ parsed.answer; slots_left = x; places_left = parsed.places ∙ rw e }
 
   -- a number, and the slots as found
-  pub handed_refused : {k : ℕ} → r ≡ P.Refused k → Handed kind s ds slots slots places places' (P.Refused k)
+  pub handed_refused : {k : ℕ} → r ≡ Err k → Handed kind s ds slots slots places places' (Err k)
   unfolding list_by
   handed_refused e = record { answer = ap answer_told (sym e) ∙ parsed.answer; slots_left = refl; places_left = parsed.places ∙ rw e }
 
@@ -57,7 +58,7 @@ places_by_kind kind s ds out room (T.refused k) e = refl
 
 module _ (pieces : Pieces) (t s slots places : List ℕ) where
   -- the text is an entry: its kind and dwords give the packet
-  pub taken_packet : {e : Entry} → taken_of pieces t (length slots) ≡ T.is e → {ds : List ℕ} → ds ≡ taken_dwords t → {slots' places' : List ℕ} {r : Packet.Answer}
+  pub taken_packet : {e : Entry} → taken_of pieces t (length slots) ≡ T.is e → {ds : List ℕ} → ds ≡ taken_dwords t → {slots' places' : List ℕ} {r : Result Packet Refusal}
       → Handed e.kind s ds slots slots' places places' r → PacketTaken pieces t s slots slots' places places' r
   unfolding packet_taken packet_by
   taken_packet {e} a {ds} same {slots'} {places'} {r} handed =
@@ -69,20 +70,20 @@ module _ (pieces : Pieces) (t s slots places : List ℕ) where
       }
 
   -- the text is refused, and nothing is touched
-  pub taken_refused : {k : ℕ} → taken_of pieces t (length slots) ≡ T.refused k → PacketTaken pieces t s slots slots places places (P.Refused k)
+  pub taken_refused : {k : ℕ} → taken_of pieces t (length slots) ≡ T.refused k → PacketTaken pieces t s slots slots places places (Err k)
   unfolding packet_taken packet_by list_by
   taken_refused a = record { answer = rw a; slots_left = refl; places_left = refl }
 
 -- ---- the promises
 
 -- a refusal leaves slots and places as found
-pub refused_packet_changes_nothing : (pieces : Pieces) (t s slots places : List ℕ) {slots' places' : List ℕ} {k : ℕ} → PacketTaken pieces t s slots slots' places places' (P.Refused k)
+pub refused_packet_changes_nothing : (pieces : Pieces) (t s slots places : List ℕ) {slots' places' : List ℕ} {k : ℕ} → PacketTaken pieces t s slots slots' places places' (Err k)
     → (slots' ≡ slots) × (places' ≡ places)
 unfolding list_by
 refused_packet_changes_nothing pieces t s slots places p = (p.slots_left, p.places_left)
 
 -- no second answer satisfies the contract, slots and places included
-pub no_second_packet : (pieces : Pieces) (t s slots places : List ℕ) {slots' places' slots'' places'' : List ℕ} {q r : Packet.Answer}
+pub no_second_packet : (pieces : Pieces) (t s slots places : List ℕ) {slots' places' slots'' places'' : List ℕ} {q r : Result Packet Refusal}
     → PacketTaken pieces t s slots slots' places places' q → PacketTaken pieces t s slots slots'' places places'' r
     → (q ≡ r) × (slots' ≡ slots'') × (places' ≡ places'')
 no_second_packet pieces t s slots places {q = q} {r = r} a b =

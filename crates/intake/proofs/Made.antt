@@ -1,10 +1,11 @@
 -- What is laid out as a record is bytes: each tag, length, letter and number is, and no body is longer than its two-byte length can say. So the record of a
 -- line can be lent to the intake as a text. Assumes nothing.
+use Rattle.std.specs.Prelude.{None, Option, Some}
 use Prim.Native.Nat.{ℕ, zero, suc, ◌/◌, ◌%◌, ◌≤◌, ◌<◌}
 use mathlib.Core.Path.{◌≡◌, refl}
 use mathlib.Core.Bool.{Bool, true, false, ◌||◌}
 use mathlib.Core.List.{List, [], ◌∷◌, ◌++◌}
-use mathlib.Core.Option.{Option, some, none, map}
+use mathlib.Core.Option.{map}
 use native.Mathlib.Omega.{arith}
 use lib.Dec.{leb, eqb}
 use lib.ListN.{length}
@@ -68,8 +69,8 @@ field_bytes_lem tag body h k b =
 
 -- a body, where it is there, is bytes and not too long
 abbrev Body : Option (List ℕ) → Type 0
-Body none = Unit {0}
-Body (some b) = (length b < 65536) × Bytes b
+Body None = Unit {0}
+Body (Some b) = (length b < 65536) × Bytes b
 
 abbrev Rows : List Row → Type 0
 Rows rs = All (λ r. (r.tag < 256) × Body r.body) rs
@@ -80,24 +81,24 @@ rows_bytes [] h = bytes_none
 rows_bytes (r ∷ rs) h = go r.body h.0.1 (rows_bytes rs h.1)
   where
     go : (o : Option (List ℕ)) → Body o → Bytes (fields_bytes (present rs)) → Bytes (fields_bytes (placed r.tag o (present rs)))
-    go none b rest = rest
-    go (some body) b rest = bytes_join (field_bytes r.tag body) (fields_bytes (present rs)) (field_bytes_lem r.tag body h.0.0 b.0 b.1) rest
+    go None b rest = rest
+    go (Some body) b rest = bytes_join (field_bytes r.tag body) (fields_bytes (present rs)) (field_bytes_lem r.tag body h.0.0 b.0 b.1) rest
 
-number_body : (k n : ℕ) → k < 65536 → Body (some (number_bytes k n))
+number_body : (k n : ℕ) → k < 65536 → Body (Some (number_bytes k n))
 number_body k n h = (omega (arith, h, number_bytes_length k n), number_bytes_bytes k n)
 
 optional_body : (k : ℕ) (o : Option ℕ) → k < 65536 → Body (map (number_bytes k) o)
-optional_body k none h = tt
-optional_body k (some n) h = number_body k n h
+optional_body k None h = tt
+optional_body k (Some n) h = number_body k n h
 
 -- what is laid out for a value that keeps the ranges is bytes
 pub record_bytes_lem : (v : EntryValue) → Ranged v → Bytes (record_bytes v)
 unfolding record_bytes rows_of
 record_bytes_lem v r =
     let whole : length (field_bytes 0xA1 (fields_bytes (present (rows_of v)))) ≤ 5227 = record_at_most_5227 (record_bytes v) v (record { ranged = r; bytes = refl }) in
-    let task : Body (some v.task) = (omega (arith, r.together), letters_bytes _ (λ b p. omega (arith, p.0)) v.task r.task.letters) in
-    let function : Body (some v.function) = (omega (arith, r.together), letters_bytes _ word_low v.function r.function.letters) in
-    let words : Body (some (dwords_bytes v.dwords)) = (omega (arith, r.few, dwords_bytes_length v.dwords), dwords_bytes_lem v.dwords) in
+    let task : Body (Some v.task) = (omega (arith, r.together), letters_bytes _ (λ b p. omega (arith, p.0)) v.task r.task.letters) in
+    let function : Body (Some v.function) = (omega (arith, r.together), letters_bytes _ word_low v.function r.function.letters) in
+    let words : Body (Some (dwords_bytes v.dwords)) = (omega (arith, r.few, dwords_bytes_length v.dwords), dwords_bytes_lem v.dwords) in
     let rows : Rows (rows_of v) =
     ((omega arith, task), ((omega arith, number_body 4 v.pid (omega arith)), ((omega arith, number_body 2 v.cpu (omega arith)), ((omega arith, number_body 8 v.seconds (omega arith)), ((omega arith, number_body 8 v.microseconds (omega arith)), ((omega arith, function), ((omega arith, number_body 1 v.kind (omega arith)), ((omega arith, number_body 2 v.size (omega arith)), ((omega arith, number_body 1 (flag v.dropped) (omega arith)), ((omega arith, number_body 4 v.domain (omega arith)), ((omega arith, number_body 8 v.route (omega arith)), ((omega arith, optional_body 2 v.offset (omega arith)), ((omega arith, optional_body 1 v.code (omega arith)), ((omega arith, optional_body 2 v.len (omega arith)), ((omega arith, optional_body 1 v.port (omega arith)), ((omega arith, optional_body 1 v.config (omega arith)), ((omega arith, optional_body 1 v.seq (omega arith)), ((omega arith, optional_body 1 v.unplug (omega arith)), ((omega arith, words), tt))))))))))))))))))) in
     field_bytes_lem 0xA1 (fields_bytes (present (rows_of v))) (omega arith) (omega (arith, whole, field_bytes_length 0xA1 (fields_bytes (present (rows_of v))))) (rows_bytes (rows_of v) rows)

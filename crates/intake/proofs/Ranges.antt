@@ -1,10 +1,10 @@
 -- What a line says keeps the record's ranges: its texts are parts of a header of bytes below 128, apart from each other since the dash behind the task
 -- is no word byte; its numbers were read within their widths. Assumes nothing.
+use Rattle.std.specs.Prelude.{None, Option, Some}
 use Prim.Native.Nat.{ℕ, suc, ◌+◌, ◌-◌, ◌^◌, ◌≤◌, ◌<◌}
 use mathlib.Core.Path.{◌≡◌, sym, ap, ◌∙◌}
 use mathlib.Core.Bool.{Bool, true, false, cond, not, ◌&&◌, false≢true}
 use mathlib.Core.List.{List, [], ◌∷◌, ◌++◌}
-use mathlib.Core.Option.{Option, some, none}
 use native.Mathlib.Omega.{arith}
 use native.Mathlib.Decide.{dec_lt}
 use lib.Dec.{ltb, eqb}
@@ -168,12 +168,12 @@ below : (bits : ℕ) {v : ℕ} → v ≤ 2 ^ bits - 1 → v < 2 ^ bits
 below bits {v} h = omega (arith, h, pow_pos bits)
 
 decimal_below : (bits : ℕ) (p key : List ℕ) (o : Option ℕ) → Optional (KeyDecimal p key (2 ^ bits - 1)) o → Below (2 ^ bits) o
-decimal_below bits p key none r = tt
-decimal_below bits p key (some v) r = below bits r.reads.within
+decimal_below bits p key None r = tt
+decimal_below bits p key (Some v) r = below bits r.reads.within
 
 hex_below : (bits : ℕ) (p key : List ℕ) (o : Option ℕ) → Optional (KeyHex p key (2 ^ bits - 1)) o → Below (2 ^ bits) o
-hex_below bits p key none r = tt
-hex_below bits p key (some v) r = below bits (hex_within (2 ^ bits - 1) r.text r.reads)
+hex_below bits p key None r = tt
+hex_below bits p key (Some v) r = below bits (hex_within (2 ^ bits - 1) r.text r.reads)
 
 dwords_below : {ps : List (List ℕ)} {ds : List ℕ} → Dwords ps ds → All (λ d. d < 2 ^ 32) ds
 dwords_below Dwords.empty = tt

@@ -1,10 +1,11 @@
 -- Slots past 256 change no answer: a text that is accepted has at most 256 dwords, and the slots are asked after nothing but their count. So a text may
 -- be read into an array of 256 as well. Assumes nothing.
+use Rattle.std.specs.Prelude.{Err, None, Ok, Option, Result, Some}
+use Rattle.refusal.specs.declared.Refusal.{Refusal}
 use Prim.Native.Nat.{ℕ, zero, suc, ◌≤◌, min}
 use mathlib.Core.Path.{◌≡◌, refl, sym, ap, ◌∙◌}
 use mathlib.Core.Bool.{Bool, true, false, cond}
 use mathlib.Core.List.{List, ◌++◌, append_assoc}
-use mathlib.Core.Option.{Option, some, none}
 use native.Mathlib.Omega.{arith}
 use native.Mathlib.Decide.{dec_le}
 use borrow.Author.Tests.{le-leb, le-ltb, ltb-false}
@@ -16,8 +17,6 @@ use Rattle.text.proofs.Told.{value_behind}
 use Rattle.tlv.specs.Number.{Bytes}
 use Rattle.entry.specs.declared.Entry.{Entry}
 use Rattle.scan.specs.declared.Pieces.{Pieces}
-use Rattle.scan.specs.declared.Answer.{Answer}
-use Rattle.scan.specs.declared.Answer.TheVariants as A
 use Rattle.scan.specs.declared.head.Head.{Head}
 use Rattle.scan.specs.declared.body.Body.{Body}
 use Rattle.scan.specs.Need.{need}
@@ -50,8 +49,8 @@ enough_slots pieces payload room h = by_data (refuses pieces (payload_bad payloa
     by_choice false ds = by_count ds (ltb 256 (length ds)) refl
 
     by_data : (b : Bool) (o : Option (List ℕ)) → need (T.refused 15) o (data18 b room) ≡ need (T.refused 15) o (data18 b 256)
-    by_data b none = refl
-    by_data b (some ds) = by_choice b ds
+    by_data b None = refl
+    by_data b (Some ds) = by_choice b ds
 
 pub line_with_more_slots : (pieces : Pieces) (t : List ℕ) (room : ℕ) → 256 ≤ room → parse_of pieces t room ≡ parse_of pieces t 256
 unfolding parse_of with_frame parted_answer with_head payload_answer with_body
@@ -147,11 +146,11 @@ pub record Waits (pieces : Pieces) (t slots array : List ℕ) (e : Entry) : Type
   pub count : e.dwords ≡ length (take e.dwords array)
   pub fits : length (take e.dwords array) ≤ length slots
 
-module _ (pieces : Pieces) (t slots out : List ℕ) (bytes : Bytes t) {exit : List ℕ} {r : Answer} (room : length out ≡ min 256 (length slots)) (p : Taken pieces t out exit r) where
+module _ (pieces : Pieces) (t slots out : List ℕ) (bytes : Bytes t) {exit : List ℕ} {r : Result Entry Refusal} (room : length out ≡ min 256 (length slots)) (p : Taken pieces t out exit r) where
   answer_is : taken_of pieces t (length slots) ≡ answer_told r
   answer_is = sym (at_most_256_slots pieces t bytes (length slots)) ∙ ap (taken_of pieces t) (sym room) ∙ sym p.answer
 
-  pub waits : (rest : List ℕ) {e : Entry} → length exit ≡ length out → r ≡ A.Entry e → Waits pieces t slots (exit ++ rest) e
+  pub waits : (rest : List ℕ) {e : Entry} → length exit ≡ length out → r ≡ Ok e → Waits pieces t slots (exit ++ rest) e
   unfolding slots_by
   waits rest {e} kept n =
       let count : e.dwords ≡ length (taken_dwords t) = taken_count pieces t (length slots) (answer_is ∙ ap answer_told n) in
@@ -170,5 +169,5 @@ module _ (pieces : Pieces) (t slots out : List ℕ) (bytes : Bytes t) {exit : Li
         fits = omega (arith, fits, room, ap length front);
       }
 
-  pub waits_not : {k : ℕ} → r ≡ A.Refused k → taken_of pieces t (length slots) ≡ T.refused k
+  pub waits_not : {k : ℕ} → r ≡ Err k → taken_of pieces t (length slots) ≡ T.refused k
   waits_not n = answer_is ∙ ap answer_told n

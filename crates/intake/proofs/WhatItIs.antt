@@ -1,5 +1,7 @@
 -- What a text is, both ways: the answer is so of every text, since either reader is sound and complete for its grammar and its numbers; no two answers are
 -- so of one text; hence whatever is so is the answer. Assumes nothing.
+use Rattle.std.specs.Prelude.{Err, Ok, Result}
+use Rattle.refusal.specs.declared.Refusal.{Refusal}
 use Prim.Native.Nat.{ℕ, zero, suc, ◌≤◌}
 use mathlib.Core.Path.{◌≡◌, refl, sym, ap, subst, ◌∙◌}
 use mathlib.Core.Bool.{Bool, true, false, cond, false≢true}
@@ -16,7 +18,6 @@ use Rattle.tlv.specs.Number.{Bytes}
 use Rattle.entry.specs.declared.Entry.{Entry}
 use Rattle.entry.specs.Entry.{EntryValue}
 use Rattle.scan.specs.declared.Pieces.{Pieces}
-use Rattle.scan.specs.declared.Answer.TheVariants as A
 use Rattle.scan.specs.Parse.{parse_of, slots_by}
 use Rattle.scan.specs.Line.{Line, Condition, order_of, Applies}
 use Rattle.scan.proofs.Chain.{Answered}
@@ -29,7 +30,6 @@ use Rattle.record.specs.Conditions.{Breaks, unframed, runs_past, wrong_tag, wron
 use Rattle.record.specs.Reading.{dword_count, read_of}
 use Rattle.record.proofs.Numbers.{number_exactly}
 use Rattle.record.proofs.Records.{record_refused_exactly}
-use Rattle.writer.specs.declared.Written.{Written}
 use Rattle.writer.specs.Writing.{bytes_of, written_told, write_of, buffer_by}
 use Rattle.writer.proofs.RoundTrips.{some_written}
 use Rattle.intake.specs.declared.What.{What}
@@ -238,13 +238,13 @@ record_comes pieces t bytes v r = Comes.once round
     left : List ℕ
     left = slots_by (T.is accepted.0) (taken_dwords t) slots
 
-    read : ReadCall pieces t slots (A.Entry accepted.0) left
+    read : ReadCall pieces t slots (Ok accepted.0) left
     read = record { bytes = bytes; enough = omega arith; contract = record { answer = sym accepted.1; slots = refl } }
 
     says : (w : EntryValue) × (record_bytes w ≡ t) × HasRecord t accepted.0 left w
     says = record_is_the_writers pieces t slots accepted.0 left (a1_first t v r) read
 
-    answer : (r : Written) × (written_told r ≡ write_of t accepted.0 left 5227)
+    answer : (r : Result ℕ Refusal) × (written_told r ≡ write_of t accepted.0 left 5227)
     answer = some_written t accepted.0 left 5227
 
     written : List ℕ
@@ -260,7 +260,7 @@ record_comes pieces t bytes v r = Comes.once round
           contract =
               record {
                 answer = ap written_told (sym wrote.number) ∙ answer.1;
-                buffer = ap (λ (a : Written). buffer_by (written_told a) (bytes_of t accepted.0 left) buffer) wrote.number;
+                buffer = ap (λ (a : Result ℕ Refusal). buffer_by (written_told a) (bytes_of t accepted.0 left) buffer) wrote.number;
               };
         }
 

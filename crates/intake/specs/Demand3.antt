@@ -3,22 +3,19 @@
 -- choice, and a record by any.
 -- How to read it: `a ≡ b` is "a equals b"; `P → Q` "if P then Q"; `P → ⊥` "P never holds"; `P × Q` "P and Q"; `(x : A) × P` "there is an x so that P";
 -- `(x : A) → P` "for every x, P"; `↔` "exactly when". A name before a dot tells whose answer it is: `A.` the reader's, `W.` the writer's.
-use Rattle.std.specs.Prelude.{ℕ, ◌≤◌, ◌≡◌, true, false, List, ◌↔◌, length, take, drop}
+use Rattle.refusal.specs.declared.Refusal.{Refusal}
+use Rattle.std.specs.Prelude.{ℕ, ◌≤◌, ◌≡◌, true, false, List, ◌↔◌, length, take, drop, Err, Ok, Result}
 use Rattle.tlv.specs.Number.{Bytes}
 use Rattle.entry.specs.declared.Entry.{Entry}
 use Rattle.entry.specs.Entry.{EntryValue, value_of, Lies, SameEntry}
 use Rattle.scan.specs.declared.Pieces.{Pieces}
-use Rattle.scan.specs.declared.Answer.{Answer}
-use Rattle.scan.specs.declared.Answer.TheVariants as A
 use Rattle.scan.specs.Line.{Line}
 use Rattle.record.specs.Grammar.{record_bytes, IsRecord}
-use Rattle.writer.specs.declared.Written.{Written}
-use Rattle.writer.specs.declared.Written.TheVariants as W
 use Rattle.writer.specs.Writing.{Writing}
 use Rattle.intake.specs.Intake.{Belongs, starts_a1, Taken}
 
 -- A call of `read` with enough slots: it was lent a text and slots and told the choice, and gave this answer and left the slots so.
-pub record ReadCall (pieces : Pieces) (text slots : List ℕ) (answer : Answer) (left : List ℕ) : Type 0 where
+pub record ReadCall (pieces : Pieces) (text slots : List ℕ) (answer : Result Entry Refusal) (left : List ℕ) : Type 0 where
   -- The text is bytes, as every lent text is.
   pub bytes : Bytes text
   -- 256 slots are lent, or more.
@@ -27,16 +24,16 @@ pub record ReadCall (pieces : Pieces) (text slots : List ℕ) (answer : Answer) 
   pub contract : Taken pieces text slots left answer
 
 -- A call of `write` with enough bytes: it was lent an entry's text and dwords and a buffer, and gave this answer and left the buffer so.
-pub record WriteCall (text : List ℕ) (e : Entry) (dwords buffer : List ℕ) (answer : Written) (left : List ℕ) : Type 0 where
+pub record WriteCall (text : List ℕ) (e : Entry) (dwords buffer : List ℕ) (answer : Result ℕ Refusal) (left : List ℕ) : Type 0 where
   -- 5,227 bytes are lent, or more.
   pub enough : 5227 ≤ length buffer
   -- The call keeps its contract.
   pub contract : Writing text e dwords buffer answer left
 
 -- A call wrote exactly these bytes.
-pub record Wrote (bytes buffer : List ℕ) (answer : Written) (left : List ℕ) : Type 0 where
+pub record Wrote (bytes buffer : List ℕ) (answer : Result ℕ Refusal) (left : List ℕ) : Type 0 where
   -- The answer is their number.
-  pub number : answer ≡ W.Bytes (length bytes)
+  pub number : answer ≡ Ok (length bytes)
   -- The buffer starts with them.
   pub first : take (length bytes) left ≡ bytes
   -- Behind them it is as found.
@@ -60,30 +57,30 @@ pub record HasRecord (text : List ℕ) (e : Entry) (dwords : List ℕ) (v : Entr
   -- Each is below 256, so they can be lent as a text.
   pub bytes : Bytes (record_bytes v)
   -- Writing the entry writes them.
-  pub written : (buffer : List ℕ) (answer : Written) (left : List ℕ) → WriteCall text e dwords buffer answer left
+  pub written : (buffer : List ℕ) (answer : Result ℕ Refusal) (left : List ℕ) → WriteCall text e dwords buffer answer left
       → Wrote (record_bytes v) buffer answer left
   -- Read by the intake, whatever the choice, they are accepted, and the entry is the same.
-  pub reads_back : (any : Pieces) (slots : List ℕ) (answer : Answer) (left : List ℕ) → ReadCall any (record_bytes v) slots answer left
-      → (f : Entry) × (answer ≡ A.Entry f) × SameEntry e text dwords f (record_bytes v) left
+  pub reads_back : (any : Pieces) (slots : List ℕ) (answer : Result Entry Refusal) (left : List ℕ) → ReadCall any (record_bytes v) slots answer left
+      → (f : Entry) × (answer ≡ Ok f) × SameEntry e text dwords f (record_bytes v) left
   -- Writing the entry that was read from them writes them again.
-  pub writes_again : (any : Pieces) (slots : List ℕ) (f : Entry) (left buffer : List ℕ) (answer : Written) (after : List ℕ)
-      → ReadCall any (record_bytes v) slots (A.Entry f) left → WriteCall (record_bytes v) f left buffer answer after
+  pub writes_again : (any : Pieces) (slots : List ℕ) (f : Entry) (left buffer : List ℕ) (answer : Result ℕ Refusal) (after : List ℕ)
+      → ReadCall any (record_bytes v) slots (Ok f) left → WriteCall (record_bytes v) f left buffer answer after
       → Wrote (record_bytes v) buffer answer after
 
 -- What demand 3 asks of lines and records. What it asks of packets stands in Demand3Packets.
 pub record LinesAndRecords (pieces : Pieces) : Type 0 where
   -- Given 256 slots, a text is accepted exactly when it belongs to the line grammar of the choice or to the record grammar.
-  pub accepted : (text slots : List ℕ) (answer : Answer) (left : List ℕ) → ReadCall pieces text slots answer left
-      → ((e : Entry) × (answer ≡ A.Entry e)) ↔ ((v : EntryValue) × Belongs pieces text v)
+  pub accepted : (text slots : List ℕ) (answer : Result Entry Refusal) (left : List ℕ) → ReadCall pieces text slots answer left
+      → ((e : Entry) × (answer ≡ Ok e)) ↔ ((v : EntryValue) × Belongs pieces text v)
   -- No text belongs to both.
   pub never_both : (text : List ℕ) (v w : EntryValue) → Line pieces text v → IsRecord text w → ⊥
   -- A text says one thing.
   pub one_reading : (text : List ℕ) (v w : EntryValue) → Belongs pieces text v → Belongs pieces text w → v ≡ w
   -- Every accepted line has a record: an accepted text that does not start with A1 is a line, and what it says has a record.
-  pub line_has_a_record : (text slots : List ℕ) (e : Entry) (left : List ℕ) → starts_a1 text ≡ false → ReadCall pieces text slots (A.Entry e) left
+  pub line_has_a_record : (text slots : List ℕ) (e : Entry) (left : List ℕ) → starts_a1 text ≡ false → ReadCall pieces text slots (Ok e) left
       → (v : EntryValue) × Line pieces text v × HasRecord text e left v
   -- Every accepted record is what writing its entry gives: an accepted text that starts with A1 is itself the record of what it says.
-  pub record_is_the_writers : (text slots : List ℕ) (e : Entry) (left : List ℕ) → starts_a1 text ≡ true → ReadCall pieces text slots (A.Entry e) left
+  pub record_is_the_writers : (text slots : List ℕ) (e : Entry) (left : List ℕ) → starts_a1 text ≡ true → ReadCall pieces text slots (Ok e) left
       → (v : EntryValue) × (record_bytes v ≡ text) × HasRecord text e left v
   -- A record has at most 5,227 bytes.
   pub record_at_most_5227 : (text : List ℕ) (v : EntryValue) → IsRecord text v → length text ≤ 5227

@@ -1,10 +1,10 @@
 -- Record or line, by the first byte.
-use Rattle.std.specs.Prelude.{ℕ, ◌≡◌, Bool, cond, List, eqb, length, get_or}
+use Rattle.refusal.specs.declared.Refusal.{Refusal}
+use Rattle.std.specs.Prelude.{ℕ, ◌≡◌, Bool, cond, List, eqb, length, get_or, Result}
 use Rattle.text.specs.Told.{Told}
 use Rattle.entry.specs.declared.Entry.{Entry}
 use Rattle.entry.specs.Entry.{EntryValue}
 use Rattle.scan.specs.declared.Pieces.{Pieces}
-use Rattle.scan.specs.declared.Answer.{Answer}
 use Rattle.scan.specs.Parse.{answer_told, parse_of, line_dwords, slots_by}
 use Rattle.scan.specs.Line.{Line}
 use Rattle.record.specs.Grammar.{IsRecord}
@@ -28,11 +28,11 @@ unfoldable pub taken_dwords : List ℕ → List ℕ
 taken_dwords t = cond (starts_a1 t) (dwords_of t) (line_dwords t)
 
 -- the answer, and each slot
-pub record Taken (pieces : Pieces) (t out exit : List ℕ) (r : Answer) : Type 0 where
+pub record Taken (pieces : Pieces) (t out exit : List ℕ) (r : Result Entry Refusal) : Type 0 where
   pub answer : answer_told r ≡ taken_of pieces t (length out)
   pub slots : exit ≡ slots_by (answer_told r) (taken_dwords t) out
 
 -- the same of a text that is taken as a record
-pub record RecordTaken (t out exit : List ℕ) (r : Answer) : Type 0 where
+pub record RecordTaken (t out exit : List ℕ) (r : Result Entry Refusal) : Type 0 where
   pub answer : answer_told r ≡ read_of t (length out)
   pub slots : exit ≡ slots_by (answer_told r) (dwords_of t) out

@@ -15,8 +15,9 @@ ghost use Rattle.intake.specs.What.{what_told, grammar_of, what_of};
 
 use crate::room::at_most_256;
 use scan::dwords::copy;
-use scan::{Answer, Pieces, parse};
+use scan::{Pieces, parse};
 use text::place::byte_at;
+use refusal::Refusal;
 
 // What a text is: it belongs to the record grammar, to the line grammar of the choice, or to neither, and then this number refuses it.
 #[derive(Clone, Copy)]
@@ -27,7 +28,7 @@ pub enum What {
 }
 
 // The entry of a text, its dwords in the first slots; or the one number that refuses it, with no slot touched. A record is read whatever the choice.
-pub fn read(text: &[u8], pieces: Pieces, slots: &mut [u32]) -> Answer
+pub fn read(text: &[u8], pieces: Pieces, slots: &mut [u32]) -> Result<Entry, Refusal>
     ensures { Taken pieces text.now slots.old slots.new result }
 {
     if starts_a1(text) {
@@ -43,12 +44,12 @@ pub fn starts_a1(text: &[u8]) -> bool
     byte_at(text, 0) == 0xA1
 }
 
-fn read_record(text: &[u8], slots: &mut [u32]) -> Answer
+fn read_record(text: &[u8], slots: &mut [u32]) -> Result<Entry, Refusal>
     ensures { RecordTaken text.now slots.old slots.new result }
 {
     match record::read(text, slots) {
-        record::Answer::Entry(e) => Answer::Entry(e),
-        record::Answer::Refused(number) => Answer::Refused(number),
+        Ok(e) => Ok(e),
+        Err(number) => Err(number),
     }
 }
 
@@ -60,14 +61,14 @@ pub fn packet(
     book: &[u8],
     slots: &mut [u32],
     places: &mut [u32],
-) -> packet::Answer
+) -> packet::Result<Entry, Refusal>
     ensures { PacketTaken pieces text.now book.now slots.old slots.new places.old places.new result }
 {
     let mut dwords = [0u32; 256];
     let room = at_most_256(slots.len());
     match read(text, pieces, &mut dwords[..room]) {
-        Answer::Entry(e) => hand_over(e.kind, book, &dwords[..e.dwords], slots, places),
-        Answer::Refused(number) => packet::Answer::Refused(number),
+        Ok(e) => hand_over(e.kind, book, &dwords[..e.dwords], slots, places),
+        Err(number) => Err(number),
     }
 }
 
@@ -78,16 +79,16 @@ fn hand_over(
     dwords: &[u32],
     slots: &mut [u32],
     places: &mut [u32],
-) -> packet::Answer
+) -> packet::Result<Entry, Refusal>
     requires { length dwords.now ≤ length slots.old }
     ensures { Handed kind book.now dwords.now slots.old slots.new places.old places.new result }
 {
     match packet::parse(kind, book, dwords, places) {
-        packet::Answer::Packet(p) => {
+        Ok(p) => {
             copy(dwords, slots);
-            packet::Answer::Packet(p)
+            Ok(p)
         }
-        packet::Answer::Refused(number) => packet::Answer::Refused(number),
+        Err(number) => Err(number),
     }
 }
 
@@ -97,8 +98,8 @@ pub fn what_is(text: &[u8], pieces: Pieces) -> What
 {
     let mut slots = [0u32; 256];
     match read(text, pieces, &mut slots[..256]) {
-        Answer::Entry(_) => grammar_of(text),
-        Answer::Refused(number) => What::Neither(number),
+        Ok(_) => grammar_of(text),
+        Err(number) => What::Neither(number),
     }
 }
 

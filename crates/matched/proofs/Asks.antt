@@ -1,4 +1,5 @@
 -- What is computed of an entry is what it asks: each test of `ask_of` decides one condition of `Asks`. Assumes nothing.
+use Rattle.std.specs.Prelude.{None, Option, Some}
 use Prim.Native.Nat.{ℕ, zero, suc, ◌%◌, ◌<◌, ◌≤◌}
 use native.Mathlib.Omega.{arith}
 use mathlib.Core.Path.{◌≡◌, refl, sym, ◌∙◌, ap}
@@ -7,8 +8,6 @@ use mathlib.Core.Logic.{◌↔◌, ◌⊎◌, inl, inr}
 use lib.Dec.{eqb, ltb}
 use borrow.Author.Tests.{lt-ltb, le-ltb, ne_eqb, ltb-true, ltb-false}
 use Rattle.entry.specs.declared.Entry.{Entry}
-use Rattle.entry.specs.declared.optional.MaybeByte.{MaybeByte}
-use Rattle.entry.specs.declared.optional.MaybeByte.TheVariants as B
 use Rattle.slots.specs.declared.Four.{Four}
 use Rattle.slots.specs.declared.ask.Ask.{Ask}
 use Rattle.slots.specs.declared.ask.Ask.TheVariants as A
@@ -50,7 +49,7 @@ inside_test : (k : ℕ) → 0 < k → k ≤ 4 → (eqb k 0 || ltb 4 k) ≡ false
 inside_test k a b = let e = ne_eqb k 0 (λ q. omega arith) in let f = le-ltb 4 k b in rw (e, f)
 
 -- ---- the four
-under : (e : Entry) (seq : ℕ) → e.seq ≡ B.Is seq → Under e (four_of e seq)
+under : (e : Entry) (seq : ℕ) → e.seq ≡ Some seq → Under e (four_of e seq)
 unfolding four_of direction_of
 under e seq q =
     record {
@@ -75,14 +74,14 @@ asks_it : (e : Entry) → Asks e (ask_of e)
 unfolding ask_of by_kind
 asks_it e = by_dropped e.dropped refl (eqb e.kind 0 || ltb 4 e.kind) refl
   where
-    by_kind_lem : e.dropped ≡ false → (seq : ℕ) → e.seq ≡ B.Is seq → Kind e.kind
+    by_kind_lem : e.dropped ≡ false → (seq : ℕ) → e.seq ≡ Some seq → Kind e.kind
         → Asks e (cond (eqb (e.kind % 2) 1) (A.Request (four_of e seq)) (A.Response (four_of e seq)))
     by_kind_lem d seq q (asks h k) = rw h (request d k (under e seq q))
     by_kind_lem d seq q (answers h k) = rw h (response d k (under e seq q))
 
-    by_seq_lem : e.dropped ≡ false → Matchable e → (s : MaybeByte) → e.seq ≡ s → Asks e (by_seq e s)
-    by_seq_lem d m (B.Is seq) q = by_kind_lem d seq q (kind_of e.kind m.0 m.1)
-    by_seq_lem d m B.Absent q = no_seq d m q
+    by_seq_lem : e.dropped ≡ false → Matchable e → (s : Option ℕ) → e.seq ≡ s → Asks e (by_seq e s)
+    by_seq_lem d m (Some seq) q = by_kind_lem d seq q (kind_of e.kind m.0 m.1)
+    by_seq_lem d m None q = no_seq d m q
 
     by_dropped : (d : Bool) → e.dropped ≡ d → (o : Bool) → (eqb e.kind 0 || ltb 4 e.kind) ≡ o → Asks e (cond d A.Dropped (cond o A.Other (by_seq e e.seq)))
     by_dropped true d o h = dropped d
@@ -90,7 +89,7 @@ asks_it e = by_dropped e.dropped refl (eqb e.kind 0 || ltb 4 e.kind) refl
     by_dropped false d false h = by_seq_lem d (test_inside e.kind h) e.seq refl
 
 -- ---- what is asked is computed
-computed : (e : Entry) (d o : Bool) (s : MaybeByte) → e.dropped ≡ d → (eqb e.kind 0 || ltb 4 e.kind) ≡ o → e.seq ≡ s
+computed : (e : Entry) (d o : Bool) (s : Option ℕ) → e.dropped ≡ d → (eqb e.kind 0 || ltb 4 e.kind) ≡ o → e.seq ≡ s
     → ask_of e ≡ cond d A.Dropped (cond o A.Other (by_seq e s))
 unfolding ask_of
 computed e d o s p q r = cc
@@ -106,13 +105,13 @@ asked : (e : Entry) (a : Ask) → Asks e a → ask_of e ≡ a
 unfolding by_kind
 asked e a (dropped d) = computed e true (eqb e.kind 0 || ltb 4 e.kind) e.seq d refl refl
 asked e a (other d n) = computed e false true e.seq d (test_outside e.kind n) refl
-asked e a (no_seq d m q) = computed e false false B.Absent d (inside_test e.kind m.0 m.1) q
+asked e a (no_seq d m q) = computed e false false None d (inside_test e.kind m.0 m.1) q
 asked e a (request {four} d k u) =
     let o = odd_kind e.kind k in
-    computed e false false (B.Is four.seq) d (inside_test e.kind o.1.0 o.1.1) u.seq ∙ rw o.0 (ap A.Request (under_is e four u))
+    computed e false false (Some four.seq) d (inside_test e.kind o.1.0 o.1.1) u.seq ∙ rw o.0 (ap A.Request (under_is e four u))
 asked e a (response {four} d k u) =
     let o = even_kind e.kind k in
-    computed e false false (B.Is four.seq) d (inside_test e.kind o.1.0 o.1.1) u.seq ∙ rw o.0 (ap A.Response (under_is e four u))
+    computed e false false (Some four.seq) d (inside_test e.kind o.1.0 o.1.1) u.seq ∙ rw o.0 (ap A.Response (under_is e four u))
 
 pub asks_exactly : (e : Entry) (a : Ask) → (ask_of e ≡ a) ↔ Asks e a
 asks_exactly e a = ((λ q. rw q at (asks_it e)), asked e a)

@@ -1,4 +1,5 @@
 -- A step is a refusal, or what a table does for what the entry asks: by cases on the step. Assumes nothing.
+use Rattle.std.specs.Prelude.{None, Option, Some}
 use Prim.Native.Nat.{ℕ, ◌%◌, ◌^◌, ◌<◌, ◌≤◌}
 use native.Mathlib.Omega.{arith}
 use native.Mathlib.Nat.{mod-lt}
@@ -8,8 +9,6 @@ use mathlib.Core.List.{List}
 use lib.ListN.{set}
 use lib.Dec.{eqb, ltb, lit<}
 use Rattle.entry.specs.declared.Entry.{Entry}
-use Rattle.entry.specs.declared.optional.MaybeByte.{MaybeByte}
-use Rattle.entry.specs.declared.optional.MaybeByte.TheVariants as B
 use Rattle.slots.specs.declared.Four.{Four}
 use Rattle.slots.specs.declared.Slot.{Slot}
 use Rattle.slots.specs.declared.ask.Ask.{Ask}
@@ -62,14 +61,14 @@ plain_four e seq = (mod-lt e.route (lit< tt), by (ltb 2 e.kind))
     by true = omega arith
     by false = omega arith
 
-plain_seq : (e : Entry) (s : MaybeByte) → Plain (by_seq e s)
+plain_seq : (e : Entry) (s : Option ℕ) → Plain (by_seq e s)
 unfolding by_kind
-plain_seq e (B.Is seq) = by (eqb (e.kind % 2) 1)
+plain_seq e (Some seq) = by (eqb (e.kind % 2) 1)
   where
     by : (b : Bool) → Plain (cond b (A.Request (four_of e seq)) (A.Response (four_of e seq)))
     by true = plain_four e seq
     by false = tt
-plain_seq e B.Absent = tt
+plain_seq e None = tt
 
 pub plain_ask : (e : Entry) → Plain (ask_of e)
 unfolding ask_of

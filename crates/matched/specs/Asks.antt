@@ -1,7 +1,6 @@
 -- What an entry asks of the table, told of the entry itself in document 02's order of "else"; `ask_of`, which the contracts cite, computes it.
-use Rattle.std.specs.Prelude.{◌%◌, ◌^◌, ◌<◌, ◌≤◌, ◌≡◌, true, false, ◌⊎◌}
+use Rattle.std.specs.Prelude.{◌%◌, ◌^◌, ◌<◌, ◌≤◌, ◌≡◌, true, false, ◌⊎◌, None, Some}
 use Rattle.entry.specs.declared.Entry.{Entry}
-use Rattle.entry.specs.declared.optional.MaybeByte.TheVariants as B
 use Rattle.slots.specs.declared.Four.{Four}
 use Rattle.slots.specs.declared.ask.Ask.{Ask}
 use Rattle.slots.specs.declared.ask.Ask.TheVariants as A
@@ -10,7 +9,7 @@ use Rattle.slots.specs.declared.ask.Ask.TheVariants as A
 pub record Under (e : Entry) (four : Four) : Type 0 where
   pub domain : four.domain ≡ e.domain
   pub route : four.route ≡ e.route % 2 ^ 63
-  pub seq : e.seq ≡ B.Is four.seq
+  pub seq : e.seq ≡ Some four.seq
   pub reads : e.kind ≤ 2 → four.write ≡ 0
   pub writes : 2 < e.kind → four.write ≡ 1
 
@@ -21,6 +20,6 @@ Matchable e = (0 < e.kind) × (e.kind ≤ 4)
 pub data Asks (e : Entry) : Ask → Type 0 where
   dropped : e.dropped ≡ true → Asks e A.Dropped
   other : e.dropped ≡ false → (Matchable e → ⊥) → Asks e A.Other
-  no_seq : e.dropped ≡ false → Matchable e → e.seq ≡ B.Absent → Asks e A.NoSeq
+  no_seq : e.dropped ≡ false → Matchable e → e.seq ≡ None → Asks e A.NoSeq
   request : {four : Four} → e.dropped ≡ false → (e.kind ≡ 1) ⊎ (e.kind ≡ 3) → Under e four → Asks e (A.Request four)
   response : {four : Four} → e.dropped ≡ false → (e.kind ≡ 2) ⊎ (e.kind ≡ 4) → Under e four → Asks e (A.Response four)

@@ -1,9 +1,6 @@
 -- One history over two slots, step by step, and tables that are refused: what a reader can check by hand.
-use Rattle.std.specs.Prelude.{ℕ, ◌+◌, ◌^◌, ◌≡◌, Bool, true, false, List, [], ◌∷◌, replicate}
+use Rattle.std.specs.Prelude.{ℕ, ◌+◌, ◌^◌, ◌≡◌, Bool, true, false, List, [], ◌∷◌, replicate, None, Option, Some}
 use Rattle.entry.specs.declared.Entry.{Entry}
-use Rattle.entry.specs.declared.optional.MaybeByte.{MaybeByte}
-use Rattle.entry.specs.declared.optional.MaybeByte.TheVariants as B
-use Rattle.entry.specs.declared.optional.MaybeWord.TheVariants as W
 use Rattle.slots.specs.declared.Slot.{Slot}
 use Rattle.slots.specs.declared.decide.Report.{Report}
 use Rattle.slots.specs.declared.decide.Report.TheVariants as R
@@ -13,7 +10,7 @@ use Rattle.pending.specs.Step.{Step}
 use Rattle.matched.specs.History.{History, taken_in, answered_in}
 
 -- an entry of a kind, dropped or not, with domain, route and `seq`; what else an entry says is the same for all
-abbrev pub entry : ℕ → Bool → ℕ → ℕ → MaybeByte → Entry
+abbrev pub entry : ℕ → Bool → ℕ → ℕ → Option ℕ → Entry
 entry kind dropped domain route seq =
     record {
       task_at = 0;
@@ -29,13 +26,13 @@ entry kind dropped domain route seq =
       dropped = dropped;
       domain = domain;
       route = route;
-      offset = W.Absent;
-      code = B.Absent;
-      len = W.Absent;
-      port = B.Absent;
-      config = B.Absent;
+      offset = None;
+      code = None;
+      len = None;
+      port = None;
+      config = None;
       seq = seq;
-      unplug = B.Absent;
+      unplug = None;
       dwords = 3;
     }
 
@@ -47,33 +44,33 @@ slot domain route seq write rank = record { four = record { route = route; domai
 abbrev pub entries : List Entry
 entries =
     -- 1, 2: the same request twice
-    entry 1 false 0 7 (B.Is 5)
-    ∷ entry 1 false 0 7 (B.Is 5)
+    entry 1 false 0 7 (Some 5)
+    ∷ entry 1 false 0 7 (Some 5)
     -- 3: a third has no slot
-    ∷ entry 3 false 0 7 (B.Is 5)
+    ∷ entry 3 false 0 7 (Some 5)
     -- 4: a response of another domain
-    ∷ entry 2 false 1 7 (B.Is 5)
+    ∷ entry 2 false 1 7 (Some 5)
     -- 5: a write's response, where reads wait
-    ∷ entry 4 false 0 7 (B.Is 5)
+    ∷ entry 4 false 0 7 (Some 5)
     -- 6: the response, its route with the top bit
-    ∷ entry 2 false 0 (2 ^ 63 + 7) (B.Is 5)
+    ∷ entry 2 false 0 (2 ^ 63 + 7) (Some 5)
     -- 7: a dropped request
-    ∷ entry 1 true 0 9 (B.Is 6)
+    ∷ entry 1 true 0 9 (Some 6)
     -- 8: another request
-    ∷ entry 3 false 1 9 (B.Is 6)
+    ∷ entry 3 false 1 9 (Some 6)
     -- 9: its response, before that of the older one
-    ∷ entry 4 false 1 9 (B.Is 6)
+    ∷ entry 4 false 1 9 (Some 6)
     -- 10: that request again
-    ∷ entry 3 false 1 9 (B.Is 6)
+    ∷ entry 3 false 1 9 (Some 6)
     -- 11: an error, which neither asks nor answers
-    ∷ entry 5 false 0 7 (B.Is 5)
+    ∷ entry 5 false 0 7 (Some 5)
     -- 12: a request without `seq`
-    ∷ entry 1 false 0 7 B.Absent
+    ∷ entry 1 false 0 7 None
     -- 13: a dropped response
-    ∷ entry 2 true 0 7 (B.Is 5)
+    ∷ entry 2 true 0 7 (Some 5)
     -- 14, 15: the response to the older one, twice
-    ∷ entry 2 false 0 7 (B.Is 5)
-    ∷ entry 2 false 0 7 (B.Is 5)
+    ∷ entry 2 false 0 7 (Some 5)
+    ∷ entry 2 false 0 7 (Some 5)
     ∷ []
 
 -- their reports

@@ -1,23 +1,18 @@
 -- The questions answer what the relation says, and nothing else is what it says. Assumes nothing.
+use Rattle.std.specs.Prelude.{None, Option, Some}
 use Prim.Native.Nat.{ℕ, zero, suc, ◌%◌, ◌^◌, ◌≤◌}
 use mathlib.Core.Path.{◌≡◌, refl, sym, ap, subst, ◌∙◌}
 use mathlib.Core.Bool.{Bool, true, false, cond}
 use mathlib.Core.List.{List, [], ◌∷◌, ◌++◌}
-use mathlib.Core.Option.{Option, some, none, some-injective, some-ne-none}
+use mathlib.Core.Option.{some-injective, some-ne-none}
 use native.Mathlib.Omega.{arith}
 use lib.ListN.{length, get_or}
 use Rattle.text.specs.Quote.{bytes}
-use Rattle.text.specs.declared.place.Found.{Found}
-use Rattle.text.specs.declared.place.Found.TheVariants as F
 use Rattle.text.proofs.Places.{by_order}
 use Rattle.tlv.specs.Number.{Bytes}
 use Rattle.book.specs.declared.Uuid.{Uuid}
 use Rattle.book.specs.Grammar.{Range, GoodRange, range_piece, IsBook}
 use Rattle.book.proofs.Unique.{one_book}
-use Rattle.packet.specs.declared.MaybeUuid.{MaybeUuid}
-use Rattle.packet.specs.declared.MaybeUuid.TheVariants as U
-use Rattle.entry.specs.declared.optional.MaybeWord.{MaybeWord}
-use Rattle.entry.specs.declared.optional.MaybeWord.TheVariants as W
 use Rattle.packet.specs.declared.field.Ask.TheVariants as Ask
 use Rattle.packet.specs.Field.{range_in, value_in, asks}
 use Rattle.packet.specs.Steps.{values_named, exactly_four, gathered}
@@ -30,7 +25,7 @@ use Rattle.packet.specs.Packet.{maybe_uuid}
 use Rattle.questions.specs.Described.{is_read, is_write, cut, asked_at, asked, adapter_in, address_in, size_in, uuid_in}
 use Rattle.questions.specs.Questions.{refusal, answer, adapter_of, address_of, size_of, uuid_by_name, uuid_answer, start_of}
 use Rattle.meaning.specs.Packet.{Description, RangeNamed, value_of, Each, IsUuid, Holds, FoundAt, IsPacket, Refuses}
-use Rattle.meaning.specs.Call.{Applies, NoNumber, option_uuid, option_word}
+use Rattle.meaning.specs.Call.{Applies, NoNumber}
 use Rattle.meaning.specs.Questions.{Asked, Tells, Adapter, Address, Size, UuidNamed, Kept, Sentence, Question}
 use Rattle.meaning.proofs.One.{first_some, one_first, one_range, one_uuid, one_packet}
 use Rattle.meaning.proofs.Bridge.{Place, At, range_got, value_at}
@@ -54,7 +49,7 @@ module _ (ds : List ℕ) (os : List (Option Description)) where
   one_asked name v w a c =
       let f = one_found (Holds name) os a.field c.field in
       let range : a.range ≡ c.range = some-injective a.range c.range
-      (one_range name c.field.value (some a.range) (some c.range) (subst (λ o. RangeNamed name o (some a.range)) f.1 a.range_is) c.range_is) in
+      (one_range name c.field.value (Some a.range) (Some c.range) (subst (λ o. RangeNamed name o (Some a.range)) f.1 a.range_is) c.range_is) in
       a.value_is ∙ ap (λ (r : Range). value_of r (get_or ds a.at 0)) range ∙ ap (λ (n : ℕ). value_of c.range (get_or ds n 0)) f.0 ∙ sym c.value_is
 
   pub one_tells : (bits : ℕ) (name : List ℕ) → Sole (Tells ds os bits name)
@@ -67,7 +62,7 @@ module _ (ds : List ℕ) (os : List (Option Description)) where
   one_tells bits name absent (refused n) f g = absurd g
 
   pub one_uuid_named : (name : List ℕ) → Sole (UuidNamed ds os name)
-  one_uuid_named name (is u) (is v) a c = ap is (some-injective u v (one_uuid name ds os (some u) (some v) a c))
+  one_uuid_named name (is u) (is v) a c = ap is (some-injective u v (one_uuid name ds os (Some u) (Some v) a c))
   one_uuid_named name (is u) absent a c = absurd (c u a)
   one_uuid_named name absent (is v) a c = absurd (a v c)
   one_uuid_named name absent absent a c = refl
@@ -120,18 +115,18 @@ module _ (s : List ℕ) (b : IsBook s) where
       where
         found : (n : ℕ) (f : FoundAt (Holds name) os n) → (r : Option Range) → RangeNamed name f.value r → Place range_piece GoodRange s r (range_in s name (get_or ps n 0))
             → Tells ds os bits name (is (value_in s (range_in s name (get_or ps n 0)) (get_or ds n 0) % 2 ^ bits))
-        found n f (some r) h l = (
+        found n f (Some r) h l = (
           value_in s (range_in s name (get_or ps n 0)) (get_or ds n 0),
           record { at = n; field = f; range = r; range_is = h; value_is = value_at b.tables s r (range_in s name (get_or ps n 0)) (get_or ds n 0) l },
           refl,
         )
-        found n f none h l =
+        found n f None h l =
             let w = f.first.so in
-            absurd (some-ne-none w.0 (one_range name f.value (some w.0) none w.1 h))
+            absurd (some-ne-none w.0 (one_range name f.value (Some w.0) None w.1 h))
 
-        by : (f : Found) → FirstTold s b (asks Ask.Holds s name) (Holds name) (asks_holds s b name) (holds_asks s b name) os 0 f
+        by : (f : Option ℕ) → FirstTold s b (asks Ask.Holds s name) (Holds name) (asks_holds s b name) (holds_asks s b name) os 0 f
             → Tells ds os bits name (cut bits (asked_at s ds ps name f))
-        by (F.At j) t =
+        by (Some j) t =
             let here : j ≡ t.0 = omega (arith, t.1) in
             let there : At b.tables s t.2.value (get_or ps t.0 0) =
             subst (λ n. At b.tables s t.2.value (get_or ps n 0)) t.2.so_many
@@ -139,7 +134,7 @@ module _ (s : List ℕ) (b : IsBook s) where
             let g = range_got b.tables s name t.2.value (get_or ps t.0 0) there in
             subst (λ n. Tells ds os bits name (is (value_in s (range_in s name (get_or ps n 0)) (get_or ds n 0) % 2 ^ bits))) (sym here)
             (found t.0 t.2 g.value g.is g.there)
-        by F.Nothing t = t
+        by None t = t
 
 -- as many descriptions as dwords
 lined : (i : ℕ) (ds : List ℕ) (os : List (Option Description)) → length ds ≡ length os → Each (λ i d o. Unit {0}) i ds os
@@ -151,9 +146,9 @@ lined i (d ∷ ds) (o ∷ os) e = (tt, lined (suc i) ds os (omega arith))
 -- ---- questions
 
 module _ (k : ℕ) (s : List ℕ) (s-bytes : Bytes s) (ds : List ℕ) {A : Type 0} (Say : Sentence A) where
-  pub asks_exactly : (told : Told A) → ((b : IsBook s) (os : List (Option Description)) → AllAt b.tables s os (places_of k s ds) → IsPacket k b.tables ds os (option_uuid (uuid_of k s ds)) (option_word (word (view_from k s (places_of k s ds)))) → length (places_of k s ds) ≤ 256
+  pub asks_exactly : (told : Told A) → ((b : IsBook s) (os : List (Option Description)) → AllAt b.tables s os (places_of k s ds) → IsPacket k b.tables ds os (uuid_of k s ds) ((word (view_from k s (places_of k s ds)))) → length (places_of k s ds) ≤ 256
       → number_of k s (length ds) (length ds) ≡ 0
-      → Say b.tables os (option_uuid (uuid_of k s ds)) (option_word (word (view_from k s (places_of k s ds)))) told)
+      → Say b.tables os (uuid_of k s ds) ((word (view_from k s (places_of k s ds)))) told)
       → Question k s ds Say (answer k s ds told)
   unfolding answer refusal
   asks_exactly told say = by (number_of k s (length ds) (length ds)) refl
@@ -233,9 +228,9 @@ module _ (k : ℕ) (s : List ℕ) (s-bytes : Bytes s) (ds : List ℕ) where
       (four_or_none name ds os (values_named s name ds (places_of k s ds))
       (gathers b.tables s name (λ i d o. Unit {0}) 0 ds (places_of k s ds) os (lined 0 ds os (sym (all_long s b os (places_of k s ds) a ∙ length_places k s ds))) a))
     where
-      by : (u : MaybeUuid) → IsUuid name ds os (option_uuid u) → UuidNamed ds os name (maybe_uuid u)
-      by (U.Is u) h = h
-      by U.Absent h = h
+      by : (u : Option Uuid) → IsUuid name ds os (u) → UuidNamed ds os name (maybe_uuid u)
+      by (Some u) h = h
+      by None h = h
 
   pub uuid_by_name_is : (name : List ℕ) → Question k s ds (λ ts os u n. UuidNamed ds os name) (uuid_by_name k s ds name)
   unfolding uuid_by_name
@@ -249,21 +244,21 @@ module _ (k : ℕ) (s : List ℕ) (s-bytes : Bytes s) (ds : List ℕ) where
   unfolding uuid_answer
   uuid_is = asks_exactly k s s-bytes ds (λ ts os u n. Kept u) _ (λ b os a p few clear. by (uuid_of k s ds))
     where
-      by : (u : MaybeUuid) → Kept (option_uuid u) (maybe_uuid u)
-      by (U.Is u) = refl
-      by U.Absent = refl
+      by : (u : Option Uuid) → Kept (u) (maybe_uuid u)
+      by (Some u) = refl
+      by None = refl
 
   pub start_is : Question k s ds (λ ts os u n. Kept n) (start_of k s ds)
   unfolding start_of
   start_is = asks_exactly k s s-bytes ds (λ ts os u n. Kept n) _ (λ b os a p few clear. by (word (view_from k s (places_of k s ds))))
     where
-      by : (u : MaybeWord) → Kept (option_word u) (maybe_word u)
-      by (W.Is u) = refl
-      by W.Absent = refl
+      by : (u : Option ℕ) → Kept (u) (maybe_word u)
+      by (Some u) = refl
+      by None = refl
 
   one_kept : {A : Type 0} (u : Option A) → Sole (Kept u)
-  one_kept (some a) = λ x y f g. f ∙ sym g
-  one_kept none = λ x y f g. f ∙ sym g
+  one_kept (Some a) = λ x y f g. f ∙ sym g
+  one_kept None = λ x y f g. f ∙ sym g
 
   pub uuid_only : (r : Told Uuid) → Question k s ds (λ ts os u n. Kept u) r → r ≡ uuid_answer k s ds
   uuid_only r q = one_question k s ds (λ ts os u n. Kept u) (λ b os u n. one_kept u) r (uuid_answer k s ds) q uuid_is

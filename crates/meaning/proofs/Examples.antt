@@ -1,12 +1,12 @@
 -- Four packets, computed, that tell a slip in definition and code together: what describes a dword behind a latched name, the all-zero UUID, two
 -- `Packet Type` ranges in one entry, and a range named UUID. Assumes nothing.
+use Rattle.std.specs.Prelude.{None}
 use Prim.Native.Nat.{ℕ}
 use mathlib.Core.Path.{◌≡◌, refl}
 use mathlib.Core.List.{List, [], ◌∷◌, ◌++◌}
 use lib.ListN.{replicate}
 use Rattle.text.specs.Quote.{bytes}
 use Rattle.tlv.specs.Grammar.{field_bytes}
-use Rattle.packet.specs.declared.MaybeUuid.TheVariants.{Absent}
 use Rattle.packet.specs.Packet.{places_of, uuid_of}
 use Rattle.packet.proofs.Examples.{named, plain, typed, packet_type, packets_open}
 
@@ -65,7 +65,7 @@ pub record WouldNotice : Type 0 where
   -- of two ranges of one name the first counts, so nothing latches
   pub first_range_counts : places_of 8 two_types (1 ∷ 2 ∷ 3 ∷ 4 ∷ 0x0101 ∷ 7 ∷ []) ≡ 4 ∷ 16 ∷ 28 ∷ 40 ∷ 90 ∷ 158 ∷ []
   -- a range named UUID is no field of that name
-  pub range_is_no_field : uuid_of 8 range_named_uuid (1 ∷ 2 ∷ 3 ∷ 4 ∷ []) ≡ Absent
+  pub range_is_no_field : uuid_of 8 range_named_uuid (1 ∷ 2 ∷ 3 ∷ 4 ∷ []) ≡ None
 
 pub would_notice : WouldNotice
 unfolding packets_open_here

@@ -1,11 +1,11 @@
 -- The numbers of the relation are those of the packet call: on a book each condition of the one is that of the other, and both run in number order.
 -- Assumes nothing.
+use Rattle.std.specs.Prelude.{None, Some}
 use Prim.Native.Nat.{ℕ, ◌<◌}
 use mathlib.Core.Path.{◌≡◌, refl, sym, ap, subst, ◌∙◌}
 use mathlib.Core.Bool.{Bool, true, false, cond, ◌&&◌}
 use mathlib.Core.List.{List, [], ◌∷◌, ◌++◌}
 use mathlib.Core.Logic.{◌↔◌, ◌⊎◌, inl, inr}
-use mathlib.Core.Option.{some, none}
 use native.Mathlib.Omega.{arith}
 use borrow.Author.Tests.{eqb-true, ne_eqb}
 use lib.Dec.{eqb, leb}
@@ -46,13 +46,13 @@ before_none owner (x ∷ xs) t ys a e =
     (λ h. among_all (λ y. x.owner ≡ y.owner → ⊥) xs t ys a.0 (h ∙ sym e), before_none owner xs t ys a.1 e)
 
 module _ (s : List ℕ) (b : IsBook s) where
-  has_not : (owner : Owner) → HasNot s owner ↔ TableOf b.tables owner none
+  has_not : (owner : Owner) → HasNot s owner ↔ TableOf b.tables owner None
   has_not owner = (
     λ n. all_from b.tables (λ before t behind e o. n t (record { book = b; before = before; behind = behind; among = e; owner_is = o })),
     λ n t h. among_all (λ t. t.owner ≡ owner → ⊥) h.before t h.behind (subst (None (λ t. t.owner ≡ owner)) (one_book b h.book ∙ h.among) n) h.owner_is,
   )
 
-  has : (owner : Owner) (t : Table) → Has s owner t ↔ TableOf b.tables owner (some t)
+  has : (owner : Owner) (t : Table) → Has s owner t ↔ TableOf b.tables owner (Some t)
   has owner t = (
     λ h.
         let among : b.tables ≡ h.before ++ (t ∷ h.behind) = one_book b h.book ∙ h.among in
@@ -79,7 +79,7 @@ module _ (s : List ℕ) (b : IsBook s) where
     where
       by : (c d e f g h : Bool)
           → cond c (k ≡ 0) (cond d (HasNot s (kind k)) (cond e (NoHeader k s) (cond f (256 < count) (cond g (FewDwords k s count) (cond h (room < count) ⊥)))))
-          ↔ cond c (k ≡ 0) (cond d (TableOf b.tables (kind k) none) (cond e ((is_xdomain k ≡ true) × TableOf b.tables (uuid zero_uuid) none) (cond f (256 < count)
+          ↔ cond c (k ≡ 0) (cond d (TableOf b.tables (kind k) None) (cond e ((is_xdomain k ≡ true) × TableOf b.tables (uuid zero_uuid) None) (cond f (256 < count)
           (cond g (TooFew k b.tables count) (cond h (room < count) ⊥)))))
       by true d e f g h = (λ x. x, λ x. x)
       by false true e f g h = has_not (kind k)

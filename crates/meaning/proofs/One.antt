@@ -1,10 +1,11 @@
 -- The relation has one answer. Nothing here knows of bytes. Assumes nothing.
+use Rattle.std.specs.Prelude.{None, Option, Some}
 use Prim.Native.Nat.{ℕ, suc}
 use mathlib.Core.Path.{◌≡◌, refl, sym, ap, subst, ◌∙◌}
 use mathlib.Core.Bool.{Bool, true, false, cond}
 use mathlib.Core.List.{List, [], ◌∷◌, ◌++◌}
 use mathlib.Core.Logic.{inl, inr}
-use mathlib.Core.Option.{Option, some, none, some-ne-none, some-injective}
+use mathlib.Core.Option.{some-ne-none, some-injective}
 use lib.ListN.{length, get_or}
 use Rattle.text.specs.Quote.{bytes}
 use Rattle.text.proofs.Places.{by_order}
@@ -45,48 +46,48 @@ module _ {X : Type 0} (So : X → Type 0) where
   first_some {xs} {x} f n = among_all (λ y. So y → ⊥) f.before x f.behind (subst (None So) f.among n) f.so
 
   pub one_of : (xs : List X) → Single (FirstOf So xs)
-  one_of xs (some x) (some y) f g = ap some (one_first f g).0
-  one_of xs (some x) none f g = absurd (first_some f g)
-  one_of xs none (some y) f g = absurd (first_some g f)
-  one_of xs none none f g = refl
+  one_of xs (Some x) (Some y) f g = ap Some (one_first f g).0
+  one_of xs (Some x) None f g = absurd (first_some f g)
+  one_of xs None (Some y) f g = absurd (first_some g f)
+  one_of xs None None f g = refl
 
 pub one_else : {X : Type 0} {P Q : Option X → Type 0} → Single P → Single Q → Single (Else P Q)
-one_else p q (some x) (some y) (inl f) (inl g) = p (some x) (some y) f g
-one_else p q (some x) (some y) (inl f) (inr g) = absurd (some-ne-none x (p (some x) none f g.0))
-one_else p q (some x) (some y) (inr f) (inl g) = absurd (some-ne-none y (p (some y) none g f.0))
-one_else p q (some x) (some y) (inr f) (inr g) = q (some x) (some y) f.1 g.1
-one_else p q (some x) none (inl f) g = absurd (some-ne-none x (p (some x) none f g.0))
-one_else p q (some x) none (inr f) g = q (some x) none f.1 g.1
-one_else p q none (some y) f (inl g) = absurd (some-ne-none y (p (some y) none g f.0))
-one_else p q none (some y) f (inr g) = q none (some y) f.1 g.1
-one_else p q none none f g = refl
+one_else p q (Some x) (Some y) (inl f) (inl g) = p (Some x) (Some y) f g
+one_else p q (Some x) (Some y) (inl f) (inr g) = absurd (some-ne-none x (p (Some x) None f g.0))
+one_else p q (Some x) (Some y) (inr f) (inl g) = absurd (some-ne-none y (p (Some y) None g f.0))
+one_else p q (Some x) (Some y) (inr f) (inr g) = q (Some x) (Some y) f.1 g.1
+one_else p q (Some x) None (inl f) g = absurd (some-ne-none x (p (Some x) None f g.0))
+one_else p q (Some x) None (inr f) g = q (Some x) None f.1 g.1
+one_else p q None (Some y) f (inl g) = absurd (some-ne-none y (p (Some y) None g f.0))
+one_else p q None (Some y) f (inr g) = q None (Some y) f.1 g.1
+one_else p q None None f g = refl
 
 pub one_taken : (So : Entry → Type 0) (t : Table) → Single (Taken So t)
-one_taken So t (some d) (some e) f g =
+one_taken So t (Some d) (Some e) f g =
     let owner : d.owner ≡ e.owner = f.0 ∙ sym g.0 in
     let entry : d.entry ≡ e.entry = (one_first So f.1 g.1).0 in
-    ap some (λ i. record { owner = owner i; entry = entry i })
-one_taken So t (some d) none f g = absurd (first_some So f.1 g)
-one_taken So t none (some e) f g = absurd (first_some So g.1 f)
-one_taken So t none none f g = refl
+    ap Some (λ i. record { owner = owner i; entry = entry i })
+one_taken So t (Some d) None f g = absurd (first_some So f.1 g)
+one_taken So t None (Some e) f g = absurd (first_some So g.1 f)
+one_taken So t None None f g = refl
 
 pub one_range : (name : List ℕ) (o : Option Description) → Single (RangeNamed name o)
 one_range name o = one_of (λ q. q.name ≡ name) (ranges_of o)
 
 -- the book's row for the value of a range that may be there
 abbrev pub ValueNamed : Option Range → ℕ → Option Value → Type 0
-ValueNamed (some r) dword v = ValueNumbered r (value_of r dword) v
-ValueNamed none dword v = v ≡ none
+ValueNamed (Some r) dword v = ValueNumbered r (value_of r dword) v
+ValueNamed None dword v = v ≡ None
 
 pub one_value : (r : Option Range) (dword : ℕ) → Single (ValueNamed r dword)
-one_value (some r) dword = one_of (λ w. w.number ≡ value_of r dword) r.values
-one_value none dword = λ a b f g. f ∙ sym g
+one_value (Some r) dword = one_of (λ w. w.number ≡ value_of r dword) r.values
+one_value None dword = λ a b f g. f ∙ sym g
 
 pub one_type : (o : Option Description) (dword : ℕ) (n m : List ℕ) → TypeNamed o dword n → TypeNamed o dword m → n ≡ m
 one_type o dword n m a b =
-    let range : a.range ≡ b.range = some-injective a.range b.range (one_range (bytes "Packet Type") o (some a.range) (some b.range) a.range_is b.range_is) in
-    let there : ValueNamed (some b.range) dword (some a.value) = subst (λ r. ValueNamed (some r) dword (some a.value)) range a.value_is in
-    let value : a.value ≡ b.value = some-injective a.value b.value (one_value (some b.range) dword (some a.value) (some b.value) there b.value_is) in
+    let range : a.range ≡ b.range = some-injective a.range b.range (one_range (bytes "Packet Type") o (Some a.range) (Some b.range) a.range_is b.range_is) in
+    let there : ValueNamed (Some b.range) dword (Some a.value) = subst (λ r. ValueNamed (Some r) dword (Some a.value)) range a.value_is in
+    let value : a.value ≡ b.value = some-injective a.value b.value (one_value (Some b.range) dword (Some a.value) (Some b.value) there b.value_is) in
     sym a.name_is ∙ ap (λ (v : Value). v.name) value ∙ b.name_is
 
 -- ---- each dword
@@ -111,40 +112,40 @@ one_gather name ds os l m (Gathers.other n f) (Gathers.one n' g) = absurd (n n')
 one_gather name ds os l m (Gathers.other n f) (Gathers.other n' g) = one_gather name _ _ _ _ f g
 
 pub one_uuid : (name ds : List ℕ) (os : List (Option Description)) → Single (IsUuid name ds os)
-one_uuid name ds os (some u) (some v) f g =
+one_uuid name ds os (Some u) (Some v) f g =
     let l : four u ≡ four v = one_gather name ds os (four u) (four v) f g in
     let a : u.first ≡ v.first = cc in
     let b : u.second ≡ v.second = cc in
     let c : u.third ≡ v.third = cc in
     let d : u.fourth ≡ v.fourth = cc in
-    ap some (λ i. record { first = a i; second = b i; third = c i; fourth = d i })
-one_uuid name ds os (some u) none f g = absurd (g u f)
-one_uuid name ds os none (some v) f g = absurd (f v g)
-one_uuid name ds os none none f g = refl
+    ap Some (λ i. record { first = a i; second = b i; third = c i; fourth = d i })
+one_uuid name ds os (Some u) None f g = absurd (g u f)
+one_uuid name ds os None (Some v) f g = absurd (f v g)
+one_uuid name ds os None None f g = refl
 
 -- ---- the latch
 
 module _ (ds : List ℕ) (before : ℕ → Option Description → Type 0) (one-before : (i : ℕ) → Single (before i)) (protocol : Table) where
   pub one_fits : (l : Option (List ℕ)) (i : ℕ) → Single (Fits ds before protocol l i)
-  one_fits l i = one_else (one_taken (OfType i l) protocol) (one_taken (OfType i none) protocol)
+  one_fits l i = one_else (one_taken (OfType i l) protocol) (one_taken (OfType i None) protocol)
 
   pub one_takes : (l : Option (List ℕ)) (i : ℕ) → Single (Takes ds before protocol l i)
   one_takes l i = one_else (one-before i) (one_fits l i)
 
   pub one_latch : (j : ℕ) (n m : List ℕ) → Latches ds before protocol j n → Latches ds before protocol j m → n ≡ m
   one_latch j n m a b =
-      let same : a.described ≡ b.described = one_takes none j a.described b.described a.describes b.describes in
+      let same : a.described ≡ b.described = one_takes None j a.described b.described a.describes b.describes in
       one_type b.described (get_or ds j 0) n m (subst (λ o. TypeNamed o (get_or ds j 0) n) same a.named) b.named
 
   pub one_governs : (i : ℕ) → Single (Governs ds before protocol i)
-  one_governs i (some n) (some m) f g =
+  one_governs i (Some n) (Some m) f g =
       by_order f.0 g.0
       (λ h. absurd (g.3 f.0 h n f.2))
-      (λ e. ap some (one_latch g.0 n m (subst (λ j. Latches ds before protocol j n) e f.2) g.2))
+      (λ e. ap Some (one_latch g.0 n m (subst (λ j. Latches ds before protocol j n) e f.2) g.2))
       (λ h. absurd (f.3 g.0 h m g.2))
-  one_governs i (some n) none f g = absurd (g f.0 f.1 n f.2)
-  one_governs i none (some m) f g = absurd (f g.0 g.1 m g.2)
-  one_governs i none none f g = refl
+  one_governs i (Some n) None f g = absurd (g f.0 f.1 n f.2)
+  one_governs i None (Some m) f g = absurd (f g.0 g.1 m g.2)
+  one_governs i None None f g = refl
 
   pub one_three : (i : ℕ) → Single (StepThree ds before protocol i)
   one_three i a b f g =
@@ -155,34 +156,34 @@ pub one_control : (control : Table) (i : ℕ) → Single (Control control i)
 one_control control i = one_taken (OfOffset i) control
 
 pub one_step : (control header : Table) (i : ℕ) → Single (StepOne control header i)
-one_step control header i = one_else (one_control control i) (one_taken (OfType i none) header)
+one_step control header i = one_else (one_control control i) (one_taken (OfType i None) header)
 
 pub one_behind : (ds : List ℕ) (before : ℕ → Option Description → Type 0) → ((i : ℕ) → Single (before i)) → (t : Option Table) (i : ℕ) → Single (Behind ds before t i)
-one_behind ds before one (some t) = one_three ds before one t
-one_behind ds before one none = one
+one_behind ds before one (Some t) = one_three ds before one t
+one_behind ds before one None = one
 
 pub one_table : (tables : List Table) (owner : Owner) → Single (TableOf tables owner)
 one_table tables owner = one_of (λ t. t.owner ≡ owner) tables
 
 pub one_protocol : (tables : List Table) (u : Option Uuid) → Single (ProtocolTable tables u)
-one_protocol tables (some u) = one_table tables (uuid u)
-one_protocol tables none = λ a b f g. f ∙ sym g
+one_protocol tables (Some u) = one_table tables (uuid u)
+one_protocol tables None = λ a b f g. f ∙ sym g
 
 -- ---- the view
 
 pub one_after : (So : Option Description → Type 0) (os : List (Option Description)) → Single (JustAfter So os)
-one_after So os (some n) (some m) f g =
-    ap some (f.2 ∙ ap suc (sym f.1.so_many ∙ ap length (one_first So f.1.first g.1.first).1 ∙ g.1.so_many) ∙ sym g.2)
-one_after So os (some n) none f g = absurd (first_some So f.1.first g)
-one_after So os none (some m) f g = absurd (first_some So g.1.first f)
-one_after So os none none f g = refl
+one_after So os (Some n) (Some m) f g =
+    ap Some (f.2 ∙ ap suc (sym f.1.so_many ∙ ap length (one_first So f.1.first g.1.first).1 ∙ g.1.so_many) ∙ sym g.2)
+one_after So os (Some n) None f g = absurd (first_some So f.1.first g)
+one_after So os None (Some m) f g = absurd (first_some So g.1.first f)
+one_after So os None None f g = refl
 
 pub one_view : (k : ℕ) (control : Table) (os : List (Option Description)) → Single (View k control os)
 one_view k control os a b = by (is_read_response_or_write_request k) (is_xdomain k)
   where
     by : (v c : Bool)
-        → cond v (a ≡ some (length control.entries)) (cond c (JustAfter (Holds (bytes "Properties Block Generation")) os a) (a ≡ none))
-        → cond v (b ≡ some (length control.entries)) (cond c (JustAfter (Holds (bytes "Properties Block Generation")) os b) (b ≡ none))
+        → cond v (a ≡ Some (length control.entries)) (cond c (JustAfter (Holds (bytes "Properties Block Generation")) os a) (a ≡ None))
+        → cond v (b ≡ Some (length control.entries)) (cond c (JustAfter (Holds (bytes "Properties Block Generation")) os b) (b ≡ None))
         → a ≡ b
     by true c f g = f ∙ sym g
     by false true f g = one_after (Holds (bytes "Properties Block Generation")) os a b f g
@@ -198,7 +199,7 @@ pub record Alike (os qs : List (Option Description)) (u v : Option Uuid) : Type 
 one_goes : (tables : List Table) (control : Table) (ds : List ℕ) {os qs : List (Option Description)} {u v : Option Uuid}
     → GoesOn tables control ds os u → GoesOn tables control ds qs v → Alike os qs u v
 one_goes tables control ds {os} {qs} {u} {v} f g =
-    let header : f.header ≡ g.header = some-injective f.header g.header (one_table tables (uuid zero_uuid) (some f.header) (some g.header) f.header_is g.header_is) in
+    let header : f.header ≡ g.header = some-injective f.header g.header (one_table tables (uuid zero_uuid) (Some f.header) (Some g.header) f.header_is g.header_is) in
     let first : f.first ≡ g.first = one_each (λ i d. StepOne control g.header i) (λ i d. one_step control g.header i) 0 ds f.first g.first
     (subst (λ h. Each (λ i d. StepOne control h i) 0 ds f.first) header f.first_are) g.first_are in
     let same : u ≡ v = one_uuid (bytes "UUID") ds g.first u v (subst (λ l. IsUuid (bytes "UUID") ds l u) first f.uuid_is) g.uuid_is in
@@ -221,7 +222,7 @@ one_stays control ds {os} {qs} f g =
 pub one_packet : (k : ℕ) (tables : List Table) (ds : List ℕ) {os qs : List (Option Description)} {u v : Option Uuid} {n m : Option ℕ}
     → IsPacket k tables ds os u n → IsPacket k tables ds qs v m → (os ≡ qs) × (u ≡ v) × (n ≡ m)
 one_packet k tables ds {os} {qs} {u} {v} {n} {m} f g =
-    let control : f.control ≡ g.control = some-injective f.control g.control (one_table tables (kind k) (some f.control) (some g.control) f.control_is g.control_is) in
+    let control : f.control ≡ g.control = some-injective f.control g.control (one_table tables (kind k) (Some f.control) (Some g.control) f.control_is g.control_is) in
     let same : Alike os qs u v = by (is_xdomain k) (subst (λ t. cond (is_xdomain k) (GoesOn tables t ds os u) (Stays t ds os u)) control f.described) g.described in
     (same.described, same.uuid, one_view k g.control qs n m (subst (λ l. View k g.control l n) same.described (subst (λ t. View k t os n) control f.view)) g.view)
   where

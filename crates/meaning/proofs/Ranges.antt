@@ -1,11 +1,12 @@
 -- The calls of `field` say what the description has: its place is that of its entry, and what is found inside stands behind what comes before it.
 -- Assumes nothing.
+use Rattle.std.specs.Prelude.{None, Option, Some}
 use Prim.Native.Nat.{ℕ, zero, suc, ◌+◌, ◌≤◌, ◌<◌}
 use mathlib.Core.Path.{◌≡◌, refl, sym, ap, subst, ◌∙◌}
 use mathlib.Core.Bool.{Bool, true, false}
 use mathlib.Core.List.{List, [], ◌∷◌, ◌++◌, map}
 use mathlib.Core.Logic.{◌⊎◌, inl, inr}
-use mathlib.Core.Option.{Option, some, none, some-injective}
+use mathlib.Core.Option.{some-injective}
 use native.Mathlib.Omega.{arith}
 use borrow.Author.Tests.{ltb-true, ltb-false}
 use lib.Dec.{ltb}
@@ -62,7 +63,7 @@ split {X} (x ∷ l) (suc k) h =
 module _ (s : List ℕ) (b : IsBook s) (d : Description) (dword : ℕ) where
   range_answer : (before : List Range) (r : Range) (q : ℕ) → Stood range_piece GoodRange s r q → RangeStands b.tables d before q
       → (low high value : ℕ) → low ≡ get_or s (q + 3) 0 → high ≡ get_or s (q + 4) 0 → value ≡ value_in s q dword
-      → IsRange b.tables (some d) dword before r (record { low = low; high = high; value = value; place = record { at = q } })
+      → IsRange b.tables (Some d) dword before r (record { low = low; high = high; value = value; place = record { at = q } })
   range_answer before r q a stands low high value l h v =
       record {
         description = d;
@@ -78,42 +79,42 @@ module _ (s : List ℕ) (b : IsBook s) (d : Description) (dword : ℕ) where
 module _ (s : List ℕ) (b : IsBook s) where
   -- the place of a field's source is that of its description
   pub source_place : (o : Option Description) (x : Source) → IsSource b.tables o x → PlaceOf b.tables o (place_in x)
-  source_place (some d) (S.Control p) h = h.2
-  source_place (some d) (S.Header p) h = h.1
-  source_place (some d) (S.Protocol p) h = h.3
-  source_place (some d) S.Bare h = absurd h
-  source_place none (S.Control p) h = absurd h
-  source_place none (S.Header p) h = absurd h
-  source_place none (S.Protocol p) h = absurd h
-  source_place none S.Bare h = refl
+  source_place (Some d) (S.Control p) h = h.2
+  source_place (Some d) (S.Header p) h = h.1
+  source_place (Some d) (S.Protocol p) h = h.3
+  source_place (Some d) S.Bare h = absurd h
+  source_place None (S.Control p) h = absurd h
+  source_place None (S.Header p) h = absurd h
+  source_place None (S.Protocol p) h = absurd h
+  source_place None S.Bare h = refl
 
   -- what stands at a place is read there
   place_at : (o : Option Description) (q : ℕ) → PlaceOf b.tables o q → At b.tables s o q
-  place_at (some d) q h = located s b d q h
-  place_at none q h = h
+  place_at (Some d) q h = located s b d q h
+  place_at None q h = h
 
   name_says : (o : Option Description) (q : ℕ) → At b.tables s o q → NameOf o (name_in s q)
-  name_says (some d) q a = name_at b.tables s (some d) q a
-  name_says none q a = name_at b.tables s none q a
+  name_says (Some d) q a = name_at b.tables s (Some d) q a
+  name_says None q a = name_at b.tables s None q a
 
   count_says : (o : Option Description) (q : ℕ) → At b.tables s o q → RangeCount o (inside (count_inside s) q)
-  count_says (some d) q a =
+  count_says (Some d) q a =
       inside_some (count_inside s) q (λ e. absurd (omega (arith, a.stood.some_place, e)))
       ∙ count_ranges_is s d.entry q a.stood.good a.stood.stands
-  count_says none q a = inside_none (count_inside s) q a
+  count_says None q a = inside_none (count_inside s) q a
 
   module _ (dword : ℕ) where
     nth_says : (o : Option Description) (q : ℕ) → At b.tables s o q → (k : ℕ)
         → RangeAt b.tables o dword k (range_at s (inside (λ e. finders.nth_range s e k) q) dword)
     unfolding range_at
-    nth_says none q a k = rw (inside_none (λ e. finders.nth_range s e k) q a) (omega arith)
-    nth_says (some d) q a k = by (ltb k (length d.entry.ranges)) refl
+    nth_says None q a k = rw (inside_none (λ e. finders.nth_range s e k) q a) (omega arith)
+    nth_says (Some d) q a k = by (ltb k (length d.entry.ranges)) refl
       where
         found : inside (λ e. finders.nth_range s e k) q ≡ finders.nth_range s q k
         found = inside_some (λ e. finders.nth_range s e k) q (λ e. absurd (omega (arith, a.stood.some_place, e)))
 
         answered : (p : ℕ) → finders.nth_range s q k ≡ p → (w : Split d.entry.ranges k) → Stood range_piece GoodRange s w.value p
-            → RangeStands b.tables d w.before p → RangeAt b.tables (some d) dword k (range_at s p dword)
+            → RangeStands b.tables d w.before p → RangeAt b.tables (Some d) dword k (range_at s p dword)
         answered zero e w stood stands = absurd (omega (arith, stood.some_place))
         answered (suc p) e w stood stands =
             record {
@@ -130,7 +131,7 @@ module _ (s : List ℕ) (b : IsBook s) where
             let n : ℕ = finders.nth_range s q k in
             let u : List ℕ = take a.stood.stands.part.to s in
             let back : List ℕ = fields_bytes (map range_piece (w.value ∷ w.behind)) in
-            let some : 0 < length back = some_bytes range_piece w.value w.behind in
+            let Some : 0 < length back = some_bytes range_piece w.value w.behind in
             let found : drop (finders.nth_range s q (length w.before)) u ≡ back =
             nth_range_is s d.entry q a.stood.good a.stood.stands w.before w.value w.behind w.among in
             let here : drop n u ≡ back = subst (λ m. drop (finders.nth_range s q m) u ≡ back) w.so_many found in
@@ -139,10 +140,10 @@ module _ (s : List ℕ) (b : IsBook s) where
             record {
               entry_place = q;
               entry_stands = a.stands;
-              place_is = omega (arith, drop_place n u back here some, drop_place (q + 3 + entry_up_to d.entry w.before) u back rest some);
+              place_is = omega (arith, drop_place n u back here Some, drop_place (q + 3 + entry_up_to d.entry w.before) u back rest Some);
             }
 
-        by : (c : Bool) → ltb k (length d.entry.ranges) ≡ c → RangeAt b.tables (some d) dword k (range_at s (inside (λ e. finders.nth_range s e k) q) dword)
+        by : (c : Bool) → ltb k (length d.entry.ranges) ≡ c → RangeAt b.tables (Some d) dword k (range_at s (inside (λ e. finders.nth_range s e k) q) dword)
         by true h =
             let w = split d.entry.ranges k (ltb-true k (length d.entry.ranges) h) in
             let stands = there w in
@@ -156,11 +157,11 @@ module _ (s : List ℕ) (b : IsBook s) where
     named_says : (o : Option Description) (q : ℕ) → At b.tables s o q → (name : List ℕ)
         → RangeOfName b.tables o dword name (range_at s (range_in s name q) dword)
     unfolding range_at range_in
-    named_says none q a name = rw (inside_none (λ e. finders.range_of_name s e name) q a) tt
-    named_says (some d) q a name = by (range_in s name q) (range_placed s b name d q a)
+    named_says None q a name = rw (inside_none (λ e. finders.range_of_name s e name) q a) tt
+    named_says (Some d) q a name = by (range_in s name q) (range_placed s b name d q a)
       where
         by : (p : ℕ) → ((p ≡ 0) × None (λ r. r.name ≡ name) d.entry.ranges) ⊎ RangeHere s b name d q a p
-            → RangeOfName b.tables (some d) dword name (range_at s p dword)
+            → RangeOfName b.tables (Some d) dword name (range_at s p dword)
         by zero (inl h) = h.1
         by zero (inr h) = absurd (omega (arith, h.stood.some_place))
         by (suc p) (inl h) = absurd (omega (arith, h.0))
@@ -255,7 +256,7 @@ module _ (s : List ℕ) (b : IsBook s) where
       → NameSays s 8 p (text_of d.entry.name) span
   entry_name_span d p f =
       let a = located s b d p f in
-      name_span s p (text_of d.entry.name) (name_at b.tables s (some d) p a) 8
+      name_span s p (text_of d.entry.name) (name_at b.tables s (Some d) p a) 8
       (ap before_name (tag_there entry_piece s d.entry p a.stood.stands))
 
   pub range_name_span : (d : Description) (before : List Range) (range : Range) (behind : List Range) → d.entry.ranges ≡ before ++ (range ∷ behind)

@@ -1,16 +1,15 @@
 -- Which table a description comes from: the test by places tells the owner of its table. Assumes nothing.
+use Rattle.std.specs.Prelude.{None, Option, Some}
 use Prim.Native.Nat.{ℕ, zero, suc, ◌+◌, ◌≤◌, ◌<◌}
 use mathlib.Core.Path.{◌≡◌, refl, sym, ap, subst, ◌∙◌}
 use mathlib.Core.Bool.{Bool, true, false, cond, false≢true}
 use mathlib.Core.List.{List, [], ◌∷◌, ◌++◌, map}
 use mathlib.Core.Logic.{◌⊎◌, inl, inr}
-use mathlib.Core.Option.{Option, some, none, some-ne-none}
+use mathlib.Core.Option.{some-ne-none}
 use native.Mathlib.Omega.{arith}
 use borrow.Author.Tests.{leb-true, le-leb, ltb-true, lt-ltb}
 use lib.Dec.{leb, ltb}
 use lib.ListN.{length, length-append}
-use Rattle.text.specs.declared.place.Found.{Found}
-use Rattle.text.specs.declared.place.Found.TheVariants as F
 use Rattle.tlv.specs.Grammar.{All, Apart, field_bytes, fields_bytes}
 use Rattle.tlv.proofs.Pieces.{both_true}
 use Rattle.book.specs.declared.Uuid.{Uuid}
@@ -80,7 +79,7 @@ module _ (s : List ℕ) (b : IsBook s) (d : Description) (q : ℕ) (f : Stands b
       omega (arith, f.place_is, size, some_bytes entry_piece d.entry f.entries_behind)
 
   module _ (t : Table) (p : ℕ) (a : TableAt b.tables s t p) where
-    in_true : stands_in s (F.At p) q ≡ true → d.owner ≡ t.owner
+    in_true : stands_in s (Some p) q ≡ true → d.owner ≡ t.owner
     unfolding stands_in start
     in_true e =
         let w = both_true (leb (p + 3) q) (ltb q (p + 3 + length (table_piece t).body)) (rw a.reads at e) in
@@ -93,7 +92,7 @@ module _ (s : List ℕ) (b : IsBook s) (d : Description) (q : ℕ) (f : Stands b
         by low high (Order.before m z) = absurd (omega (arith, low, upto, a.here, ap start z, start_past f.before f.table m))
         by low high (Order.behind m z) = absurd (omega (arith, high, from, a.here, ap start z, start_past a.before t m))
 
-    in_own : d.owner ≡ t.owner → stands_in s (F.At p) q ≡ true
+    in_own : d.owner ≡ t.owner → stands_in s (Some p) q ≡ true
     unfolding stands_in start
     in_own e =
         let ours : None (λ u. u.owner ≡ d.owner) a.before =
@@ -106,33 +105,33 @@ module _ (s : List ℕ) (b : IsBook s) (d : Description) (q : ℕ) (f : Stands b
         rw (a.reads, le-leb (p + 3) q (omega (arith, here, from)), lt-ltb q (p + 3 + length (table_piece t).body) (omega (arith, here, upto, size)))
 
   -- by a table that may be there
-  pub told_in : (w : Owner) (g : Found) (t : Option Table) → TableOf b.tables w t → Sits s b t g → (c : Bool) → stands_in s g q ≡ c → cond c (d.owner ≡ w) (d.owner ≡ w → ⊥)
+  pub told_in : (w : Owner) (g : Option ℕ) (t : Option Table) → TableOf b.tables w t → Sits s b t g → (c : Bool) → stands_in s g q ≡ c → cond c (d.owner ≡ w) (d.owner ≡ w → ⊥)
   unfolding stands_in
-  told_in w (F.At p) (some t) is a true e = in_true t p a e ∙ is.so
-  told_in w (F.At p) (some t) is a false e = λ h. false≢true (sym e ∙ in_own t p a (h ∙ sym is.so))
-  told_in w (F.At p) none is a c e = absurd a
-  told_in w F.Nothing (some t) is a c e = absurd a
-  told_in w F.Nothing none is a true e = absurd (false≢true e)
-  told_in w F.Nothing none is a false e =
+  told_in w (Some p) (Some t) is a true e = in_true t p a e ∙ is.so
+  told_in w (Some p) (Some t) is a false e = λ h. false≢true (sym e ∙ in_own t p a (h ∙ sym is.so))
+  told_in w (Some p) None is a c e = absurd a
+  told_in w None (Some t) is a c e = absurd a
+  told_in w None None is a true e = absurd (false≢true e)
+  told_in w None None is a false e =
       λ h. among_all (λ u. u.owner ≡ w → ⊥) f.before f.table f.behind (subst (None (λ u. u.owner ≡ w)) f.among is) (sym f.owner_is ∙ h)
 
 -- ---- whose table a packet's description comes from
 
 -- the kind's own, or a UUID's
 abbrev pub Owned : ℕ → Option Description → Type 0
-Owned k (some d) = (d.owner ≡ kind k) ⊎ ((u : Uuid) × (d.owner ≡ uuid u))
-Owned k none = Unit {0}
+Owned k (Some d) = (d.owner ≡ kind k) ⊎ ((u : Uuid) × (d.owner ≡ uuid u))
+Owned k None = Unit {0}
 
 taken_owned : (k : ℕ) (So : Entry → Type 0) (t : Table) → (t.owner ≡ kind k) ⊎ ((u : Uuid) × (t.owner ≡ uuid u)) → (o : Option Description) → Taken So t o → Owned k o
-taken_owned k So t (inl e) (some d) h = inl (h.0 ∙ e)
-taken_owned k So t (inr e) (some d) h = inr (e.0, h.0 ∙ e.1)
-taken_owned k So t w none h = tt
+taken_owned k So t (inl e) (Some d) h = inl (h.0 ∙ e)
+taken_owned k So t (inr e) (Some d) h = inr (e.0, h.0 ∙ e.1)
+taken_owned k So t w None h = tt
 
 else_owned : (k : ℕ) {P Q : Option Description → Type 0} → ((o : Option Description) → P o → Owned k o) → ((o : Option Description) → Q o → Owned k o)
     → (o : Option Description) → Else P Q o → Owned k o
-else_owned k p q (some d) (inl h) = p (some d) h
-else_owned k p q (some d) (inr h) = q (some d) h.1
-else_owned k p q none h = tt
+else_owned k p q (Some d) (inl h) = p (Some d) h
+else_owned k p q (Some d) (inr h) = q (Some d) h.1
+else_owned k p q None h = tt
 
 each_all : {P : ℕ → ℕ → Option Description → Type 0} {Q : Option Description → Type 0} → ((i d : ℕ) (o : Option Description) → P i d o → Q o)
     → (i : ℕ) (ds : List ℕ) (os : List (Option Description)) → Each P i ds os → All Q os
@@ -146,10 +145,10 @@ step_owned k control header c h i = else_owned k (taken_owned k _ control (inl c
 
 behind_owned : (k : ℕ) (tables : List Table) (ds : List ℕ) (before : ℕ → Option Description → Type 0) → ((i : ℕ) (o : Option Description) → before i o → Owned k o)
     → (u : Option Uuid) (t : Option Table) → ProtocolTable tables u t → (i : ℕ) (o : Option Description) → Behind ds before t i o → Owned k o
-behind_owned k tables ds known f (some u) (some t) is i o h =
+behind_owned k tables ds known f (Some u) (Some t) is i o h =
     else_owned k (f i) (else_owned k (taken_owned k _ t (inr (u, is.so))) (taken_owned k _ t (inr (u, is.so)))) o h.takes
-behind_owned k tables ds known f none (some t) is i o h = absurd (some-ne-none t is)
-behind_owned k tables ds known f u none is i o h = f i o h
+behind_owned k tables ds known f None (Some t) is i o h = absurd (some-ne-none t is)
+behind_owned k tables ds known f u None is i o h = f i o h
 
 pub packet_owned : (k : ℕ) (tables : List Table) (ds : List ℕ) (os : List (Option Description)) (u : Option Uuid) (n : Option ℕ) → IsPacket k tables ds os u n → All (Owned k) os
 packet_owned k tables ds os u n p = by (is_xdomain k) p.described
@@ -167,10 +166,10 @@ kind_uuid k u e = let z : ◌≡◌ {A = ℕ} 0 1 = cc in omega arith
 module _ (s : List ℕ) (b : IsBook s) (k : ℕ) where
   pub source_told : (o : Option Description) (q : ℕ) → At b.tables s o q → Owned k o → IsSource b.tables o (source_of k s q)
   unfolding source_of
-  source_told none zero a w = tt
-  source_told none (suc q) a w = absurd (omega (arith, a))
-  source_told (some d) zero a w = absurd (omega (arith, a.stood.some_place))
-  source_told (some d) (suc q) a w =
+  source_told None zero a w = tt
+  source_told None (suc q) a w = absurd (omega (arith, a))
+  source_told (Some d) zero a w = absurd (omega (arith, a.stood.some_place))
+  source_told (Some d) (suc q) a w =
       let c = control_table_got s b k in
       let h = uuid_table_got s b zero_uuid in
       by (stands_in s (control_table s k) (suc q)) (told_in s b d (suc q) a.stands (kind k) (control_table s k) c.value c.is c.there (stands_in s (control_table s k) (suc q)) refl)
@@ -178,8 +177,8 @@ module _ (s : List ℕ) (b : IsBook s) (k : ℕ) where
       w
     where
       by : (x : Bool) → cond x (d.owner ≡ kind k) (d.owner ≡ kind k → ⊥) → (y : Bool) → cond y (d.owner ≡ uuid zero_uuid) (d.owner ≡ uuid zero_uuid → ⊥)
-          → Owned k (some d)
-          → IsSource b.tables (some d) (cond x (S.Control (record { at = suc q })) (cond y (S.Header (record { at = suc q })) (S.Protocol (record { at = suc q }))))
+          → Owned k (Some d)
+          → IsSource b.tables (Some d) (cond x (S.Control (record { at = suc q })) (cond y (S.Header (record { at = suc q })) (S.Protocol (record { at = suc q }))))
       by true x y h w = (k, x, a.stands)
       by false x true h w = (h, a.stands)
       by false x false h (inl e) = absurd (x e)

@@ -1,35 +1,30 @@
 -- The data view is the dwords from its start onward: a start lies within the dwords, so what is dropped is what stands before it.
 -- Assumes nothing.
+use Rattle.std.specs.Prelude.{None, Option, Some}
 use Prim.Native.Nat.{ℕ, zero, suc, ◌%◌, ◌≤◌}
 use mathlib.Core.Path.{◌≡◌, refl, sym, ap, ◌∙◌}
 use mathlib.Core.List.{List, [], ◌∷◌, ◌++◌}
 use mathlib.Core.Logic.{◌↔◌}
-use mathlib.Core.Option.{Option, some, none}
 use native.Mathlib.Omega.{arith}
 use lib.ListN.{length, take, drop, length-take, take-append-drop, length-append}
-use Rattle.text.specs.declared.place.Found.{Found}
-use Rattle.text.specs.declared.place.Found.TheVariants as F
 use Rattle.tlv.specs.Number.{Bytes}
-use Rattle.entry.specs.declared.optional.MaybeWord.{MaybeWord}
-use Rattle.entry.specs.declared.optional.MaybeWord.TheVariants as W
 use Rattle.packet.specs.Packet.{number_of, places_of, view_from, word}
 use Rattle.text.specs.Told.{Told, is, absent, refused, unless}
 use Rattle.entry.specs.Entry.{maybe_word}
 use Rattle.questions.specs.Questions.{refusal, answer, start_of, view_at, view_of}
 use Rattle.questions.proofs.Views.{start_within}
-use Rattle.meaning.specs.Call.{option_word}
 use Rattle.meaning.specs.Questions.{FromOnward, ViewTold, handed_out, Question}
 use Rattle.meaning.proofs.Asking.{Sole, asks_exactly, one_question}
 
 -- the view of a start
-abbrev view_in : List ℕ → MaybeWord → Told (List ℕ)
-view_in ds (W.Is n) = is (drop n ds)
-view_in ds W.Absent = absent
+abbrev view_in : List ℕ → Option ℕ → Told (List ℕ)
+view_in ds (Some n) = is (drop n ds)
+view_in ds None = absent
 
-view_says : (ds : List ℕ) (w : MaybeWord) → ((n : ℕ) → w ≡ W.Is n → n ≤ length ds) → ViewTold ds (option_word w) (view_in ds w)
-view_says ds (W.Is n) within =
+view_says : (ds : List ℕ) (w : Option ℕ) → ((n : ℕ) → w ≡ Some n → n ≤ length ds) → ViewTold ds (w) (view_in ds w)
+view_says ds (Some n) within =
     record { front = take n ds; dwords = sym (take-append-drop n ds); so_many = (let h : n ≤ length ds = within n refl in omega (arith, length-take n ds, h)) }
-view_says ds W.Absent within = refl
+view_says ds None within = refl
 
 one_onward : (a c v w : List ℕ) → a ++ v ≡ c ++ w → length a ≡ length c → v ≡ w
 one_onward [] [] v w e n = e
@@ -38,13 +33,13 @@ one_onward (x ∷ a) [] v w e n = absurd (omega arith)
 one_onward (x ∷ a) (y ∷ c) v w e n = let tails : a ++ v ≡ c ++ w = cc in one_onward a c v w tails (omega arith)
 
 one_view_told : (ds : List ℕ) (start : Option ℕ) → Sole (ViewTold ds start)
-one_view_told ds (some n) (is v) (is w) f g =
+one_view_told ds (Some n) (is v) (is w) f g =
     ap is (one_onward f.front g.front v w (sym f.dwords ∙ g.dwords) (f.so_many ∙ sym g.so_many))
-one_view_told ds (some n) (is v) absent f g = absurd g
-one_view_told ds (some n) (is v) (refused k) f g = absurd g
-one_view_told ds (some n) absent c f g = absurd f
-one_view_told ds (some n) (refused k) c f g = absurd f
-one_view_told ds none a c f g = f ∙ sym g
+one_view_told ds (Some n) (is v) absent f g = absurd g
+one_view_told ds (Some n) (is v) (refused k) f g = absurd g
+one_view_told ds (Some n) absent c f g = absurd f
+one_view_told ds (Some n) (refused k) c f g = absurd f
+one_view_told ds None a c f g = f ∙ sym g
 
 module _ (k : ℕ) (s : List ℕ) (s-bytes : Bytes s) (ds : List ℕ) where
   view_answer : Told (List ℕ)
@@ -56,20 +51,20 @@ module _ (k : ℕ) (s : List ℕ) (s-bytes : Bytes s) (ds : List ℕ) where
       asks_exactly k s s-bytes ds (λ ts os u n. ViewTold ds n) _
       (λ b os a p few clear. view_says ds (word (view_from k s (places_of k s ds))) (within clear))
     where
-      within : number_of k s (length ds) (length ds) ≡ 0 → (n : ℕ) → word (view_from k s (places_of k s ds)) ≡ W.Is n → n ≤ length ds
+      within : number_of k s (length ds) (length ds) ≡ 0 → (n : ℕ) → word (view_from k s (places_of k s ds)) ≡ Some n → n ≤ length ds
       within clear n e = by (view_from k s (places_of k s ds)) refl e
         where
-          by : (f : Found) → view_from k s (places_of k s ds) ≡ f → word f ≡ W.Is n → n ≤ length ds
-          by (F.At i) h q = let same : i % 65536 ≡ n = cc in omega (arith, same, start_within k s ds clear i h)
-          by F.Nothing h q = absurd (let z : ◌≡◌ {A = ℕ} 0 1 = cc in omega arith)
+          by : (f : Option ℕ) → view_from k s (places_of k s ds) ≡ f → word f ≡ Some n → n ≤ length ds
+          by (Some i) h q = let same : i % 65536 ≡ n = cc in omega (arith, same, start_within k s ds clear i h)
+          by None h q = absurd (let z : ◌≡◌ {A = ℕ} 0 1 = cc in omega arith)
 
   view_handed : view_of k s ds ≡ handed_out view_answer
   unfolding view_answer view_of start_of answer
   view_handed = by (refusal k s ds) (word (view_from k s (places_of k s ds)))
     where
-      by : (r : ℕ) (w : MaybeWord) → view_at k s ds (unless r (maybe_word w)) ≡ handed_out (unless r (view_in ds w))
-      by zero (W.Is n) = refl
-      by zero W.Absent = refl
+      by : (r : ℕ) (w : Option ℕ) → view_at k s ds (unless r (maybe_word w)) ≡ handed_out (unless r (view_in ds w))
+      by zero (Some n) = refl
+      by zero None = refl
       by (suc r) w = refl
 
   -- what is handed out is the view, and nothing else is

@@ -1,14 +1,9 @@
 -- What the packet call answers and writes, by the relation: the promise that an auditor reads.
 -- Assumes nothing.
-use Rattle.std.specs.Prelude.{ℕ, ◌<◌, ◌≡◌, List, ◌++◌, length, drop}
-use Rattle.std.proofs.Math.Option.{Option, some, none}
+use Rattle.std.specs.Prelude.{ℕ, ◌<◌, ◌≡◌, List, ◌++◌, length, drop, None, Option, Some}
 use Rattle.text.specs.Told.{Told, is, absent, refused}
-use Rattle.entry.specs.declared.optional.MaybeWord.{MaybeWord}
-use Rattle.entry.specs.declared.optional.MaybeWord.TheVariants as W
 use Rattle.book.specs.declared.Uuid.{Uuid}
 use Rattle.book.specs.Grammar.{IsBook}
-use Rattle.packet.specs.declared.MaybeUuid.{MaybeUuid}
-use Rattle.packet.specs.declared.MaybeUuid.TheVariants as U
 use Rattle.packet.specs.declared.Packet.{Packet}
 use Rattle.meaning.specs.Packet.{Description, IsPacket, Refuses}
 use Rattle.meaning.specs.Places.{PlacesOf}
@@ -32,21 +27,12 @@ module _ (k : ℕ) (s : List ℕ) (count room : ℕ) where
 
 -- ---- the answer
 
--- a UUID that may be absent, and a start that may be
-abbrev pub option_uuid : MaybeUuid → Option Uuid
-option_uuid (U.Is u) = some u
-option_uuid U.Absent = none
-
-abbrev pub option_word : MaybeWord → Option ℕ
-option_word (W.Is n) = some n
-option_word W.Absent = none
-
 -- a packet: no number applies; its descriptions, UUID and view are the relation's; and the place list has the place of each entry and no more
 pub record Answered (k : ℕ) (s ds out exit : List ℕ) (p : Packet) : Type 0 where
   pub book : IsBook s
   pub no_number : NoNumber k s (length ds) (length out) book
   pub descriptions : List (Option Description)
-  pub is : IsPacket k book.tables ds descriptions (option_uuid p.uuid) (option_word p.start)
+  pub is : IsPacket k book.tables ds descriptions (p.uuid) (p.start)
   pub kind_is : p.kind ≡ k
   pub dwords_are : p.dwords ≡ length ds
   pub places : List ℕ

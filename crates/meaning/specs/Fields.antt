@@ -1,7 +1,6 @@
 -- What the calls of `field` say of a field, over its description: its name, its bit ranges, the names of their values, and where they stand.
 -- Assumes nothing.
-use Rattle.std.specs.Prelude.{ℕ, ◌+◌, ◌≤◌, ◌≡◌, List, [], ◌∷◌, ◌++◌, ◌⊎◌, length}
-use Rattle.std.proofs.Math.Option.{Option, some, none}
+use Rattle.std.specs.Prelude.{ℕ, ◌+◌, ◌≤◌, ◌≡◌, List, [], ◌∷◌, ◌++◌, ◌⊎◌, length, None, Option, Some}
 use Rattle.book.specs.Grammar.{text_of, Value, Range, Table}
 use Rattle.text.specs.Told.{Told, is, absent, refused}
 use Rattle.tlv.specs.Reading.{between}
@@ -15,8 +14,8 @@ use Rattle.meaning.specs.Places.{RangeStands, ValueStands}
 
 -- the name of a field, empty for none
 abbrev pub NameOf : Option Description → List ℕ → Type 0
-NameOf (some d) name = name ≡ text_of d.entry.name
-NameOf none name = name ≡ []
+NameOf (Some d) name = name ≡ text_of d.entry.name
+NameOf None name = name ≡ []
 
 -- how many bit ranges it has
 abbrev pub RangeCount : Option Description → ℕ → Type 0
@@ -26,7 +25,7 @@ module _ (tables : List Table) (o : Option Description) (dword : ℕ) where
   -- a bit range of the field, behind those before it: its bits, its value in the field's dword, and its place
   pub record IsRange (ranges-before : List Range) (range : Range) (r : RangeAnswer) : Type 0 where
     pub description : Description
-    pub description_is : o ≡ some description
+    pub description_is : o ≡ Some description
     pub low_is : r.low ≡ range.low
     pub high_is : r.high ≡ range.high
     pub value_is : r.value ≡ value_of range dword
@@ -66,12 +65,12 @@ pub record NumberedAt (tables : List Table) (d : Description) (ranges-before : L
 -- 0 where it has none
 abbrev pub NumberPlace : List Table → Description → List Range → Range → ℕ → ℕ → Type 0
 NumberPlace tables d ranges-before range number place =
-    NumberedAt tables d ranges-before range number place ⊎ (ValueNumbered range number none × (place ≡ 0))
+    NumberedAt tables d ranges-before range number place ⊎ (ValueNumbered range number None × (place ≡ 0))
 
 -- the name of a number among the values of a range, empty where it has none
 abbrev pub NumberName : Range → ℕ → List ℕ → Type 0
 NumberName range number name =
-    ((v : Value) × ValueNumbered range number (some v) × (name ≡ v.name)) ⊎ (ValueNumbered range number none × (name ≡ []))
+    ((v : Value) × ValueNumbered range number (Some v) × (name ≡ v.name)) ⊎ (ValueNumbered range number None × (name ≡ []))
 
 -- where a name stands, so many bytes behind the place of what it names: 8 behind that of an entry or a range (tag and length, offset or bits, tag
 -- and length of the name), 7 behind that of a value (tag and length, number); at 0 with no byte for none

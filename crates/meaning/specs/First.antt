@@ -1,7 +1,6 @@
 -- The first that is so, and the one else the other: what document 01 means by both, over a list and with no search.
 -- Assumes nothing.
-use Rattle.std.specs.Prelude.{◌≡◌, List, ◌∷◌, ◌++◌, ◌⊎◌}
-use Rattle.std.proofs.Math.Option.{Option, some, none}
+use Rattle.std.specs.Prelude.{◌≡◌, List, ◌∷◌, ◌++◌, ◌⊎◌, None, Option, Some}
 use Rattle.tlv.specs.Grammar.{All}
 
 module _ {X : Type 0} (So : X → Type 0) where
@@ -19,10 +18,10 @@ module _ {X : Type 0} (So : X → Type 0) where
 
   -- the first that is so, or nothing where none is
   abbrev pub FirstOf : List X → Option X → Type 0
-  FirstOf xs (some x) = First xs x
-  FirstOf xs none = None xs
+  FirstOf xs (Some x) = First xs x
+  FirstOf xs None = None xs
 
 -- the one, else the other
 abbrev pub Else : {X : Type 0} → (Option X → Type 0) → (Option X → Type 0) → Option X → Type 0
-Else P Q (some x) = P (some x) ⊎ (P none × Q (some x))
-Else P Q none = P none × Q none
+Else P Q (Some x) = P (Some x) ⊎ (P None × Q (Some x))
+Else P Q None = P None × Q None

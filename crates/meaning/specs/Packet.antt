@@ -1,8 +1,7 @@
 -- What a packet is, in document 01's order and words, over the tables of its book as values: the list that `IsBook` gives. No byte place stands
 -- here, and nothing searches.
 -- Assumes nothing.
-use Rattle.std.specs.Prelude.{ℕ, suc, ◌<◌, ◌≡◌, true, cond, List, [], ◌∷◌, eqb, length, get_or}
-use Rattle.std.proofs.Math.Option.{Option, some, none}
+use Rattle.std.specs.Prelude.{ℕ, suc, ◌<◌, ◌≡◌, true, cond, List, [], ◌∷◌, eqb, length, get_or, None, Option, Some}
 use Rattle.text.specs.Quote.{bytes}
 use Rattle.bits.specs.Range.{range_of}
 use Rattle.book.specs.declared.Uuid.{Uuid}
@@ -28,18 +27,18 @@ OfType i type e = (e.offset ≡ i) × (e.type ≡ type)
 
 -- what is taken from a table: the first of its entries that is so, or nothing where none is
 abbrev pub Taken : (Entry → Type 0) → Table → Option Description → Type 0
-Taken So t (some d) = (d.owner ≡ t.owner) × First So t.entries d.entry
-Taken So t none = None So t.entries
+Taken So t (Some d) = (d.owner ≡ t.owner) × First So t.entries d.entry
+Taken So t None = None So t.entries
 
 -- the field is named so
 abbrev pub Named : List ℕ → Option Description → Type 0
-Named name (some d) = d.entry.name ≡ some name
-Named name none = ⊥
+Named name (Some d) = d.entry.name ≡ Some name
+Named name None = ⊥
 
 -- the bit ranges of a description
 abbrev pub ranges_of : Option Description → List Range
-ranges_of (some d) = d.entry.ranges
-ranges_of none = []
+ranges_of (Some d) = d.entry.ranges
+ranges_of None = []
 
 -- its range of a name: of one name the first counts
 abbrev pub RangeNamed : List ℕ → Option Description → Option Range → Type 0
@@ -56,9 +55,9 @@ ValueNumbered r number v = FirstOf (λ w. w.number ≡ number) r.values v
 -- the description has a `Packet Type` range whose value has that name
 pub record TypeNamed (o : Option Description) (dword : ℕ) (name : List ℕ) : Type 0 where
   pub range : Range
-  pub range_is : RangeNamed (bytes "Packet Type") o (some range)
+  pub range_is : RangeNamed (bytes "Packet Type") o (Some range)
   pub value : Value
-  pub value_is : ValueNumbered range (value_of range dword) (some value)
+  pub value_is : ValueNumbered range (value_of range dword) (Some value)
   pub name_is : value.name ≡ name
 
 -- ---- each dword
@@ -84,8 +83,8 @@ abbrev pub four : Uuid → List ℕ
 four u = u.first ∷ u.second ∷ u.third ∷ u.fourth ∷ []
 
 abbrev pub IsUuid : List ℕ → List ℕ → List (Option Description) → Option Uuid → Type 0
-IsUuid name ds os (some u) = Gathers name ds os (four u)
-IsUuid name ds os none = (u : Uuid) → Gathers name ds os (four u) → ⊥
+IsUuid name ds os (Some u) = Gathers name ds os (four u)
+IsUuid name ds os None = (u : Uuid) → Gathers name ds os (four u) → ⊥
 
 -- ---- the steps
 
@@ -95,13 +94,13 @@ Control control i = Taken (OfOffset i) control
 
 -- step 1: dwords without a description take the first untyped header entry of that offset
 abbrev pub StepOne : Table → Table → ℕ → Option Description → Type 0
-StepOne control header i = Else (Control control i) (Taken (OfType i none) header)
+StepOne control header i = Else (Control control i) (Taken (OfType i None) header)
 
 -- step 3, over a protocol's table: `before` is what describes a dword behind step 1
 module _ (ds : List ℕ) (before : ℕ → Option Description → Type 0) (protocol : Table) where
   -- the first entry whose type equals the latched name (untyped while none is latched), else the first untyped one
   abbrev pub Fits : Option (List ℕ) → ℕ → Option Description → Type 0
-  Fits latched i = Else (Taken (OfType i latched) protocol) (Taken (OfType i none) protocol)
+  Fits latched i = Else (Taken (OfType i latched) protocol) (Taken (OfType i None) protocol)
 
   -- an undescribed dword takes it
   abbrev pub Takes : Option (List ℕ) → ℕ → Option Description → Type 0
@@ -110,15 +109,15 @@ module _ (ds : List ℕ) (before : ℕ → Option Description → Type 0) (proto
   -- an offset latches a name, where nothing is latched before: an entry is found, and the dword's description names its packet type so
   pub record Latches (j : ℕ) (name : List ℕ) : Type 0 where
     pub found : Description
-    pub finds : Fits none j (some found)
+    pub finds : Fits None j (Some found)
     pub described : Option Description
-    pub describes : Takes none j described
+    pub describes : Takes None j described
     pub named : TypeNamed described (get_or ds j 0) name
 
   -- the name that governs an offset: that of the first offset below it that latches one
   abbrev pub Governs : ℕ → Option (List ℕ) → Type 0
-  Governs i (some name) = (j : ℕ) × (j < i) × Latches j name × ((h : ℕ) → h < j → (n : List ℕ) → Latches h n → ⊥)
-  Governs i none = (h : ℕ) → h < i → (n : List ℕ) → Latches h n → ⊥
+  Governs i (Some name) = (j : ℕ) × (j < i) × Latches j name × ((h : ℕ) → h < j → (n : List ℕ) → Latches h n → ⊥)
+  Governs i None = (h : ℕ) → h < i → (n : List ℕ) → Latches h n → ⊥
 
   -- what describes dword i behind step 3
   pub record StepThree (i : ℕ) (o : Option Description) : Type 0 where
@@ -132,18 +131,18 @@ TableOf tables owner = FirstOf (λ t. t.owner ≡ owner) tables
 
 -- the table that step 3 reads: that UUID's, if there is a UUID and the book has it; the all-zero UUID's is the header table
 abbrev pub ProtocolTable : List Table → Option Uuid → Option Table → Type 0
-ProtocolTable tables (some u) t = TableOf tables (uuid u) t
-ProtocolTable tables none t = t ≡ none
+ProtocolTable tables (Some u) t = TableOf tables (uuid u) t
+ProtocolTable tables None t = t ≡ None
 
 -- what describes dword i in the end: step 3 has its say, or it is skipped
 abbrev pub Behind : List ℕ → (ℕ → Option Description → Type 0) → Option Table → ℕ → Option Description → Type 0
-Behind ds before (some protocol) = StepThree ds before protocol
-Behind ds before none = before
+Behind ds before (Some protocol) = StepThree ds before protocol
+Behind ds before None = before
 
 -- kinds 8 and 9 go on: step 1, the UUID of step 2, and step 3
 pub record GoesOn (tables : List Table) (control : Table) (ds : List ℕ) (os : List (Option Description)) (u : Option Uuid) : Type 0 where
   pub header : Table
-  pub header_is : TableOf tables (uuid zero_uuid) (some header)
+  pub header_is : TableOf tables (uuid zero_uuid) (Some header)
   pub first : List (Option Description)
   pub first_are : Each (λ i d. StepOne control header i) 0 ds first
   pub uuid_is : IsUuid (bytes "UUID") ds first u
@@ -154,13 +153,13 @@ pub record GoesOn (tables : List Table) (control : Table) (ds : List ℕ) (os : 
 -- all others have the control entries, and no UUID
 pub record Stays (control : Table) (ds : List ℕ) (os : List (Option Description)) (u : Option Uuid) : Type 0 where
   pub each : Each (λ i d. Control control i) 0 ds os
-  pub no_uuid : u ≡ none
+  pub no_uuid : u ≡ None
 
 -- ---- the data view
 
 -- a field has a range of that name
 abbrev pub Holds : List ℕ → Option Description → Type 0
-Holds name o = (r : Range) × RangeNamed name o (some r)
+Holds name o = (r : Range) × RangeNamed name o (Some r)
 
 -- the first field that is so, behind n others
 pub record FoundAt (So : Option Description → Type 0) (os : List (Option Description)) (n : ℕ) : Type 0 where
@@ -170,16 +169,16 @@ pub record FoundAt (So : Option Description → Type 0) (os : List (Option Descr
 
 -- just after the first field that is so, else none
 abbrev pub JustAfter : (Option Description → Type 0) → List (Option Description) → Option ℕ → Type 0
-JustAfter So os (some n) = (m : ℕ) × FoundAt So os m × (n ≡ suc m)
-JustAfter So os none = None So os
+JustAfter So os (Some n) = (m : ℕ) × FoundAt So os m × (n ≡ suc m)
+JustAfter So os None = None So os
 
 -- where the view starts: for kinds 2 and 3 at n, the number of control entries; for kinds 8 and 9 just after the first field with
 -- `Properties Block Generation`, else none; for other kinds none
 abbrev pub View : ℕ → Table → List (Option Description) → Option ℕ → Type 0
 View k control os start =
-    cond (is_read_response_or_write_request k) (start ≡ some (length control.entries))
+    cond (is_read_response_or_write_request k) (start ≡ Some (length control.entries))
     (cond (is_xdomain k) (JustAfter (Holds (bytes "Properties Block Generation")) os start)
-    (start ≡ none))
+    (start ≡ None))
 
 -- ---- the packet
 
@@ -187,7 +186,7 @@ View k control os start =
 pub record IsPacket (k : ℕ) (tables : List Table) (ds : List ℕ) (os : List (Option Description)) (u : Option Uuid) (start : Option ℕ)
     : Type 0 where
   pub control : Table
-  pub control_is : TableOf tables (kind k) (some control)
+  pub control_is : TableOf tables (kind k) (Some control)
   pub described : cond (is_xdomain k) (GoesOn tables control ds os u) (Stays control ds os u)
   pub view : View k control os start
 
@@ -197,7 +196,7 @@ pub record IsPacket (k : ℕ) (tables : List Table) (ds : List ℕ) (os : List (
 pub record TooFew (k : ℕ) (tables : List Table) (count : ℕ) : Type 0 where
   pub viewing : is_read_response_or_write_request k ≡ true
   pub control : Table
-  pub control_is : TableOf tables (kind k) (some control)
+  pub control_is : TableOf tables (kind k) (Some control)
   pub fewer : count < length control.entries
 
 -- 21 to 26, of so many dwords and so many places lent: the kind is 0; no control table for the kind; kind 8 or 9 and no header table; more than
@@ -205,8 +204,8 @@ pub record TooFew (k : ℕ) (tables : List Table) (count : ℕ) : Type 0 where
 abbrev pub Refuses : ℕ → List Table → ℕ → ℕ → ℕ → Type 0
 Refuses k tables count room number =
     cond (eqb number 21) (k ≡ 0)
-    (cond (eqb number 22) (TableOf tables (kind k) none)
-    (cond (eqb number 23) ((is_xdomain k ≡ true) × TableOf tables (uuid zero_uuid) none)
+    (cond (eqb number 22) (TableOf tables (kind k) None)
+    (cond (eqb number 23) ((is_xdomain k ≡ true) × TableOf tables (uuid zero_uuid) None)
     (cond (eqb number 24) (256 < count)
     (cond (eqb number 25) (TooFew k tables count)
     (cond (eqb number 26) (room < count)

@@ -1,7 +1,6 @@
 -- Where the descriptions of a packet stand in the book's bytes: the one bridge between a packet of values and the place list.
 -- Assumes nothing.
-use Rattle.std.specs.Prelude.{ℕ, ◌+◌, ◌≡◌, List, [], ◌∷◌, ◌++◌, map, length}
-use Rattle.std.proofs.Math.Option.{Option, some, none}
+use Rattle.std.specs.Prelude.{ℕ, ◌+◌, ◌≡◌, List, [], ◌∷◌, ◌++◌, map, length, None, Option, Some}
 use Rattle.tlv.specs.Grammar.{fields_bytes}
 use Rattle.book.specs.Grammar.{Value, Range, range_piece, Entry, entry_piece, owner_bytes, Table, table_piece}
 use Rattle.meaning.specs.Packet.{Description}
@@ -22,8 +21,8 @@ pub record Stands (tables : List Table) (d : Description) (place : ℕ) : Type 0
 
 -- 0 for none
 abbrev pub PlaceOf : List Table → Option Description → ℕ → Type 0
-PlaceOf tables (some d) place = Stands tables d place
-PlaceOf tables none place = place ≡ 0
+PlaceOf tables (Some d) place = Stands tables d place
+PlaceOf tables None place = place ≡ 0
 
 -- the place of each description
 abbrev pub PlacesOf : List Table → List (Option Description) → List ℕ → Type 0

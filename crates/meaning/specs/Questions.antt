@@ -1,7 +1,6 @@
 -- The questions of a packet, each a sentence over its dwords and their descriptions.
 -- Assumes nothing.
-use Rattle.std.specs.Prelude.{ℕ, ◌+◌, ◌*◌, ◌%◌, ◌^◌, ◌≤◌, ◌<◌, ◌≡◌, Bool, cond, List, [], ◌∷◌, ◌++◌, eqb, length, get_or}
-use Rattle.std.proofs.Math.Option.{Option, some, none}
+use Rattle.std.specs.Prelude.{ℕ, ◌+◌, ◌*◌, ◌%◌, ◌^◌, ◌≤◌, ◌<◌, ◌≡◌, Bool, cond, List, [], ◌∷◌, ◌++◌, eqb, length, get_or, None, Option, Some}
 use Rattle.text.specs.Quote.{bytes}
 use Rattle.bits.specs.Range.{bit}
 use Rattle.book.specs.declared.Uuid.{Uuid}
@@ -57,7 +56,7 @@ module _ (ds : List ℕ) (os : List (Option Description)) where
     pub at : ℕ
     pub field : FoundAt (Holds name) os at
     pub range : Range
-    pub range_is : RangeNamed name field.value (some range)
+    pub range_is : RangeNamed name field.value (Some range)
     pub value_is : v ≡ value_of range (get_or ds at 0)
 
   -- what is told of it: cut to so many bits, or none
@@ -84,16 +83,16 @@ module _ (ds : List ℕ) (os : List (Option Description)) where
 
   -- a UUID by name gathers as in step 2, over the final descriptions
   abbrev pub UuidNamed : List ℕ → Told Uuid → Type 0
-  UuidNamed name (is u) = IsUuid name ds os (some u)
-  UuidNamed name absent = IsUuid name ds os none
+  UuidNamed name (is u) = IsUuid name ds os (Some u)
+  UuidNamed name absent = IsUuid name ds os None
   UuidNamed name (refused n) = ⊥
 
 -- ---- what a packet keeps, and its view
 
 -- the UUID of step 2 and the start of the view are told as they are
 abbrev pub Kept : {A : Type 0} → Option A → Told A → Type 0
-Kept (some a) told = told ≡ is a
-Kept none told = told ≡ absent
+Kept (Some a) told = told ≡ is a
+Kept None told = told ≡ absent
 
 -- the view: the dwords from its start onward
 pub record FromOnward (ds : List ℕ) (start : ℕ) (view : List ℕ) : Type 0 where
@@ -102,10 +101,10 @@ pub record FromOnward (ds : List ℕ) (start : ℕ) (view : List ℕ) : Type 0 w
   pub so_many : length front ≡ start
 
 abbrev pub ViewTold : List ℕ → Option ℕ → Told (List ℕ) → Type 0
-ViewTold ds (some n) (is view) = FromOnward ds n view
-ViewTold ds (some n) absent = ⊥
-ViewTold ds (some n) (refused k) = ⊥
-ViewTold ds none told = told ≡ absent
+ViewTold ds (Some n) (is view) = FromOnward ds n view
+ViewTold ds (Some n) absent = ⊥
+ViewTold ds (Some n) (refused k) = ⊥
+ViewTold ds None told = told ≡ absent
 
 -- what is handed out where a list is told, a view or a name: no element where there is none
 abbrev pub handed_out : Told (List ℕ) → List ℕ
@@ -117,14 +116,14 @@ handed_out (refused k) = []
 
 -- a description comes from the control, header or protocol table, or there is none; the place is that of its entry
 abbrev pub IsSource : List Table → Option Description → Source → Type 0
-IsSource tables (some d) (S.Control p) = (k : ℕ) × (d.owner ≡ kind k) × Stands tables d p.at
-IsSource tables (some d) (S.Header p) = (d.owner ≡ uuid zero_uuid) × Stands tables d p.at
-IsSource tables (some d) (S.Protocol p) = (u : Uuid) × (d.owner ≡ uuid u) × (u ≡ zero_uuid → ⊥) × Stands tables d p.at
-IsSource tables (some d) S.Bare = ⊥
-IsSource tables none (S.Control p) = ⊥
-IsSource tables none (S.Header p) = ⊥
-IsSource tables none (S.Protocol p) = ⊥
-IsSource tables none S.Bare = Unit {0}
+IsSource tables (Some d) (S.Control p) = (k : ℕ) × (d.owner ≡ kind k) × Stands tables d p.at
+IsSource tables (Some d) (S.Header p) = (d.owner ≡ uuid zero_uuid) × Stands tables d p.at
+IsSource tables (Some d) (S.Protocol p) = (u : Uuid) × (d.owner ≡ uuid u) × (u ≡ zero_uuid → ⊥) × Stands tables d p.at
+IsSource tables (Some d) S.Bare = ⊥
+IsSource tables None (S.Control p) = ⊥
+IsSource tables None (S.Header p) = ⊥
+IsSource tables None (S.Protocol p) = ⊥
+IsSource tables None S.Bare = Unit {0}
 
 -- the field of a dword
 pub record IsField (ds : List ℕ) (tables : List Table) (i : ℕ) (o : Option Description) (f : Field) : Type 0 where
@@ -192,7 +191,7 @@ module _ (ds : List ℕ) (tables : List Table) (os : List (Option Description)) 
     pub at : ℕ
     pub field : FoundAt (Holds (bytes "Packet Type")) os at
     pub description : Description
-    pub description_is : field.value ≡ some description
+    pub description_is : field.value ≡ Some description
     pub range : Range
     pub range_is : First (λ q. q.name ≡ bytes "Packet Type") description.entry.ranges range
     pub value : Value

@@ -17,7 +17,7 @@ use crate::state::{State, begin, unread};
 use channel::reading::{Got, read_some};
 use channel::status::{Status, give_status};
 use channel::streams::{Streams, streams_of};
-use choice::{Asked, arg_count, ask_choice};
+use choice::{arg_count, ask_choice};
 use scan::Pieces;
 use std::io::Stderr;
 use std::process::ExitCode;
@@ -43,16 +43,16 @@ pub fn run_filter(rt: &HostRuntime, program: Program) -> ExitCode {
 // The program `pack`, which may be told its choice.
 pub fn run_pack(rt: &HostRuntime) -> ExitCode {
     match ask_choice(rt, 1) {
-        Asked::Choice(pieces) => run_program(streams_of(rt), Program::Pack(pieces), b""),
-        Asked::Wrong => give_usage(rt.stderr(), Program::Pack(Pieces::Strict)),
+        Some(pieces) => run_program(streams_of(rt), Program::Pack(pieces), b""),
+        None => give_usage(rt.stderr(), Program::Pack(Pieces::Strict)),
     }
 }
 
 // The program `unpack`, which may be told its choice.
 pub fn run_unpack(rt: &HostRuntime) -> ExitCode {
     match ask_choice(rt, 1) {
-        Asked::Choice(pieces) => run_program(streams_of(rt), Program::Unpack(pieces), b""),
-        Asked::Wrong => give_usage(rt.stderr(), Program::Unpack(Pieces::Strict)),
+        Some(pieces) => run_program(streams_of(rt), Program::Unpack(pieces), b""),
+        None => give_usage(rt.stderr(), Program::Unpack(Pieces::Strict)),
     }
 }
 

@@ -5,7 +5,6 @@
 ghost use Rattle.std.specs.Prelude.{◌≤◌, length};
 
 use entry::events::{Name, name_of};
-use entry::optional::{MaybeByte, MaybeEvent, MaybeFlag, MaybeWord};
 use print::hex::{put_dword, put_hex};
 use print::put::{put, put_decimal};
 
@@ -43,33 +42,33 @@ pub fn put_none(out: &mut [u8], at: usize, name: &[u8]) -> usize
     put_text(out, behind, b"-")
 }
 
-pub fn put_maybe_byte(out: &mut [u8], at: usize, name: &[u8], v: MaybeByte) -> usize
+pub fn put_maybe_byte(out: &mut [u8], at: usize, name: &[u8], v: Option<u8>) -> usize
     requires { at ≤ length out.old }
     ensures { result ≤ length out.old }
 {
     match v {
-        MaybeByte::Is(n) => put_count(out, at, name, n as u64),
-        MaybeByte::Absent => put_none(out, at, name),
+        Some(n) => put_count(out, at, name, n as u64),
+        None => put_none(out, at, name),
     }
 }
 
-pub fn put_maybe_word(out: &mut [u8], at: usize, name: &[u8], v: MaybeWord) -> usize
+pub fn put_maybe_word(out: &mut [u8], at: usize, name: &[u8], v: Option<u16>) -> usize
     requires { at ≤ length out.old }
     ensures { result ≤ length out.old }
 {
     match v {
-        MaybeWord::Is(n) => put_count(out, at, name, n as u64),
-        MaybeWord::Absent => put_none(out, at, name),
+        Some(n) => put_count(out, at, name, n as u64),
+        None => put_none(out, at, name),
     }
 }
 
-pub fn put_flag(out: &mut [u8], at: usize, name: &[u8], v: MaybeFlag) -> usize
+pub fn put_flag(out: &mut [u8], at: usize, name: &[u8], v: Option<bool>) -> usize
     requires { at ≤ length out.old }
     ensures { result ≤ length out.old }
 {
     match v {
-        MaybeFlag::Is(yes) => put_bool(out, at, name, yes),
-        MaybeFlag::Absent => put_none(out, at, name),
+        Some(yes) => put_bool(out, at, name, yes),
+        None => put_none(out, at, name),
     }
 }
 
@@ -85,16 +84,16 @@ pub fn put_bool(out: &mut [u8], at: usize, name: &[u8], yes: bool) -> usize
 }
 
 // A name and the name that an event prints.
-pub fn put_name(out: &mut [u8], at: usize, name: &[u8], v: MaybeEvent) -> usize
+pub fn put_name(out: &mut [u8], at: usize, name: &[u8], v: Option<Event>) -> usize
     requires { at ≤ length out.old }
     ensures { result ≤ length out.old }
 {
     match v {
-        MaybeEvent::Is(e) => {
+        Some(e) => {
             let behind = put_text(out, at, name);
             put_start(out, behind, name_of(e))
         }
-        MaybeEvent::Absent => put_none(out, at, name),
+        None => put_none(out, at, name),
     }
 }
 

@@ -9,9 +9,8 @@ ghost use Rattle.std.specs.Prelude.{◌≤◌, length};
 use crate::fields::{
     put_both, put_count, put_dwords, put_flag, put_maybe_byte, put_maybe_word, put_name, put_text,
 };
-use entry::optional::MaybeFlag;
 use entry::{Entry, adapter_num, data, event, function, task, unplug};
-use scan::{Answer, Pieces, parse};
+use scan::{Pieces, parse};
 
 // The row of a line, read by the choice into the lent slots. It asks for a place inside the buffer, as all that it calls does: the program
 // that has the buffer goes on from where the last row ended.
@@ -26,11 +25,11 @@ pub fn put_answer(
     ensures { result ≤ length out.old }
 {
     match parse(line, pieces, slots) {
-        Answer::Entry(e) => {
+        Ok(e) => {
             let end = put_row(out, at, line, slots, e);
             put_text(out, end, b"\n")
         }
-        Answer::Refused(number) => {
+        Err(number) => {
             let end = put_count(out, at, b"refused ", number as u64);
             put_text(out, end, b"\n")
         }
@@ -85,7 +84,7 @@ fn put_body(out: &mut [u8], at: usize, e: Entry) -> usize
 {
     let a = put_count(out, at, b" kind=", e.kind as u64);
     let b = put_count(out, a, b" size=", e.size as u64);
-    let c = put_flag(out, b, b" dropped=", MaybeFlag::Is(e.dropped));
+    let c = put_flag(out, b, b" dropped=", Some(e.dropped));
     let d = put_count(out, c, b" domain=", e.domain as u64);
     put_count(out, d, b" route=", e.route)
 }

@@ -4,19 +4,17 @@ ghost use Rattle.oracle_packet_rows.specs.Count.{control_count};
 
 use crate::told::{put_comma, put_name};
 use book::find;
-use field::{
-    Field, MaybeRange, Range, Source, count_ranges, entry_of, field_name, nth_range, value_name,
-};
+use field::{Field, Range, Source, count_ranges, entry_of, field_name, nth_range, value_name};
 use oracle_line_rows::fields::{put_count, put_text};
 use questions::described::field_at;
-use questions::{FieldAnswer, field_by_offset};
-use text::place::Found;
+use questions::field_by_offset;
+use refusal::Refusal;
 
 // How many entries the control table of a kind has, none without a table.
 pub fn count_control(kind: u8, book: &[u8]) -> usize
     ensures { result ≡ control_count book.now kind }
 {
-    let Found::At(table) = find::control_table(book, kind) else {
+    let Some(table) = find::control_table(book, kind) else {
         return 0;
     };
     find::count_entries(book, table)
@@ -71,14 +69,14 @@ pub fn put_sources(
     behind
 }
 
-fn put_source(out: &mut [u8], at: usize, told: FieldAnswer) -> usize
+fn put_source(out: &mut [u8], at: usize, told: Result<Option<Field>, Refusal>) -> usize
     requires { at ≤ length out.old }
     ensures { result ≤ length out.old }
 {
     match told {
-        FieldAnswer::Is(field) => put_letter(out, at, field),
-        FieldAnswer::Absent => at,
-        FieldAnswer::Refused(_) => at,
+        Ok(Some(field)) => put_letter(out, at, field),
+        Ok(None) => at,
+        Err(_) => at,
     }
 }
 
@@ -96,7 +94,7 @@ fn put_letter(out: &mut [u8], at: usize, field: Field) -> usize
 }
 
 // The field of a dword: that of the first nine as a caller asks who has no places, the others by the places.
-fn ask_field(kind: u8, book: &[u8], dwords: &[u32], places: &[u32], i: usize) -> FieldAnswer {
+fn ask_field(kind: u8, book: &[u8], dwords: &[u32], places: &[u32], i: usize) -> Result<Option<Field>, Refusal> {
     let offset = (i % 65_536) as u16;
     if i < 9 {
         return field_by_offset(kind, book, dwords, offset);
@@ -134,14 +132,14 @@ pub fn put_fields(
     behind
 }
 
-fn put_asked(out: &mut [u8], at: usize, first: bool, book: &[u8], told: FieldAnswer) -> usize
+fn put_asked(out: &mut [u8], at: usize, first: bool, book: &[u8], told: Result<Option<Field>, Refusal>) -> usize
     requires { at ≤ length out.old }
     ensures { result ≤ length out.old }
 {
     match told {
-        FieldAnswer::Is(field) => put_field(out, at, first, book, field),
-        FieldAnswer::Absent => at,
-        FieldAnswer::Refused(_) => at,
+        Ok(Some(field)) => put_field(out, at, first, book, field),
+        Ok(None) => at,
+        Err(_) => at,
     }
 }
 
@@ -179,8 +177,8 @@ fn put_nth(out: &mut [u8], at: usize, book: &[u8], field: Field, k: usize) -> us
 {
     let found = nth_range(book, field, k);
     match found {
-        MaybeRange::Is(range) => put_range(out, at, book, range),
-        MaybeRange::Absent => at,
+        Some(range) => put_range(out, at, book, range),
+        None => at,
     }
 }
 

@@ -12,8 +12,7 @@ use crate::asked::put_all;
 use crate::fields::{count_control, put_fields, put_places, put_sources};
 use crate::told::{put_byte, put_flag, put_name, put_refused, put_uuid, put_wide, put_word};
 use oracle_line_rows::fields::{put_count, put_none, put_text};
-use packet::Answer;
-use questions::{TypeAnswer, WordAnswer};
+use refusal::Refusal;
 
 // The row of a packet, its places in those that are lent; the names to ask for stand each behind its length.
 pub fn put_answer(
@@ -30,11 +29,11 @@ pub fn put_answer(
 {
     let parsed = packet::parse(kind, book, dwords, places);
     match parsed {
-        Answer::Packet(_) => {
+        Ok(_) => {
             let n = least(dwords.len(), places.len());
             put_row(out, at, kind, book, names, dwords, &places[..n])
         }
-        Answer::Refused(number) => {
+        Err(number) => {
             let end = put_count(out, at, b"refused ", number as u64);
             put_text(out, end, b"\n")
         }
@@ -133,17 +132,17 @@ fn put_data(out: &mut [u8], at: usize, kind: u8, book: &[u8], dwords: &[u32]) ->
 }
 
 // The index of the view's first dword, and how many it has.
-fn put_view(out: &mut [u8], at: usize, start: WordAnswer, view: &[u32]) -> usize
+fn put_view(out: &mut [u8], at: usize, start: Result<Option<u16>, Refusal>, view: &[u32]) -> usize
     requires { at ≤ length out.old }
     ensures { result ≤ length out.old }
 {
     match start {
-        WordAnswer::Is(first) => {
+        Ok(Some(first)) => {
             let behind = put_count(out, at, b" view=", first as u64);
             put_count(out, behind, b"+", view.len() as u64)
         }
-        WordAnswer::Absent => put_none(out, at, b" view="),
-        WordAnswer::Refused(number) => put_refused(out, at, b" view=", number),
+        Ok(None) => put_none(out, at, b" view="),
+        Err(number) => put_refused(out, at, b" view=", number),
     }
 }
 
@@ -168,7 +167,7 @@ fn put_type(out: &mut [u8], at: usize, kind: u8, book: &[u8], dwords: &[u32]) ->
 {
     let told = questions::packet_type(kind, book, dwords);
     match told {
-        TypeAnswer::Is(found) => {
+        Ok(Some(found)) => {
             let behind = put_count(out, at, b" type=", found.value as u64);
             put_name(
                 out,
@@ -177,7 +176,7 @@ fn put_type(out: &mut [u8], at: usize, kind: u8, book: &[u8], dwords: &[u32]) ->
                 questions::packet_type_name(kind, book, dwords),
             )
         }
-        TypeAnswer::Absent => put_none(out, at, b" type="),
-        TypeAnswer::Refused(number) => put_refused(out, at, b" type=", number),
+        Ok(None) => put_none(out, at, b" type="),
+        Err(number) => put_refused(out, at, b" type=", number),
     }
 }

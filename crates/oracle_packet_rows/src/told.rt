@@ -4,70 +4,70 @@ ghost use Rattle.std.specs.Prelude.{◌≤◌, length};
 use book::Uuid;
 use oracle_line_rows::fields::{put_bool, put_both, put_count, put_none, put_text};
 use print::hex::put_dword;
-use questions::{ByteAnswer, FieldAnswer, FlagAnswer, UuidAnswer, WideAnswer, WordAnswer};
+use refusal::Refusal;
 
-pub fn put_byte(out: &mut [u8], at: usize, name: &[u8], told: ByteAnswer) -> usize
+pub fn put_byte(out: &mut [u8], at: usize, name: &[u8], told: Result<Option<u8>, Refusal>) -> usize
     requires { at ≤ length out.old }
     ensures { result ≤ length out.old }
 {
     match told {
-        ByteAnswer::Is(n) => put_count(out, at, name, n as u64),
-        ByteAnswer::Absent => put_none(out, at, name),
-        ByteAnswer::Refused(number) => put_refused(out, at, name, number),
+        Ok(Some(n)) => put_count(out, at, name, n as u64),
+        Ok(None) => put_none(out, at, name),
+        Err(number) => put_refused(out, at, name, number),
     }
 }
 
-pub fn put_word(out: &mut [u8], at: usize, name: &[u8], told: WordAnswer) -> usize
+pub fn put_word(out: &mut [u8], at: usize, name: &[u8], told: Result<Option<u16>, Refusal>) -> usize
     requires { at ≤ length out.old }
     ensures { result ≤ length out.old }
 {
     match told {
-        WordAnswer::Is(n) => put_count(out, at, name, n as u64),
-        WordAnswer::Absent => put_none(out, at, name),
-        WordAnswer::Refused(number) => put_refused(out, at, name, number),
+        Ok(Some(n)) => put_count(out, at, name, n as u64),
+        Ok(None) => put_none(out, at, name),
+        Err(number) => put_refused(out, at, name, number),
     }
 }
 
-pub fn put_wide(out: &mut [u8], at: usize, name: &[u8], told: WideAnswer) -> usize
+pub fn put_wide(out: &mut [u8], at: usize, name: &[u8], told: Result<u64, Refusal>) -> usize
     requires { at ≤ length out.old }
     ensures { result ≤ length out.old }
 {
     match told {
-        WideAnswer::Is(n) => put_count(out, at, name, n),
-        WideAnswer::Refused(number) => put_refused(out, at, name, number),
+        Ok(n) => put_count(out, at, name, n),
+        Err(number) => put_refused(out, at, name, number),
     }
 }
 
-pub fn put_flag(out: &mut [u8], at: usize, name: &[u8], told: FlagAnswer) -> usize
+pub fn put_flag(out: &mut [u8], at: usize, name: &[u8], told: Result<bool, Refusal>) -> usize
     requires { at ≤ length out.old }
     ensures { result ≤ length out.old }
 {
     match told {
-        FlagAnswer::Is(yes) => put_bool(out, at, name, yes),
-        FlagAnswer::Refused(number) => put_refused(out, at, name, number),
+        Ok(yes) => put_bool(out, at, name, yes),
+        Err(number) => put_refused(out, at, name, number),
     }
 }
 
 // The index of the dword that a field is of.
-pub fn put_index(out: &mut [u8], at: usize, name: &[u8], told: FieldAnswer) -> usize
+pub fn put_index(out: &mut [u8], at: usize, name: &[u8], told: Result<Option<Field>, Refusal>) -> usize
     requires { at ≤ length out.old }
     ensures { result ≤ length out.old }
 {
     match told {
-        FieldAnswer::Is(field) => put_count(out, at, name, field.offset as u64),
-        FieldAnswer::Absent => put_none(out, at, name),
-        FieldAnswer::Refused(number) => put_refused(out, at, name, number),
+        Ok(Some(field)) => put_count(out, at, name, field.offset as u64),
+        Ok(None) => put_none(out, at, name),
+        Err(number) => put_refused(out, at, name, number),
     }
 }
 
-pub fn put_uuid(out: &mut [u8], at: usize, name: &[u8], told: UuidAnswer) -> usize
+pub fn put_uuid(out: &mut [u8], at: usize, name: &[u8], told: Result<Option<Uuid>, Refusal>) -> usize
     requires { at ≤ length out.old }
     ensures { result ≤ length out.old }
 {
     match told {
-        UuidAnswer::Is(uuid) => put_dwords(out, at, name, uuid),
-        UuidAnswer::Absent => put_none(out, at, name),
-        UuidAnswer::Refused(number) => put_refused(out, at, name, number),
+        Ok(Some(uuid)) => put_dwords(out, at, name, uuid),
+        Ok(None) => put_none(out, at, name),
+        Err(number) => put_refused(out, at, name, number),
     }
 }
 

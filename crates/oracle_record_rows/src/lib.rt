@@ -13,9 +13,9 @@ use crate::set::{Change, set_number};
 use entry::Entry;
 use oracle_line_rows::fields::{put_both, put_count, put_text};
 use oracle_line_rows::put_row;
-use record::{Answer, read};
+use record::read;
 use text::same::same;
-use writer::{Written, write};
+use writer::write;
 
 // The row of a record, read into the lent slots, and its entry, with one number set, written again into the lent room. It asks for a place inside
 // the buffer, as the rows of lines do.
@@ -31,8 +31,8 @@ pub fn put_record(
     ensures { result ≤ length out.old }
 {
     match read(text, slots) {
-        Answer::Entry(e) => put_entry(out, at, text, slots, room, e, change),
-        Answer::Refused(number) => {
+        Ok(e) => put_entry(out, at, text, slots, room, e, change),
+        Err(number) => {
             let end = put_count(out, at, b"refused ", number as u64);
             put_text(out, end, b"\n")
         }
@@ -70,8 +70,8 @@ fn put_written(
     ensures { result ≤ length out.old }
 {
     match write(text, e, slots, room) {
-        Written::Bytes(n) => put_bytes(out, at, text, room, n),
-        Written::Refused(number) => put_count(out, at, b"refused", number as u64),
+        Ok(n) => put_bytes(out, at, text, room, n),
+        Err(number) => put_count(out, at, b"refused", number as u64),
     }
 }
 

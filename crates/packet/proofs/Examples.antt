@@ -1,4 +1,5 @@
 -- Worked packets, computed: the cut behind n entries, whatever their offsets, and the UUID of exactly four fields. Assumes nothing.
+use Rattle.std.specs.Prelude.{None, Some}
 use Prim.Native.Nat.{ℕ}
 use mathlib.Core.Path.{◌≡◌, refl}
 use mathlib.Core.List.{List, [], ◌∷◌, ◌++◌}
@@ -10,11 +11,9 @@ use Rattle.tlv.specs.Reading.{step_from, field_at, walk_from, walk, parts, fille
 use Rattle.tlv.specs.Number.{number}
 use Rattle.text.specs.Same.{same_text}
 use Rattle.bits.specs.Range.{range_of}
-use Rattle.entry.specs.declared.optional.MaybeWord.TheVariants as W
 use Rattle.book.specs.Search as Search
 use Rattle.book.specs.Reading as Reading
 use Rattle.book.specs.Finders as Finders
-use Rattle.packet.specs.declared.MaybeUuid.TheVariants.{Is, Absent}
 use Rattle.packet.specs.Field as Field
 use Rattle.packet.specs.Steps as Steps
 use Rattle.packet.specs.Packet as Packet
@@ -71,8 +70,8 @@ packets_open = tt
 
 -- n = 3: five dwords start their view at 3, three as well, two give 25
 pub record CutAtThree : Type 0 where
-  pub five : parse_of 2 three_entries (10 ∷ 11 ∷ 12 ∷ 13 ∷ 14 ∷ []) 256 ≡ T.is (record { kind = 2; dwords = 5; uuid = Absent; start = W.Is 3 })
-  pub three : parse_of 2 three_entries (10 ∷ 11 ∷ 12 ∷ []) 256 ≡ T.is (record { kind = 2; dwords = 3; uuid = Absent; start = W.Is 3 })
+  pub five : parse_of 2 three_entries (10 ∷ 11 ∷ 12 ∷ 13 ∷ 14 ∷ []) 256 ≡ T.is (record { kind = 2; dwords = 5; uuid = None; start = Some 3 })
+  pub three : parse_of 2 three_entries (10 ∷ 11 ∷ 12 ∷ []) 256 ≡ T.is (record { kind = 2; dwords = 3; uuid = None; start = Some 3 })
   pub two : parse_of 2 three_entries (10 ∷ 11 ∷ []) 256 ≡ T.refused 25
 
 pub cut_at_three : CutAtThree
@@ -81,8 +80,8 @@ cut_at_three = record { five = refl; three = refl; two = refl }
 
 -- three fields named UUID make none, four make one
 pub record OfFourFields : Type 0 where
-  pub three : uuid_of 8 three_uuids (1 ∷ 2 ∷ 3 ∷ 4 ∷ []) ≡ Absent
-  pub four : uuid_of 8 four_uuids (1 ∷ 2 ∷ 3 ∷ 4 ∷ []) ≡ Is (record { first = 1; second = 2; third = 3; fourth = 4 })
+  pub three : uuid_of 8 three_uuids (1 ∷ 2 ∷ 3 ∷ 4 ∷ []) ≡ None
+  pub four : uuid_of 8 four_uuids (1 ∷ 2 ∷ 3 ∷ 4 ∷ []) ≡ Some (record { first = 1; second = 2; third = 3; fourth = 4 })
 
 pub of_four_fields : OfFourFields
 unfolding packets_open

@@ -1,4 +1,5 @@
 -- The numbers in their order: each test that fails leaves the rest of the table, and the last leaves the tables. Assumes nothing.
+use Rattle.std.specs.Prelude.{None, Option, Some}
 use Prim.Native.Nat.{ℕ, suc, ◌+◌, ◌%◌, ◌≤◌, ◌<◌}
 use mathlib.Core.Path.{◌≡◌, refl, sym, ap}
 use mathlib.Core.Bool.{Bool, true, false, cond, ◌&&◌}
@@ -7,9 +8,6 @@ use borrow.Author.Tests.{eq-eqb, ne_eqb, lt-ltb, le-ltb}
 use lib.Dec.{ltb}
 use Rattle.text.specs.Told as T
 use Rattle.text.specs.Quote.{bytes}
-use Rattle.text.specs.declared.place.Found.{Found}
-use Rattle.text.specs.declared.place.Found.TheVariants.{At, Nothing}
-use Rattle.entry.specs.declared.optional.MaybeWord.TheVariants as W
 use Rattle.book.specs.Finders.{place_of, control_table, uuid_table, entry_count}
 use Rattle.packet.specs.declared.field.Ask.TheVariants.{Holds}
 use Rattle.packet.specs.declared.Header.{Header}
@@ -23,9 +21,9 @@ pub missing_is : (kind : ℕ) (s : List ℕ) → is_missing (header_for kind s) 
 unfolding header_for
 missing_is kind s = by (is_xdomain kind) (uuid_table s zero_uuid)
   where
-    by : (b : Bool) (f : Found) → is_missing (cond b (header_of f) H.Unasked) ≡ (b && is_nothing f)
-    by true (At p) = refl
-    by true Nothing = refl
+    by : (b : Bool) (f : Option ℕ) → is_missing (cond b (header_of f) H.Unasked) ≡ (b && is_nothing f)
+    by true (Some p) = refl
+    by true None = refl
     by false f = refl
 
 module _ (kind : ℕ) (s : List ℕ) (count room : ℕ) where
@@ -38,11 +36,11 @@ module _ (kind : ℕ) (s : List ℕ) (count room : ℕ) where
   open_21 e = let test : number_checked kind s count room ≡ 21 = rw (eq-eqb kind 0 e) in refused 20 test
 
   module _ (some : kind ≡ 0 → ⊥) where
-    pub open_22 : control_table s kind ≡ Nothing → T.refused 22 ≡ open_of kind s count room
+    pub open_22 : control_table s kind ≡ None → T.refused 22 ≡ open_of kind s count room
     unfolding number_checked
     open_22 e = let test : number_checked kind s count room ≡ 22 = rw (ne_eqb kind 0 some, e) in refused 21 test
 
-    module _ {control : ℕ} (table : control_table s kind ≡ At control) where
+    module _ {control : ℕ} (table : control_table s kind ≡ Some control) where
       pub open-23 : is_missing (header_for kind s) ≡ true → T.refused 23 ≡ open_of kind s count room
       unfolding number_checked
       open-23 e =
@@ -58,7 +56,7 @@ module _ (kind : ℕ) (s : List ℕ) (count room : ℕ) where
 
         entries_is : entries_of s kind ≡ entry_count s control
         unfolding entries_of control_at
-        entries_is = ap (λ (f : Found). entry_count s (place_of f)) table
+        entries_is = ap (λ (f : Option ℕ). entry_count s (place_of f)) table
 
         module _ (few : count ≤ 256) where
           pub open-25 : (is_read_response_or_write_request kind && ltb count (entry_count s control)) ≡ true → T.refused 25 ≡ open_of kind s count room
@@ -95,21 +93,21 @@ module _ (kind : ℕ) (s : List ℕ) (count room : ℕ) where
 -- ---- where the data view starts
 
 module _ (kind : ℕ) (s : List ℕ) (ps : List ℕ) where
-  pub start_viewed : is_read_response_or_write_request kind ≡ true → {n : ℕ} → n ≡ entry_count s (control_at s kind) → W.Is (n % 65536) ≡ word (view_from kind s ps)
+  pub start_viewed : is_read_response_or_write_request kind ≡ true → {n : ℕ} → n ≡ entry_count s (control_at s kind) → Some (n % 65536) ≡ word (view_from kind s ps)
   unfolding view_from entries_of
-  start_viewed v e = rw v (ap (λ (k : ℕ). W.Is (k % 65536)) e)
+  start_viewed v e = rw v (ap (λ (k : ℕ). Some (k % 65536)) e)
 
   module _ (v : is_read_response_or_write_request kind ≡ false) where
-    pub start_other : is_xdomain kind ≡ false → W.Absent ≡ word (view_from kind s ps)
+    pub start_other : is_xdomain kind ≡ false → None ≡ word (view_from kind s ps)
     unfolding view_from
     start_other x = rw (v, x)
 
     module _ (x : is_xdomain kind ≡ true) where
-      pub start-behind : {i : ℕ} → first_from (asks Holds s (bytes "Properties Block Generation")) 0 ps ≡ At i
-          → W.Is ((i + 1) % 65536) ≡ word (view_from kind s ps)
+      pub start-behind : {i : ℕ} → first_from (asks Holds s (bytes "Properties Block Generation")) 0 ps ≡ Some i
+          → Some ((i + 1) % 65536) ≡ word (view_from kind s ps)
       unfolding view_from
       start-behind e = rw (v, x, e)
 
-      pub start_none : first_from (asks Holds s (bytes "Properties Block Generation")) 0 ps ≡ Nothing → W.Absent ≡ word (view_from kind s ps)
+      pub start_none : first_from (asks Holds s (bytes "Properties Block Generation")) 0 ps ≡ None → None ≡ word (view_from kind s ps)
       unfolding view_from
       start_none e = rw (v, x, e)

@@ -1,4 +1,8 @@
 -- The packet from its tables: what was opened are the tables of the kind, and what they describe is what the steps say. Assumes nothing.
+use Rattle.std.specs.Prelude.{Err, None, Ok, Option, Result, Some}
+use Rattle.refusal.specs.declared.Refusal.{Refusal}
+use Rattle.refusal.specs.declared.Refusal.TheVariants as Refusal
+use Rattle.book.specs.declared.Uuid.{Uuid}
 use Prim.Native.Nat.{ℕ, zero, suc, ◌≤◌, ◌<◌}
 use mathlib.Core.Path.{◌≡◌, refl, sym, ap, ap₂, subst, ◌∙◌}
 use mathlib.Core.Bool.{Bool, true, false, cond, ◌&&◌}
@@ -10,20 +14,12 @@ use lib.ListN.{length, drop, replicate, length-append, length-drop}
 use Rattle.text.specs.Told as T
 use Rattle.text.proofs.Told.{by_cases, fixed_by_told}
 use Rattle.text.specs.Quote.{bytes}
-use Rattle.text.specs.declared.place.Found.{Found}
-use Rattle.text.specs.declared.place.Found.TheVariants.{At, Nothing}
 use Rattle.book.specs.Reading.{accepted, check_of, tables_fill}
 use Rattle.book.specs.Finders.{control_table, uuid_table, place_of}
-use Rattle.packet.specs.declared.Answer.{Answer}
-use Rattle.packet.specs.declared.Answer.TheVariants as A
 use Rattle.packet.specs.declared.Packet.{Packet}
 use Rattle.packet.specs.declared.Header.{Header}
 use Rattle.packet.specs.declared.Header.TheVariants as H
 use Rattle.packet.specs.declared.Tables.{Tables}
-use Rattle.packet.specs.declared.Opened.{Opened}
-use Rattle.packet.specs.declared.Opened.TheVariants as O
-use Rattle.packet.specs.declared.MaybeUuid.{MaybeUuid}
-use Rattle.packet.specs.declared.MaybeUuid.TheVariants.{Is, Absent}
 use Rattle.packet.specs.declared.fill.Pick.TheVariants.{Any, Typed}
 use Rattle.packet.specs.Steps.{entry_of, filled, control_places, header_places, gathered, places_in, places_by, uuid_places, protocol_places, protocol_from, fitting, latch_behind}
 use Rattle.packet.specs.Field.{or_else}
@@ -59,19 +55,19 @@ use Rattle.packet.proofs.Clearing.{filled_zeros}
 -- ---- what is told fixes the answer
 
 -- two answers that tell the same are the same
-pub one_packet_answer : (a b : Answer) → answer_told a ≡ answer_told b → a ≡ b
-one_packet_answer = fixed_by_told answer_told (by_cases A.Packet (A.Refused 0) A.Refused) same
+pub one_packet_answer : (a b : Result Packet Refusal) → answer_told a ≡ answer_told b → a ≡ b
+one_packet_answer = fixed_by_told answer_told (by_cases Ok (Err 0) Err) same
   where
-    same : (a : Answer) → by_cases A.Packet (A.Refused 0) A.Refused (answer_told a) ≡ a
-    same (A.Packet p) = refl
-    same (A.Refused k) = refl
+    same : (a : Result Packet Refusal) → by_cases Ok (Err 0) Err (answer_told a) ≡ a
+    same (Ok p) = refl
+    same (Err k) = refl
 
-pub one_opened : (a b : Opened) → opened_told a ≡ opened_told b → a ≡ b
-one_opened = fixed_by_told opened_told (by_cases O.Tables (O.Refused 0) O.Refused) same
+pub one_opened : (a b : Result Tables Refusal) → opened_told a ≡ opened_told b → a ≡ b
+one_opened = fixed_by_told opened_told (by_cases Ok (Err 0) Err) same
   where
-    same : (a : Opened) → by_cases O.Tables (O.Refused 0) O.Refused (opened_told a) ≡ a
-    same (O.Tables t) = refl
-    same (O.Refused k) = refl
+    same : (a : Result Tables Refusal) → by_cases Ok (Err 0) Err (opened_told a) ≡ a
+    same (Ok t) = refl
+    same (Err k) = refl
 
 -- ---- how many places
 
@@ -81,14 +77,14 @@ length_protocol s table latched i [] ps = refl
 length_protocol s table latched i (d ∷ ds) [] = refl
 length_protocol s table latched i (d ∷ ds) (p ∷ ps) = ap suc (length_protocol s table (latch_behind s (fitting s table i latched) (or_else p (fitting s table i latched)) d latched) (suc i) ds ps)
 
-length_by : (s : List ℕ) (u : MaybeUuid) (ds ps : List ℕ) → length (places_by s u ds ps) ≡ length ps
+length_by : (s : List ℕ) (u : Option Uuid) (ds ps : List ℕ) → length (places_by s u ds ps) ≡ length ps
 unfolding protocol_places
-length_by s (Is u) ds ps = by (uuid_table s u)
+length_by s (Some u) ds ps = by (uuid_table s u)
   where
-    by : (f : Found) → length (places_in s f ds ps) ≡ length ps
-    by (At table) = length_protocol s table 0 0 ds ps
-    by Nothing = refl
-length_by s Absent ds ps = refl
+    by : (f : Option ℕ) → length (places_in s f ds ps) ≡ length ps
+    by (Some table) = length_protocol s table 0 0 ds ps
+    by None = refl
+length_by s None ds ps = refl
 
 -- each dword has its place
 pub length_places : (kind : ℕ) (s ds : List ℕ) → length (places_of kind s ds) ≡ length ds
@@ -115,20 +111,20 @@ control_filled s table ds m n = filled_zeros (entry_of Any [] s table) 0 (length
 
 module _ (s ds : List ℕ) where
   -- with a header table: steps 1, 2 and 3
-  pub described_on : {header : ℕ} {ps m exit : List ℕ} {uuid : MaybeUuid} → m ≡ header_places s header ps → uuid ≡ gathered s (bytes "UUID") ds m
+  pub described_on : {header : ℕ} {ps m exit : List ℕ} {uuid : Option Uuid} → m ≡ header_places s header ps → uuid ≡ gathered s (bytes "UUID") ds m
       → exit ≡ places_by s uuid ds m → Described (H.At header) s ds ps exit uuid
   unfolding uuid_places
-  described_on a b x = record { uuid = b ∙ ap (gathered s (bytes "UUID") ds) a; places = x ∙ ap₂ (λ (u : MaybeUuid) (l : List ℕ). places_by s u ds l) (b ∙ ap (gathered s (bytes "UUID") ds) a) a }
+  described_on a b x = record { uuid = b ∙ ap (gathered s (bytes "UUID") ds) a; places = x ∙ ap₂ (λ (u : Option Uuid) (l : List ℕ). places_by s u ds l) (b ∙ ap (gathered s (bytes "UUID") ds) a) a }
 
   module _ {ps m : List ℕ} (a : m ≡ ps) {header : Header} where
-    pub described_at : {table : ℕ} → header ≡ H.At table → {exit : List ℕ} {uuid : MaybeUuid} → Described (H.At table) s ds m exit uuid → Described header s ds ps exit uuid
+    pub described_at : {table : ℕ} → header ≡ H.At table → {exit : List ℕ} {uuid : Option Uuid} → Described (H.At table) s ds m exit uuid → Described header s ds ps exit uuid
     described_at {table} e {exit} {uuid} d =
         subst (λ h. Described h s ds ps exit uuid) (sym e) (subst (λ l. Described (H.At table) s ds l exit uuid) a d)
 
-    pub described_missing : header ≡ H.Missing → Described header s ds ps m Absent
+    pub described_missing : header ≡ H.Missing → Described header s ds ps m None
     described_missing e = record { uuid = rw e; places = a ∙ rw e }
 
-    pub described_unasked : header ≡ H.Unasked → Described header s ds ps m Absent
+    pub described_unasked : header ≡ H.Unasked → Described header s ds ps m None
     described_unasked e = record { uuid = rw e; places = a ∙ rw e }
 
 -- ---- what was opened
@@ -214,9 +210,9 @@ module _ (kind : ℕ) (s ds : List ℕ) {t : Tables} {room : ℕ} (o : Open kind
   unfolding header_for header_at
   header_at_lem true x = o.header ∙ rw x (by (uuid_table s zero_uuid) (subst (λ b. (b && is_nothing (uuid_table s zero_uuid)) ≡ false) x o.there))
     where
-      by : (f : Found) → is_nothing f ≡ false → header_of f ≡ H.At (place_of f)
-      by (At p) e = refl
-      by Nothing e = absurd (let q : ◌≡◌ {A = ℕ} 0 1 = cc in omega arith)
+      by : (f : Option ℕ) → is_nothing f ≡ false → header_of f ≡ H.At (place_of f)
+      by (Some p) e = refl
+      by None e = absurd (let q : ◌≡◌ {A = ℕ} 0 1 = cc in omega arith)
   header_at_lem false x = o.header ∙ rw x
 
   control_is : control_places s t.control ds ≡ control_places s (control_at s kind) ds
@@ -248,7 +244,7 @@ module _ (kind : ℕ) (s ds out : List ℕ) (fits : length s ≤ 65535) where
 
   -- a packet: its places in front, the rest as found
   pub over_packet : {t : Tables} → open_of kind s (length ds) (length out) ≡ T.is t → {p : Packet} {ps exit : List ℕ} → Made kind s t ds ps p
-      → exit ≡ ps ++ drop (length ds) out → Over kind s ds out exit (A.Packet p)
+      → exit ≡ ps ++ drop (length ds) out → Over kind s ds out exit (Ok p)
   unfolding over_of packet_of list_by
   over_packet {t} e {p} {ps} m x =
       let o = opened_tables kind s (length ds) (length out) e in
@@ -270,7 +266,7 @@ module _ (kind : ℕ) (s ds out : List ℕ) (fits : length s ≤ 65535) where
       length-append ps (drop (length ds) out) ∙ omega (arith, size, length-drop (length ds) out, o.fit)
 
   -- a number: nothing is touched
-  pub over_number : {k : ℕ} → open_of kind s (length ds) (length out) ≡ T.refused k → Over kind s ds out out (A.Refused k)
+  pub over_number : {k : ℕ} → open_of kind s (length ds) (length out) ≡ T.refused k → Over kind s ds out out (Err k)
   unfolding over_of list_by
   over_number {k} e =
       let w = opened_refused kind s (length ds) (length out) e in
@@ -300,7 +296,7 @@ checked_fits s e = by (leb (length s) 65535) refl (tables_fill s 0) e
     by false h b x = absurd (let q : ◌≡◌ {A = ℕ} 0 1 = cc in omega arith)
 
 -- number 20
-pub parsed_20 : (kind : ℕ) (s ds out : List ℕ) {k : ℕ} → check_of s ≡ T.refused k → Parsed kind s ds out out (A.Refused k)
+pub parsed_20 : (kind : ℕ) (s ds out : List ℕ) {k : ℕ} → check_of s ≡ T.refused k → Parsed kind s ds out out (Err k)
 unfolding parse_of number_of list_by
 parsed_20 kind s ds out {k} e =
     let twenty : k ≡ 20 = number_20 s e in
@@ -323,12 +319,12 @@ length_listed kind s ds out = by (T.number_in (check_of s)) (number_checked kind
         ∙ omega (arith, size, length-drop (length (places_of kind s ds)) out, fit)
 
 -- a book too long to have passed
-pub over_20 : (kind : ℕ) (s ds out : List ℕ) → 65535 < length s → Over kind s ds out out (A.Refused 20)
+pub over_20 : (kind : ℕ) (s ds out : List ℕ) → 65535 < length s → Over kind s ds out out (Err Refusal.BadBook)
 unfolding over_of number_over list_by
 over_20 kind s ds out long = record { answer = rw (lt-ltb 65535 (length s) long); places = refl }
 
 -- over a checked book it makes no difference that the check was made before
-pub over_is_parsed : (kind : ℕ) (s ds : List ℕ) {out exit : List ℕ} {r : Answer} → check_of s ≡ accepted → Over kind s ds out exit r
+pub over_is_parsed : (kind : ℕ) (s ds : List ℕ) {out exit : List ℕ} {r : Result Packet Refusal} → check_of s ≡ accepted → Over kind s ds out exit r
     → Parsed kind s ds out exit r
 unfolding over_of parse_of number_of number_over
 over_is_parsed kind s ds {out} checked o =

@@ -1,5 +1,7 @@
 -- What the packet call promises, said of the book's tables: a number is answered exactly when it applies and no earlier one does. Each test of the
 -- call is its number's condition, and the first that holds is the answer. Assumes nothing.
+use Rattle.std.specs.Prelude.{Err, None, Ok, Option, Result, Some}
+use Rattle.refusal.specs.declared.Refusal.{Refusal}
 use Prim.Native.Nat.{ℕ, zero, suc, ◌<◌}
 use mathlib.Core.Path.{◌≡◌, refl, sym, ap, subst, ◌∙◌}
 use mathlib.Core.Bool.{Bool, true, false, cond, ◌&&◌}
@@ -12,8 +14,6 @@ use lib.ListN.{length, take, drop}
 use lib.Seq.{take_at, drop_at}
 use Rattle.text.specs.Told as T
 use Rattle.text.proofs.Places.{by_order}
-use Rattle.text.specs.declared.place.Found.{Found}
-use Rattle.text.specs.declared.place.Found.TheVariants.{At, Nothing}
 use Rattle.tlv.specs.Number.{Bytes}
 use Rattle.tlv.specs.Grammar.{All, Apart}
 use Rattle.book.specs.Grammar.{Owner, kind, uuid, entry_piece, Table, GoodTable, table_piece, IsBook}
@@ -24,8 +24,6 @@ use Rattle.book.proofs.Unique.{one_book}
 use Rattle.book.proofs.Answers.{control_table_is, control_table_none, uuid_table_is, uuid_table_none, count_entries_is, first_good, entry_of_offset_is}
 use Rattle.book.proofs.Finding.{first_stands}
 use Rattle.packet.specs.declared.Packet.{Packet}
-use Rattle.packet.specs.declared.Answer.{Answer}
-use Rattle.packet.specs.declared.Answer.TheVariants as A
 use Rattle.packet.specs.Packet.{
   is_read_response_or_write_request,
   is_xdomain,
@@ -51,7 +49,7 @@ use Rattle.packet.proofs.Packets.{one_packet_answer, length_places}
 
 -- ---- tables
 
-nothing_at : {p : ℕ} → Nothing ≡ At p → ⊥
+nothing_at : {p : ℕ} → None ≡ Some p → ⊥
 nothing_at h = let z : ◌≡◌ {A = ℕ} 0 1 = cc in omega arith
 
 false_true : false ≡ true → ⊥
@@ -118,22 +116,22 @@ module _ (k : ℕ) (s : List ℕ) (count room : ℕ) where
       rw (ne_eqb j 20 (omega arith), ne_eqb j 21 (omega arith), ne_eqb j 22 (omega arith), ne_eqb j 23 (omega arith), ne_eqb j 24 (omega arith), ne_eqb j 25 (omega arith), ne_eqb j 26 (omega arith)) at c
 
   module _ (b : IsBook s) where
-    no_control : (f : Found) → control_table s k ≡ f → is_nothing f ≡ true → HasNot s (kind k)
-    no_control (At p) e h = absurd (false_true h)
-    no_control Nothing e h = none_has s b (kind k) (control_table_none s b k e)
+    no_control : (f : Option ℕ) → control_table s k ≡ f → is_nothing f ≡ true → HasNot s (kind k)
+    no_control (Some p) e h = absurd (false_true h)
+    no_control None e h = none_has s b (kind k) (control_table_none s b k e)
 
-    some_control : (f : Found) → control_table s k ≡ f → is_nothing f ≡ false → HasNot s (kind k) → ⊥
-    some_control (At p) e h n = let f = control_table_is s b k p e in n f.value (found_has s b (kind k) f)
-    some_control Nothing e h n = absurd (false_true (sym h))
+    some_control : (f : Option ℕ) → control_table s k ≡ f → is_nothing f ≡ false → HasNot s (kind k) → ⊥
+    some_control (Some p) e h n = let f = control_table_is s b k p e in n f.value (found_has s b (kind k) f)
+    some_control None e h n = absurd (false_true (sym h))
 
-    no_header : (f : Found) → uuid_table s zero_uuid ≡ f → (c : Bool) → is_xdomain k ≡ c → (c && is_nothing f) ≡ true → NoHeader k s
-    no_header (At p) e true x h = absurd (false_true h)
-    no_header Nothing e true x h = record { crossing = x; none = none_has s b (uuid zero_uuid) (uuid_table_none s b zero_uuid e) }
+    no_header : (f : Option ℕ) → uuid_table s zero_uuid ≡ f → (c : Bool) → is_xdomain k ≡ c → (c && is_nothing f) ≡ true → NoHeader k s
+    no_header (Some p) e true x h = absurd (false_true h)
+    no_header None e true x h = record { crossing = x; none = none_has s b (uuid zero_uuid) (uuid_table_none s b zero_uuid e) }
     no_header f e false x h = absurd (false_true h)
 
-    some_header : (f : Found) → uuid_table s zero_uuid ≡ f → (c : Bool) → is_xdomain k ≡ c → (c && is_nothing f) ≡ false → NoHeader k s → ⊥
-    some_header (At p) e true x h n = let f = uuid_table_is s b zero_uuid p e in n.none f.value (found_has s b (uuid zero_uuid) f)
-    some_header Nothing e true x h n = false_true (sym h)
+    some_header : (f : Option ℕ) → uuid_table s zero_uuid ≡ f → (c : Bool) → is_xdomain k ≡ c → (c && is_nothing f) ≡ false → NoHeader k s → ⊥
+    some_header (Some p) e true x h n = let f = uuid_table_is s b zero_uuid p e in n.none f.value (found_has s b (uuid zero_uuid) f)
+    some_header None e true x h n = false_true (sym h)
     some_header f e false x h n = false_true (sym x ∙ n.crossing)
 
     -- n is the number of control entries
@@ -141,17 +139,17 @@ module _ (k : ℕ) (s : List ℕ) (count room : ℕ) where
     unfolding entries_of control_at
     entries_are t h = by (control_table s k) refl
       where
-        by : (f : Found) → control_table s k ≡ f → entry_count s (place_of f) ≡ length t.entries
-        by (At p) e =
+        by : (f : Option ℕ) → control_table s k ≡ f → entry_count s (place_of f) ≡ length t.entries
+        by (Some p) e =
             let f = control_table_is s b k p e in
             let same : f.value ≡ t = has_one s (kind k) f.value t (found_has s b (kind k) f) h in
             count_entries_is s f.value p (first_good GoodTable f b.tables_good) (first_stands f) ∙ ap (λ (u : Table). length u.entries) same
-        by Nothing e = absurd (none_has s b (kind k) (control_table_none s b k e) t h)
+        by None e = absurd (none_has s b (kind k) (control_table_none s b k e) t h)
 
-    too_few : (HasNot s (kind k) → ⊥) → (f : Found) → control_table s k ≡ f → (v : Bool) → is_read_response_or_write_request k ≡ v → (v && ltb count (entries_of s k)) ≡ true → TooFew k s count
-    too_few some Nothing e v x l = absurd (some (none_has s b (kind k) (control_table_none s b k e)))
-    too_few some (At p) e false x l = absurd (false_true l)
-    too_few some (At p) e true x l =
+    too_few : (HasNot s (kind k) → ⊥) → (f : Option ℕ) → control_table s k ≡ f → (v : Bool) → is_read_response_or_write_request k ≡ v → (v && ltb count (entries_of s k)) ≡ true → TooFew k s count
+    too_few some None e v x l = absurd (some (none_has s b (kind k) (control_table_none s b k e)))
+    too_few some (Some p) e false x l = absurd (false_true l)
+    too_few some (Some p) e true x l =
         let f = control_table_is s b k p e in
         let h = found_has s b (kind k) f in
         record { viewing = x; table = f.value; has = h; fewer = omega (arith, entries_are f.value h, ltb-true count (entries_of s k) l) }
@@ -238,8 +236,8 @@ module _ (s : List ℕ) (b : IsBook s) (k : ℕ) (t : Table) (h : Has s (kind k)
   unfolding entry_of control_at
   control_entry_is i = by (control_table s k) refl
     where
-      by : (f : Found) → control_table s k ≡ f → (to : ℕ) × Finds (take to s) entry_piece (λ e. e.offset ≡ i) t.entries (entry_of_offset s (place_of f) i)
-      by (At p) e =
+      by : (f : Option ℕ) → control_table s k ≡ f → (to : ℕ) × Finds (take to s) entry_piece (λ e. e.offset ≡ i) t.entries (entry_of_offset s (place_of f) i)
+      by (Some p) e =
           let f = control_table_is s b k p e in
           let same : f.value ≡ t = has_one s (kind k) f.value t (found_has s b (kind k) f) h in
           let to : ℕ = (first_stands f).part.to in (
@@ -247,19 +245,19 @@ module _ (s : List ℕ) (b : IsBook s) (k : ℕ) (t : Table) (h : Has s (kind k)
             subst (λ v. Finds (take to s) entry_piece (λ e. e.offset ≡ i) v.entries (entry_of_offset s p i)) same
                 (entry_of_offset_is s f.value p (first_good GoodTable f b.tables_good) (first_stands f) i),
           )
-      by Nothing e = absurd (none_has s b (kind k) (control_table_none s b k e) t h)
+      by None e = absurd (none_has s b (kind k) (control_table_none s b k e) t h)
 
 -- ---- the call
 
 -- a refusal is the first number that applies, and no place is touched
-pub refused_packet : {k : ℕ} {s ds out exit : List ℕ} {n : ℕ} → Bytes s → 0 < n → Parsed k s ds out exit (A.Refused n)
+pub refused_packet : {k : ℕ} {s ds out exit : List ℕ} {n : ℕ} → Bytes s → 0 < n → Parsed k s ds out exit (Err n)
     → Applies k s (length ds) (length out) n × (exit ≡ out)
 unfolding list_by
 refused_packet {k} {s} {ds} {out} {exit} {n} bytes some p =
     ((packet_answer_number k s bytes ds (length out) n some).0 (sym (ap T.number_in p.answer)), p.places)
 
 -- a packet writes as many places as it has dwords, and leaves the others
-pub packet_writes_its_places : {k : ℕ} {s ds out exit : List ℕ} {p : Packet} → Parsed k s ds out exit (A.Packet p)
+pub packet_writes_its_places : {k : ℕ} {s ds out exit : List ℕ} {p : Packet} → Parsed k s ds out exit (Ok p)
     → (take (length ds) exit ≡ places_of k s ds) × (drop (length ds) exit ≡ drop (length ds) out)
 unfolding list_by
 packet_writes_its_places {k} {s} {ds} {out} p =
@@ -269,19 +267,19 @@ packet_writes_its_places {k} {s} {ds} {out} p =
     )
 
 -- no second answer satisfies the contract, places included
-pub no_second_packet : {k : ℕ} {s ds out exit exit' : List ℕ} {r r' : Answer} → Parsed k s ds out exit r → Parsed k s ds out exit' r' → (r ≡ r') × (exit ≡ exit')
+pub no_second_packet : {k : ℕ} {s ds out exit exit' : List ℕ} {r r' : Result Packet Refusal} → Parsed k s ds out exit r → Parsed k s ds out exit' r' → (r ≡ r') × (exit ≡ exit')
 no_second_packet {k} {s} {ds} {out} {exit} {exit'} {r} {r'} a b =
     let same : answer_told r ≡ answer_told r' = a.answer ∙ sym b.answer in
     (one_packet_answer r r' same, a.places ∙ rw same (sym b.places))
 
 -- nor that of a call over a book that was checked before
-pub no_second_packet_over : {k : ℕ} {s ds out exit exit' : List ℕ} {r r' : Answer} → Over k s ds out exit r → Over k s ds out exit' r' → (r ≡ r') × (exit ≡ exit')
+pub no_second_packet_over : {k : ℕ} {s ds out exit exit' : List ℕ} {r r' : Result Packet Refusal} → Over k s ds out exit r → Over k s ds out exit' r' → (r ≡ r') × (exit ≡ exit')
 no_second_packet_over {k} {s} {ds} {out} {exit} {exit'} {r} {r'} a b =
     let same : answer_told r ≡ answer_told r' = a.answer ∙ sym b.answer in
     (one_packet_answer r r' same, a.places ∙ rw same (sym b.places))
 
 -- the same answer whatever the place list held
-pub answer_needs_no_old_place : {k : ℕ} {s ds out other exit exit' : List ℕ} {r r' : Answer} → length out ≡ length other
+pub answer_needs_no_old_place : {k : ℕ} {s ds out other exit exit' : List ℕ} {r r' : Result Packet Refusal} → length out ≡ length other
     → Parsed k s ds out exit r → Parsed k s ds other exit' r' → r ≡ r'
 answer_needs_no_old_place {k} {s} {ds} {out} {other} {exit} {exit'} {r} {r'} e a b =
     one_packet_answer r r' (a.answer ∙ ap (parse_of k s ds) e ∙ sym b.answer)

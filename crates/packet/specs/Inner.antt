@@ -1,11 +1,11 @@
 -- What the functions below the packet call promise each other. A reader of the packet call's promise needs nothing from here.
 -- Assumes nothing.
-use Rattle.std.specs.Prelude.{ℕ, zero, suc, ◌≤◌, ◌≡◌, Bool, true, false, cond, ◌&&◌, List, [], eqb, ltb, length, get_or, set, replicate}
+use Rattle.refusal.specs.declared.Refusal.{Refusal}
+use Rattle.book.specs.declared.Uuid.{Uuid}
+use Rattle.std.specs.Prelude.{ℕ, zero, suc, ◌≤◌, ◌≡◌, Bool, true, false, cond, ◌&&◌, List, [], eqb, ltb, length, get_or, set, replicate, Err, None, Ok, Option, Result, Some}
 use Rattle.text.specs.Told.{Told, is, refused, unless}
 use Rattle.text.specs.Quote.{bytes}
 use Rattle.text.specs.Same.{same_text}
-use Rattle.text.specs.declared.place.Found.{Found}
-use Rattle.text.specs.declared.place.Found.TheVariants.{At, Nothing}
 use Rattle.tlv.specs.Number.{number}
 use Rattle.book.specs.declared.seek.Want.{Want}
 use Rattle.book.specs.declared.seek.Want.TheVariants as W
@@ -15,10 +15,6 @@ use Rattle.packet.specs.declared.Header.{Header}
 use Rattle.packet.specs.declared.Header.TheVariants as H
 use Rattle.packet.specs.declared.Tables.{Tables}
 use Rattle.packet.specs.declared.Packet.{Packet}
-use Rattle.packet.specs.declared.Opened.{Opened}
-use Rattle.packet.specs.declared.Opened.TheVariants as O
-use Rattle.packet.specs.declared.MaybeUuid.{MaybeUuid}
-use Rattle.packet.specs.declared.MaybeUuid.TheVariants.{Absent}
 use Rattle.packet.specs.declared.fill.Pick.{Pick}
 use Rattle.packet.specs.declared.fill.Pick.TheVariants.{Any, Typed}
 use Rattle.packet.specs.Field.{name_in}
@@ -72,9 +68,9 @@ pub record Latched (s : List ℕ) (table latched found entry dword : ℕ) (typed
 
 -- ---- the tables of a kind
 
-abbrev pub header_of : Found → Header
-header_of (At table) = H.At table
-header_of Nothing = H.Missing
+abbrev pub header_of : Option ℕ → Header
+header_of (Some table) = H.At table
+header_of None = H.Missing
 
 unfoldable pub header_for : ℕ → List ℕ → Header
 header_for kind s = cond (is_xdomain kind) (header_of (uuid_table s zero_uuid)) H.Unasked
@@ -85,9 +81,9 @@ is_missing H.Missing = true
 is_missing H.Unasked = false
 
 -- what each case of the opening's answer tells: the tables, or the number
-abbrev pub opened_told : Opened → Told Tables
-opened_told (O.Tables tables) = is tables
-opened_told (O.Refused k) = refused k
+abbrev pub opened_told : Result Tables Refusal → Told Tables
+opened_told (Ok tables) = is tables
+opened_told (Err k) = refused k
 
 -- the tables of a kind
 abbrev pub tables_of : ℕ → List ℕ → Tables
@@ -103,12 +99,12 @@ places_with (H.At table) s ds ps = uuid_places s ds (header_places s table ps)
 places_with H.Missing s ds ps = ps
 places_with H.Unasked s ds ps = ps
 
-abbrev pub uuid_with : Header → List ℕ → List ℕ → List ℕ → MaybeUuid
+abbrev pub uuid_with : Header → List ℕ → List ℕ → List ℕ → Option Uuid
 uuid_with (H.At table) s ds ps = gathered s (bytes "UUID") ds (header_places s table ps)
-uuid_with H.Missing s ds ps = Absent
-uuid_with H.Unasked s ds ps = Absent
+uuid_with H.Missing s ds ps = None
+uuid_with H.Unasked s ds ps = None
 
-pub record Described (header : Header) (s ds ps exit : List ℕ) (r : MaybeUuid) : Type 0 where
+pub record Described (header : Header) (s ds ps exit : List ℕ) (r : Option Uuid) : Type 0 where
   pub uuid : r ≡ uuid_with header s ds ps
   pub places : exit ≡ places_with header s ds ps
 

@@ -1,20 +1,13 @@
 -- The packet of a kind, a book and dwords, and the number that refuses it.
 -- Assumes nothing.
-use Rattle.std.specs.Prelude.{ℕ, zero, suc, ◌+◌, ◌%◌, ◌≡◌, Bool, true, false, cond, ◌&&◌, ◌||◌, List, [], ◌∷◌, ◌++◌, eqb, ltb, length, drop}
+use Rattle.refusal.specs.declared.Refusal.{Refusal}
+use Rattle.std.specs.Prelude.{ℕ, zero, suc, ◌+◌, ◌%◌, ◌≡◌, Bool, true, false, cond, ◌&&◌, ◌||◌, List, [], ◌∷◌, ◌++◌, eqb, ltb, length, drop, Err, None, Ok, Option, Result, Some}
 use Rattle.text.specs.Told.{Told, is, absent, refused, number_in, unless}
 use Rattle.text.specs.Quote.{bytes}
-use Rattle.text.specs.declared.place.Found.{Found}
-use Rattle.text.specs.declared.place.Found.TheVariants.{At, Nothing}
-use Rattle.entry.specs.declared.optional.MaybeWord.{MaybeWord}
-use Rattle.entry.specs.declared.optional.MaybeWord.TheVariants as W
 use Rattle.book.specs.declared.Uuid.{Uuid}
 use Rattle.book.specs.Reading.{check_of}
 use Rattle.book.specs.Finders.{place_of, control_table, uuid_table, entry_count}
-use Rattle.packet.specs.declared.Answer.{Answer}
-use Rattle.packet.specs.declared.Answer.TheVariants as A
 use Rattle.packet.specs.declared.Packet.{Packet}
-use Rattle.packet.specs.declared.MaybeUuid.{MaybeUuid}
-use Rattle.packet.specs.declared.MaybeUuid.TheVariants.{Is, Absent}
 use Rattle.packet.specs.declared.field.Ask.TheVariants.{Holds}
 use Rattle.packet.specs.Field.{asks}
 use Rattle.packet.specs.Steps.{control_places, header_places, gathered, uuid_places}
@@ -30,9 +23,9 @@ is_xdomain kind = eqb kind 8 || eqb kind 9
 abbrev pub zero_uuid : Uuid
 zero_uuid = record { first = 0; second = 0; third = 0; fourth = 0 }
 
-abbrev pub is_nothing : Found → Bool
-is_nothing (At p) = false
-is_nothing Nothing = true
+abbrev pub is_nothing : Option ℕ → Bool
+is_nothing (Some p) = false
+is_nothing None = true
 
 -- where the control table of a kind stands, and where the header table stands; said of books that have them, as 22 and 23 see to
 unfoldable pub control_at : List ℕ → ℕ → ℕ
@@ -82,30 +75,30 @@ unfoldable pub places_of : ℕ → List ℕ → List ℕ → List ℕ
 places_of kind s ds = cond (is_xdomain kind) (uuid_places s ds (step_one kind s ds)) (control_places s (control_at s kind) ds)
 
 -- the UUID that step 2 gathers
-unfoldable pub uuid_of : ℕ → List ℕ → List ℕ → MaybeUuid
-uuid_of kind s ds = cond (is_xdomain kind) (gathered s (bytes "UUID") ds (step_one kind s ds)) Absent
+unfoldable pub uuid_of : ℕ → List ℕ → List ℕ → Option Uuid
+uuid_of kind s ds = cond (is_xdomain kind) (gathered s (bytes "UUID") ds (step_one kind s ds)) None
 
 -- the first index from i on at which an entry is as asked
-unfoldable pub first_from : (ℕ → Bool) → ℕ → List ℕ → Found
-first_from ok i [] = Nothing
-first_from ok i (p ∷ ps) = cond (ok p) (At i) (first_from ok (suc i) ps)
+unfoldable pub first_from : (ℕ → Bool) → ℕ → List ℕ → Option ℕ
+first_from ok i [] = None
+first_from ok i (p ∷ ps) = cond (ok p) (Some i) (first_from ok (suc i) ps)
 
 -- just after what was found
-abbrev pub behind : Found → Found
-behind (At i) = At (i + 1)
-behind Nothing = Nothing
+abbrev pub behind : Option ℕ → Option ℕ
+behind (Some i) = Some (i + 1)
+behind None = None
 
 -- where the data view starts: for kinds 2 and 3 at n; for kinds 8 and 9 just after the first field with `Properties Block Generation`
-unfoldable pub view_from : ℕ → List ℕ → List ℕ → Found
+unfoldable pub view_from : ℕ → List ℕ → List ℕ → Option ℕ
 view_from kind s ps =
-    cond (is_read_response_or_write_request kind) (At (entries_of s kind))
+    cond (is_read_response_or_write_request kind) (Some (entries_of s kind))
     (cond (is_xdomain kind) (behind (first_from (asks Holds s (bytes "Properties Block Generation")) 0 ps))
-    Nothing)
+    None)
 
 -- a start, cut to 16 bits
-abbrev pub word : Found → MaybeWord
-word (At i) = W.Is (i % 65536)
-word Nothing = W.Absent
+abbrev pub word : Option ℕ → Option ℕ
+word (Some i) = Some (i % 65536)
+word None = None
 
 unfoldable pub packet_of : ℕ → List ℕ → List ℕ → Packet
 packet_of kind s ds =
@@ -114,14 +107,14 @@ packet_of kind s ds =
 -- ---- the answer
 
 -- what each case of an answer tells: the packet, or document 01's number
-abbrev pub answer_told : Answer → Told Packet
-answer_told (A.Packet p) = is p
-answer_told (A.Refused k) = refused k
+abbrev pub answer_told : Result Packet Refusal → Told Packet
+answer_told (Ok p) = is p
+answer_told (Err k) = refused k
 
 -- the UUID, as a packet keeps it
-abbrev pub maybe_uuid : MaybeUuid → Told Uuid
-maybe_uuid (Is u) = is u
-maybe_uuid Absent = absent
+abbrev pub maybe_uuid : Option Uuid → Told Uuid
+maybe_uuid (Some u) = is u
+maybe_uuid None = absent
 
 -- what is told: 20 to 26 in their order, else the packet
 unfoldable pub parse_of : ℕ → List ℕ → List ℕ → ℕ → Told Packet
@@ -138,11 +131,11 @@ list_by absent ps out = out
 list_by (refused k) ps out = out
 
 -- the answer, and each lent place
-pub record Parsed (kind : ℕ) (s ds out exit : List ℕ) (r : Answer) : Type 0 where
+pub record Parsed (kind : ℕ) (s ds out exit : List ℕ) (r : Result Packet Refusal) : Type 0 where
   pub answer : answer_told r ≡ parse_of kind s ds (length out)
   pub places : exit ≡ list_by (answer_told r) (places_of kind s ds) out
 
 -- the same over a book that was checked before; over a checked book it gives `Parsed` (`over_is_parsed`)
-pub record Over (kind : ℕ) (s ds out exit : List ℕ) (r : Answer) : Type 0 where
+pub record Over (kind : ℕ) (s ds out exit : List ℕ) (r : Result Packet Refusal) : Type 0 where
   pub answer : answer_told r ≡ over_of kind s ds (length out)
   pub places : exit ≡ list_by (answer_told r) (places_of kind s ds) out

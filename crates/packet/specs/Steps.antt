@@ -1,12 +1,9 @@
 -- The steps that describe a packet's dwords: for each dword the place of its entry, 0 while it has none.
 -- Assumes nothing.
-use Rattle.std.specs.Prelude.{ℕ, zero, suc, cond, List, [], ◌∷◌, eqb}
+use Rattle.book.specs.declared.Uuid.{Uuid}
+use Rattle.std.specs.Prelude.{ℕ, zero, suc, cond, List, [], ◌∷◌, eqb, None, Option, Some}
 use Rattle.text.specs.Quote.{bytes}
-use Rattle.text.specs.declared.place.Found.{Found}
-use Rattle.text.specs.declared.place.Found.TheVariants.{At, Nothing}
 use Rattle.book.specs.Finders.{uuid_table, entry_of_offset, entry_of_type}
-use Rattle.packet.specs.declared.MaybeUuid.{MaybeUuid}
-use Rattle.packet.specs.declared.MaybeUuid.TheVariants.{Is, Absent}
 use Rattle.packet.specs.declared.fill.Pick.{Pick}
 use Rattle.packet.specs.declared.fill.Pick.TheVariants.{Any, Typed}
 use Rattle.packet.specs.declared.field.Ask.TheVariants.{Named}
@@ -43,15 +40,15 @@ values_named s name (d ∷ ds) (p ∷ ps) =
     cond (asks Named s name p) (d ∷ later) later
 
 -- step 2: they are the UUID if there are exactly four, else there is none
-abbrev pub exactly_four : List ℕ → MaybeUuid
-exactly_four [] = Absent
-exactly_four (a ∷ []) = Absent
-exactly_four (a ∷ b ∷ []) = Absent
-exactly_four (a ∷ b ∷ c ∷ []) = Absent
-exactly_four (a ∷ b ∷ c ∷ d ∷ []) = Is (record { first = a; second = b; third = c; fourth = d })
-exactly_four (a ∷ b ∷ c ∷ d ∷ e ∷ l) = Absent
+abbrev pub exactly_four : List ℕ → Option Uuid
+exactly_four [] = None
+exactly_four (a ∷ []) = None
+exactly_four (a ∷ b ∷ []) = None
+exactly_four (a ∷ b ∷ c ∷ []) = None
+exactly_four (a ∷ b ∷ c ∷ d ∷ []) = Some (record { first = a; second = b; third = c; fourth = d })
+exactly_four (a ∷ b ∷ c ∷ d ∷ e ∷ l) = None
 
-unfoldable pub gathered : List ℕ → List ℕ → List ℕ → List ℕ → MaybeUuid
+unfoldable pub gathered : List ℕ → List ℕ → List ℕ → List ℕ → Option Uuid
 gathered s name ds ps = exactly_four (values_named s name ds ps)
 
 -- step 3, with the place of the value whose name is latched, 0 while none is: the first entry of the offset whose type equals the latched name
@@ -82,13 +79,13 @@ unfoldable pub protocol_places : List ℕ → ℕ → List ℕ → List ℕ → 
 protocol_places s table = protocol_from s table 0 0
 
 -- in that UUID's table, if the book has it; else nothing changes
-abbrev pub places_in : List ℕ → Found → List ℕ → List ℕ → List ℕ
-places_in s (At table) ds ps = protocol_places s table ds ps
-places_in s Nothing ds ps = ps
+abbrev pub places_in : List ℕ → Option ℕ → List ℕ → List ℕ → List ℕ
+places_in s (Some table) ds ps = protocol_places s table ds ps
+places_in s None ds ps = ps
 
-abbrev pub places_by : List ℕ → MaybeUuid → List ℕ → List ℕ → List ℕ
-places_by s (Is uuid) ds ps = places_in s (uuid_table s uuid) ds ps
-places_by s Absent ds ps = ps
+abbrev pub places_by : List ℕ → Option Uuid → List ℕ → List ℕ → List ℕ
+places_by s (Some uuid) ds ps = places_in s (uuid_table s uuid) ds ps
+places_by s None ds ps = ps
 
 -- steps 2 and 3 on the dwords as step 1 left them
 unfoldable pub uuid_places : List ℕ → List ℕ → List ℕ → List ℕ

@@ -21,14 +21,7 @@ ghost use Rattle.packet.specs.Inner.{Ready, Made};
 use crate::numbers::{open, start_of};
 use crate::steps::describe;
 use book::{Checked, Uuid};
-use entry::optional::MaybeWord;
-use refusal::BAD_BOOK;
-
-#[derive(Clone, Copy)]
-pub enum MaybeUuid {
-    Is(Uuid),
-    Absent,
-}
+use refusal::Refusal;
 
 // The header table, which kinds 8 and 9 ask for and no other.
 #[derive(Clone, Copy)]
@@ -45,41 +38,29 @@ pub struct Tables {
     pub header: Header,
 }
 
-#[derive(Clone, Copy)]
-pub enum Opened {
-    Tables(Tables),
-    Refused(u8),
-}
-
 // A packet: its kind, how many dwords it has, the UUID that they hold, and where its data view starts.
 #[derive(Clone, Copy)]
 pub struct Packet {
     pub kind: u8,
     pub dwords: usize,
-    pub uuid: MaybeUuid,
-    pub start: MaybeWord,
-}
-
-#[derive(Clone, Copy)]
-pub enum Answer {
-    Packet(Packet),
-    Refused(u8),
+    pub uuid: Option<Uuid>,
+    pub start: Option<u16>,
 }
 
 // The packet of a kind over a book, the place of each dword's entry in the first places; or the one number that refuses it, with no place
 // touched.
-pub fn parse(kind: u8, book: &[u8], dwords: &[u32], places: &mut [u32]) -> Answer
+pub fn parse(kind: u8, book: &[u8], dwords: &[u32], places: &mut [u32]) -> Result<Packet, Refusal>
     ensures { Parsed kind book.now dwords.now places.old places.new result }
 {
     let checked = book::check(book);
     match checked {
         Checked::Accepted => parse_checked(kind, book, dwords, places),
-        Checked::Refused(number) => Answer::Refused(number),
+        Checked::Refused(number) => Err(number),
     }
 }
 
 // The same over a book that is known to be checked.
-pub fn parse_checked(kind: u8, book: &[u8], dwords: &[u32], places: &mut [u32]) -> Answer
+pub fn parse_checked(kind: u8, book: &[u8], dwords: &[u32], places: &mut [u32]) -> Result<Packet, Refusal>
     requires { check_of book.now ≡ accepted }
     ensures { Parsed kind book.now dwords.now places.old places.new result }
 {
@@ -88,23 +69,23 @@ pub fn parse_checked(kind: u8, book: &[u8], dwords: &[u32], places: &mut [u32]) 
 
 // The same for whoever checked the book before. Any book is taken: one that did not pass is described as far as its fields can be read, and
 // one that is too long to have passed is refused.
-pub fn parse_over(kind: u8, book: &[u8], dwords: &[u32], places: &mut [u32]) -> Answer
+pub fn parse_over(kind: u8, book: &[u8], dwords: &[u32], places: &mut [u32]) -> Result<Packet, Refusal>
     ensures { Over kind book.now dwords.now places.old places.new result }
 {
     if 65_535 < book.len() {
-        return Answer::Refused(BAD_BOOK);
+        return Err(Refusal::BadBook);
     }
     let n = dwords.len();
     let opened = open(kind, book, n, places.len());
     match opened {
-        Opened::Tables(tables) => Answer::Packet(make(
+        Ok(tables) => Ok(make(
             kind,
             book,
             tables,
             dwords,
             &mut places[..n],
         )),
-        Opened::Refused(number) => Answer::Refused(number),
+        Err(number) => Err(number),
     }
 }
 

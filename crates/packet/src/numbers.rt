@@ -6,11 +6,9 @@ ghost use Rattle.packet.specs.Inner.{header_for, is_missing, opened_told, open_o
 
 use crate::field::Ask;
 use crate::seek::first_asked;
-use crate::{Header, Opened, Tables};
+use crate::{Header, Tables};
 use book::{Uuid, find};
-use entry::optional::MaybeWord;
-use refusal::{FEW_PLACES, LONG_PACKET, NO_HEADER_TABLE, NO_KIND, NO_TABLE, SHORT_PACKET};
-use text::place::Found;
+use refusal::Refusal;
 
 // Read responses and write requests: the data view starts behind the control entries.
 pub fn is_read_response_or_write_request(kind: u8) -> bool
@@ -33,29 +31,29 @@ pub fn is_xdomain_kind(kind: u8) -> bool
 }
 
 // The tables of a packet with so many dwords and places, or the number that refuses it.
-pub fn open(kind: u8, book: &[u8], count: usize, room: usize) -> Opened
+pub fn open(kind: u8, book: &[u8], count: usize, room: usize) -> Result<Tables, Refusal>
     ensures { opened_told result ≡ open_of kind book.now count room }
 {
     if kind == 0 {
-        return Opened::Refused(NO_KIND);
+        return Err(Refusal::NoKind);
     }
-    let Found::At(control) = find::control_table(book, kind) else {
-        return Opened::Refused(NO_TABLE);
+    let Some(control) = find::control_table(book, kind) else {
+        return Err(Refusal::NoTable);
     };
     let header = header_for(kind, book);
     if is_missing(header) {
-        return Opened::Refused(NO_HEADER_TABLE);
+        return Err(Refusal::NoHeaderTable);
     }
     if 256 < count {
-        return Opened::Refused(LONG_PACKET);
+        return Err(Refusal::LongPacket);
     }
     if is_short(kind, book, control, count) {
-        return Opened::Refused(SHORT_PACKET);
+        return Err(Refusal::ShortPacket);
     }
     if room < count {
-        return Opened::Refused(FEW_PLACES);
+        return Err(Refusal::FewPlaces);
     }
-    Opened::Tables(Tables { control, header })
+    Ok(Tables { control, header })
 }
 
 // The header table, where the kind asks for it.
@@ -75,8 +73,8 @@ fn header_for(kind: u8, book: &[u8]) -> Header
         },
     );
     match found {
-        Found::At(table) => Header::At(table),
-        Found::Nothing => Header::Missing,
+        Some(table) => Header::At(table),
+        None => Header::Missing,
     }
 }
 
@@ -102,20 +100,20 @@ fn is_short(kind: u8, book: &[u8], control: usize, count: usize) -> bool
 }
 
 // Where the data view starts, cut to 16 bits.
-pub fn start_of(kind: u8, book: &[u8], control: usize, places: &[u32]) -> MaybeWord
+pub fn start_of(kind: u8, book: &[u8], control: usize, places: &[u32]) -> Option<u16>
     requires { control ≡ control_at book.now kind }
     ensures { result ≡ word (view_from kind book.now places.now) }
 {
     if is_read_response_or_write_request(kind) {
         let n = find::count_entries(book, control);
-        return MaybeWord::Is((n % 65_536) as u16);
+        return Some((n % 65_536) as u16);
     }
     if !is_xdomain_kind(kind) {
-        return MaybeWord::Absent;
+        return None;
     }
     let found = first_asked(book, Ask::Holds, b"Properties Block Generation", places, 0);
     match found {
-        Found::At(i) => MaybeWord::Is(((i + 1) % 65_536) as u16),
-        Found::Nothing => MaybeWord::Absent,
+        Some(i) => Some(((i + 1) % 65_536) as u16),
+        None => None,
     }
 }

@@ -4,56 +4,54 @@ ghost use Rattle.packet.specs.Field.{asks};
 ghost use Rattle.packet.specs.Steps.{gathered};
 ghost use Rattle.packet.specs.Packet.{first_from};
 
-use crate::MaybeUuid;
 use crate::field::{Ask, is_asked, wide};
 use book::Uuid;
-use text::place::Found;
 
 // The first index from `start` on at which the entry is as asked.
-pub fn first_asked(book: &[u8], ask: Ask, name: &[u8], places: &[u32], start: usize) -> Found
+pub fn first_asked(book: &[u8], ask: Ask, name: &[u8], places: &[u32], start: usize) -> Option<usize>
     ensures { result ≡ first_from (asks ask book.now name.now) start (drop start places.now) }
 {
     let mut i = start;
     while i < places.len() {
         if is_asked(book, ask, name, wide(places[i])) {
-            return Found::At(i);
+            return Some(i);
         }
         i += 1;
     }
-    Found::Nothing
+    None
 }
 
 // The first index behind `i` at which the entry has that name.
-fn next_named(book: &[u8], name: &[u8], places: &[u32], i: usize) -> Found
+fn next_named(book: &[u8], name: &[u8], places: &[u32], i: usize) -> Option<usize>
     ensures { result ≡ first_from (asks Ask.Named book.now name.now) (i + 1) (drop (i + 1) places.now) }
 {
     if places.len() <= i {
-        return Found::Nothing;
+        return None;
     }
     first_asked(book, Ask::Named, name, places, i + 1)
 }
 
 // The values of the dwords of that name, if there are exactly four.
-pub fn gather(book: &[u8], name: &[u8], dwords: &[u32], places: &[u32]) -> MaybeUuid
+pub fn gather(book: &[u8], name: &[u8], dwords: &[u32], places: &[u32]) -> Option<Uuid>
     requires { length places.now ≡ length dwords.now }
     ensures { result ≡ gathered book.now name.now dwords.now places.now }
 {
-    let Found::At(a) = first_asked(book, Ask::Named, name, places, 0) else {
-        return MaybeUuid::Absent;
+    let Some(a) = first_asked(book, Ask::Named, name, places, 0) else {
+        return None;
     };
-    let Found::At(b) = next_named(book, name, places, a) else {
-        return MaybeUuid::Absent;
+    let Some(b) = next_named(book, name, places, a) else {
+        return None;
     };
-    let Found::At(c) = next_named(book, name, places, b) else {
-        return MaybeUuid::Absent;
+    let Some(c) = next_named(book, name, places, b) else {
+        return None;
     };
-    let Found::At(d) = next_named(book, name, places, c) else {
-        return MaybeUuid::Absent;
+    let Some(d) = next_named(book, name, places, c) else {
+        return None;
     };
-    let Found::Nothing = next_named(book, name, places, d) else {
-        return MaybeUuid::Absent;
+    let None = next_named(book, name, places, d) else {
+        return None;
     };
-    MaybeUuid::Is(Uuid {
+    Some(Uuid {
         first: dword_at(dwords, a),
         second: dword_at(dwords, b),
         third: dword_at(dwords, c),

@@ -6,12 +6,11 @@ ghost use Rattle.packet.specs.Inner.{Spread, Latched, Described};
 use crate::field::{name_in, named_in, or_else, range_in};
 use crate::fill::{Pick, fill};
 use crate::seek::gather;
-use crate::{Header, MaybeUuid, Tables};
+use crate::{Header, Tables};
 use book::find;
-use text::place::Found;
 
 // The place of each dword's entry, 0 for none, and the UUID that the fields named so make.
-pub fn describe(book: &[u8], tables: Tables, dwords: &[u32], places: &mut [u32]) -> MaybeUuid
+pub fn describe(book: &[u8], tables: Tables, dwords: &[u32], places: &mut [u32]) -> Option<Uuid>
     requires { (length book.now ≤ 65535) × (length dwords.now ≤ 256) × (length places.old ≡ length dwords.now) }
     ensures { Described tables.header book.now dwords.now (control_places book.now tables.control dwords.now) places.new result }
 {
@@ -20,13 +19,13 @@ pub fn describe(book: &[u8], tables: Tables, dwords: &[u32], places: &mut [u32])
     let header = tables.header;
     match header {
         Header::At(table) => describe_xdomain(book, table, dwords, places),
-        Header::Unasked => MaybeUuid::Absent,
-        Header::Missing => MaybeUuid::Absent,
+        Header::Unasked => None,
+        Header::Missing => None,
     }
 }
 
 // Kinds 8 and 9 go on with the header table and the table of their UUID.
-fn describe_xdomain(book: &[u8], header: usize, dwords: &[u32], places: &mut [u32]) -> MaybeUuid
+fn describe_xdomain(book: &[u8], header: usize, dwords: &[u32], places: &mut [u32]) -> Option<Uuid>
     requires { (length book.now ≤ 65535) × (length dwords.now ≤ 256) × (length places.old ≡ length dwords.now) }
     ensures { Described (Header.At header) book.now dwords.now places.old places.new result }
 {
@@ -37,14 +36,14 @@ fn describe_xdomain(book: &[u8], header: usize, dwords: &[u32], places: &mut [u3
 }
 
 // In the table of the UUID, if there is one and the book has it.
-fn describe_protocol(book: &[u8], uuid: MaybeUuid, dwords: &[u32], places: &mut [u32])
+fn describe_protocol(book: &[u8], uuid: Option<Uuid>, dwords: &[u32], places: &mut [u32])
     requires { (length book.now ≤ 65535) × (length dwords.now ≤ 256) × (length places.old ≡ length dwords.now) }
     ensures { places.new ≡ places_by book.now uuid dwords.now places.old }
 {
-    let MaybeUuid::Is(u) = uuid else {
+    let Some(u) = uuid else {
         return;
     };
-    let Found::At(table) = find::uuid_table(book, u) else {
+    let Some(table) = find::uuid_table(book, u) else {
         return;
     };
     latch_through(book, table, dwords, places);

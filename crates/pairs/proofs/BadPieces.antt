@@ -1,17 +1,15 @@
 -- Bad pieces: each piece is a dword or bad, so whether one was met so far and whether the rest has one make up the whole; and what is found is what
 -- the sentence says. Assumes nothing.
+use Rattle.std.specs.Prelude.{None, Option, Some}
 use Prim.Native.Nat.{ℕ, ◌+◌, ◌≤◌, ◌<◌, ◌^◌, ◌-◌}
 use mathlib.Core.Path.{◌≡◌, refl, sym, ap, ◌∙◌}
 use mathlib.Core.Bool.{Bool, true, false, ◌||◌}
 use mathlib.Core.List.{List, [], ◌∷◌, ◌++◌}
 use native.Mathlib.Omega.{arith}
 use lib.ListN.{length, drop}
-use Rattle.text.specs.declared.number.Number.{Number}
-use Rattle.text.specs.declared.number.Number.TheVariants as N
 use Rattle.text.specs.Number.{hex_number_of}
 use Rattle.text.proofs.Hexes.{hex_is, hex_all}
 use Rattle.text.proofs.Places.{clash}
-use Rattle.pairs.specs.declared.dwords.Piece.TheVariants.{Dword, Bad}
 use Rattle.pairs.specs.Pair.{part}
 use Rattle.pairs.specs.Data.{NoDword, BadAmong, Data, piece_of, is_bad, any_bad, bad_of, piece_end, bad_in, bad_data}
 use Rattle.pairs.proofs.Cuts.{cut_all, cut_last, cut_next}
@@ -52,7 +50,7 @@ module _ (l : List ℕ) where
     piece_next h = ap any_bad (cut_next l low e-is h)
 
     -- a dword changes nothing
-    pub bad_past_dword : {v : ℕ} → Dword v ≡ piece_of (part l at e) → BadUpTo bad e
+    pub bad_past_dword : {v : ℕ} → Some v ≡ piece_of (part l at e) → BadUpTo bad e
     unfolding is_bad
     bad_past_dword q =
         record {
@@ -61,7 +59,7 @@ module _ (l : List ℕ) where
         }
 
     -- a bad piece tells
-    pub bad_met : Bad ≡ piece_of (part l at e) → BadUpTo true e
+    pub bad_met : None ≡ piece_of (part l at e) → BadUpTo true e
     unfolding is_bad
     bad_met q =
         record {
@@ -71,9 +69,9 @@ module _ (l : List ℕ) where
 
 -- ---- as a sentence
 
-bad_none : (p : List ℕ) → hex_number_of (2 ^ 32 - 1) p ≡ N.Unreadable → NoDword p
+bad_none : (p : List ℕ) → hex_number_of (2 ^ 32 - 1) p ≡ None → NoDword p
 bad_none p e v n =
-    let q : hex_number_of (2 ^ 32 - 1) p ≡ N.Value v = hex_all (2 ^ 32 - 1) n in
+    let q : hex_number_of (2 ^ 32 - 1) p ≡ Some v = hex_all (2 ^ 32 - 1) n in
     let z : ◌≡◌ {A = ℕ} 0 1 = cc in
     omega arith
 
@@ -81,20 +79,20 @@ pub bad_piece_all : (p : List ℕ) → NoDword p → is_bad (piece_of p) ≡ tru
 unfolding is_bad
 bad_piece_all p n = go (hex_number_of (2 ^ 32 - 1) p) refl
   where
-    go : (h : Number) → hex_number_of (2 ^ 32 - 1) p ≡ h → is_bad (piece_of p) ≡ true
-    go (N.Value v) e = absurd (n v (hex_is (2 ^ 32 - 1) e))
-    go N.Unreadable e = ap is_bad (sym (piece_bad p e))
+    go : (h : Option ℕ) → hex_number_of (2 ^ 32 - 1) p ≡ h → is_bad (piece_of p) ≡ true
+    go (Some v) e = absurd (n v (hex_is (2 ^ 32 - 1) e))
+    go None e = ap is_bad (sym (piece_bad p e))
 
 pub any_bad_is : (ps : List (List ℕ)) → any_bad ps ≡ true → BadAmong ps
 unfolding any_bad is_bad
 any_bad_is [] e = absurd (clash e refl)
 any_bad_is (p ∷ ps) e = go (hex_number_of (2 ^ 32 - 1) p) refl (any_bad_is ps) e
   where
-    go : (h : Number) → hex_number_of (2 ^ 32 - 1) p ≡ h → (any_bad ps ≡ true → BadAmong ps) → (is_bad (piece_of p) || any_bad ps) ≡ true → BadAmong (p ∷ ps)
-    go (N.Value v) h later t =
+    go : (h : Option ℕ) → hex_number_of (2 ^ 32 - 1) p ≡ h → (any_bad ps ≡ true → BadAmong ps) → (is_bad (piece_of p) || any_bad ps) ≡ true → BadAmong (p ∷ ps)
+    go (Some v) h later t =
         let r = later (rw (← piece_dword p h) at t) in
         record { before = p ∷ r.before; piece = r.piece; after = r.after; are = ap (λ (x : List (List ℕ)). p ∷ x) r.are; bad = r.bad }
-    go N.Unreadable h later t = record { before = []; piece = p; after = ps; are = refl; bad = bad_none p h }
+    go None h later t = record { before = []; piece = p; after = ps; are = refl; bad = bad_none p h }
 
 pub any_bad_all : {ps : List (List ℕ)} → BadAmong ps → any_bad ps ≡ true
 unfolding any_bad

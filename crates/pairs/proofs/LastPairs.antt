@@ -1,12 +1,12 @@
 -- The last pair of a key: the newest value of the key is kept along the list, so what is left at its end is the value of the last pair that
 -- has the key, and a pair of another key changes nothing. Assumes nothing.
+use Rattle.std.specs.Prelude.{None, Some}
 use Prim.Native.Nat.{ℕ, ◌+◌, ◌≤◌, ◌<◌}
 use mathlib.Core.Path.{◌≡◌, refl, sym, ap, ◌∙◌}
 use mathlib.Core.Bool.{Bool, true, false, cond}
 use mathlib.Core.List.{List, [], ◌∷◌, ◌++◌}
 use native.Mathlib.Omega.{arith}
 use lib.ListN.{length}
-use Rattle.text.specs.declared.number.Number.TheVariants as N
 use Rattle.text.specs.Number.{number_of, hex_number_of}
 use Rattle.text.specs.Same.{same_text}
 use Rattle.text.proofs.Places.{clash}
@@ -170,6 +170,6 @@ module _ (s key : List ℕ) (limit : ℕ) where
   unfolding hex_at hex_in
   hex_some q = rw q
 
-  pub hex_none : last_pair s key ≡ Nothing → N.Unreadable ≡ hex_at s key limit
+  pub hex_none : last_pair s key ≡ Nothing → None ≡ hex_at s key limit
   unfolding hex_at hex_in
   hex_none q = rw q

@@ -1,5 +1,6 @@
 -- The next match: a search that goes on behind the word run of a try that failed passes over places that start no match, so what it meets
 -- first is the first match, and the first match is the sentence's. Assumes nothing.
+use Rattle.std.specs.Prelude.{None, Option, Some}
 use Prim.Native.Nat.{ℕ, ◌+◌, ◌≤◌, ◌<◌}
 use mathlib.Core.Path.{◌≡◌, refl, sym, ap, ◌∙◌}
 use mathlib.Core.Bool.{Bool, true, false}
@@ -8,8 +9,6 @@ use native.Mathlib.Omega.{arith}
 use lib.Dec.{ltb}
 use lib.ListN.{length}
 use borrow.Author.Tests.{ltb-false}
-use Rattle.text.specs.declared.place.Found.{Found}
-use Rattle.text.specs.declared.place.Found.TheVariants as F
 use Rattle.text.specs.Class.{is_word}
 use Rattle.text.specs.Place.{Free, first_in, found_below, first_place}
 use Rattle.text.specs.Run.{run_end}
@@ -21,7 +20,7 @@ use Rattle.pairs.specs.Pair.{FirstPair, NoPair, NextPair, pair_with, pair_at, is
 use Rattle.pairs.proofs.Tries.{pair_at_is, pair_at_all, miss_within, value_up, value_within}
 
 -- where no place was found, none passes
-nothing_free : (p : ℕ → Bool) {i n : ℕ} → first_place p n i ≡ F.Nothing → Free p i n
+nothing_free : (p : ℕ → Bool) {i n : ℕ} → first_place p n i ≡ None → Free p i n
 unfolding first_place found_below
 nothing_free p {i} {n} e k low high = go (ltb (first_in p n i) n) refl
   where
@@ -30,7 +29,7 @@ nothing_free p {i} {n} e k low high = go (ltb (first_in p n i) n) refl
 
     go : (b : Bool) → ltb (first_in p n i) n ≡ b → p k ≡ false
     go true t =
-        let z : F.At (first_in p n i) ≡ F.Nothing = rw t at e in
+        let z : Some (first_in p n i) ≡ None = rw t at e in
         absurd (let y : ◌≡◌ {A = ℕ} 0 1 = cc in omega arith)
     go false t =
         let past : n ≤ first_in p n i = ltb-false _ _ t in
@@ -96,7 +95,7 @@ module _ (s : List ℕ) where
   unfolding next_pair pair_from
   pair_all {from} {i} {m} {e} r =
       let here : pair_at s i ≡ Hit i m e = pair_at_all s r.here in
-      let place : first_place hits (length s) from ≡ F.At i =
+      let place : first_place hits (length s) from ≡ Some i =
       first_all hits
       (record {
         from = r.up;
@@ -114,8 +113,8 @@ module _ (s : List ℕ) where
   unfolding next_pair pair_from
   pair_is {from} {i} {m} {e} q = go (first_place hits (length s) from) refl q
     where
-      go : (f : Found) → first_place hits (length s) from ≡ f → pair_from s f ≡ Hit i m e → FirstPair s from i m e
-      go (F.At k) place t =
+      go : (f : Option ℕ) → first_place hits (length s) from ≡ f → pair_from s f ≡ Hit i m e → FirstPair s from i m e
+      go (Some k) place t =
           let f = first_is hits place in
           let here = pair_at_is s t in
           let same : k ≡ i = here.0 in
@@ -125,7 +124,7 @@ module _ (s : List ℕ) where
             here = here.1;
             before = λ j l g a b r. clash (hit_passes j (pair_at_all s r)) (f.before j a b);
           })
-      go F.Nothing place t = absurd (let z : ◌≡◌ {A = ℕ} 0 1 = cc in omega arith)
+      go None place t = absurd (let z : ◌≡◌ {A = ℕ} 0 1 = cc in omega arith)
 
   pub one_pair : {from i m e i' m' e' : ℕ} → FirstPair s from i m e → FirstPair s from i' m' e' →
       (i ≡ i') × (m ≡ m') × (e ≡ e')
@@ -143,9 +142,9 @@ module _ (s : List ℕ) where
   unfolding next_pair pair_from
   no_pair_is {from} q = go (first_place hits (length s) from) refl q
     where
-      go : (f : Found) → first_place hits (length s) from ≡ f → pair_from s f ≡ Miss → NoPair s from
-      go (F.At k) place t = absurd (clash (first_is hits place).here (miss_fails k t))
-      go F.Nothing place t =
+      go : (f : Option ℕ) → first_place hits (length s) from ≡ f → pair_from s f ≡ Miss → NoPair s from
+      go (Some k) place t = absurd (clash (first_is hits place).here (miss_fails k t))
+      go None place t =
           λ k l f a r. clash (hit_passes k (pair_at_all s r))
           (nothing_free hits place k a (omega (arith, r.some, r.key.within)))
 

@@ -1,5 +1,6 @@
 -- A piece as the kernel prints it, read by its places: the sum of eight entries is below 128 only where each is a digit's, and neither `0x` nor a
 -- digit is a comma, so the piece ends behind its ten bytes. Assumes nothing.
+use Rattle.std.specs.Prelude.{None, Some}
 use Prim.Native.Nat.{ℕ, suc, ◌+◌, ◌*◌, ◌-◌, ◌^◌, ◌≤◌, ◌<◌}
 use mathlib.Core.Path.{◌≡◌, refl, sym, ap, ◌∙◌}
 use mathlib.Core.Bool.{true}
@@ -10,7 +11,6 @@ use native.Mathlib.Nat.{pow-suc, pow-le-pow_right}
 use lib.ListN.{length, get_or, take, drop, length-drop}
 use lib.Seq.{get_or-take, get_or-drop, drop-cons, length-take-le}
 use borrow.Author.Tests.{lt-ltb, le-ltb, eq-eqb}
-use Rattle.text.specs.declared.number.Number.TheVariants as N
 use Rattle.text.specs.Class.{between, is_digit}
 use Rattle.text.specs.Number.{digit_of, Reads, HexNumber, number_of}
 use Rattle.text.specs.Quote.{bytes}
@@ -19,18 +19,17 @@ use Rattle.text.proofs.Places.{by_order, first_is_stop}
 use Rattle.text.proofs.Numbers.{SoFar, so_far_starts, so_far_steps, whole_value, number_is, number_read}
 use Rattle.text.proofs.Hexes.{hex_all}
 use Rattle.text.proofs.Words.{two_are}
-use Rattle.pairs.specs.declared.dwords.Piece.TheVariants.{Dword, Bad}
 use Rattle.pairs.specs.Data.{comma_space, piece_end, piece_for, PieceHere}
 use Rattle.pairs.proofs.Cuts.{comma_space_none, comma_space_by, ends_piece}
 use Rattle.pairs.proofs.Slots.{piece_dword}
 
 -- ---- a number that stands for a piece
 
-pub stands_dword : {v : ℕ} → v < 4294967296 → Dword v ≡ piece_for v
+pub stands_dword : {v : ℕ} → v < 4294967296 → Some v ≡ piece_for v
 unfolding piece_for
 stands_dword {v} h = rw (lt-ltb v 4294967296 h)
 
-pub stands_bad : {v : ℕ} → 4294967296 ≤ v → Bad ≡ piece_for v
+pub stands_bad : {v : ℕ} → 4294967296 ≤ v → None ≡ piece_for v
 unfolding piece_for
 stands_bad {v} h = rw (le-ltb v 4294967296 h)
 
@@ -81,7 +80,7 @@ module _ (l : List ℕ) (long : length l ≡ 8) where
           let f : v < 16 ^ k = r.below (omega arith) in
           so_far_steps 16 4294967295 0 l (r.read (omega arith)) (omega arith) (sym (is g)) g (omega (arith, f, p))
 
-  pub eight_done : {v sum k : ℕ} → Eight l v sum k → 8 ≤ k → sum < 128 → number_of 16 4294967295 l ≡ N.Value v
+  pub eight_done : {v sum k : ℕ} → Eight l v sum k → 8 ≤ k → sum < 128 → number_of 16 4294967295 l ≡ Some v
   eight_done {v} {sum} {k} r h u = number_read 16 4294967295 l ∙ sym (whole_value 16 4294967295 0 l (r.read u) (omega arith))
 
 -- the part that is read, and its bytes
@@ -119,7 +118,7 @@ comma_space_at l k w e = comma_space_is l (rw e at w)
 
 -- the piece of ten bytes
 module _ (l : List ℕ) (at : ℕ) {v : ℕ} (room : at + 10 ≤ length l) (front : Word 2 l at 0x7830)
-    (number : number_of 16 4294967295 (take 8 (drop (at + 2) l)) ≡ N.Value v) where
+    (number : number_of 16 4294967295 (take 8 (drop (at + 2) l)) ≡ Some v) where
   starts : (get_or l at 0 ≡ 48) × (get_or l (at + 1) 0 ≡ 120)
   starts = two_are l at front (omega arith) prefix_number
 

@@ -1,10 +1,10 @@
 -- The dwords of a bracketed value: each piece adds its own to those behind it, so what is counted or written so far and what the rest adds
 -- make up the whole; and the brackets that are found are the sentence's. Assumes nothing.
+use Rattle.std.specs.Prelude.{None, Option, Some}
 use Prim.Native.Nat.{ℕ, zero, suc, ◌+◌, ◌-◌, ◌≤◌, ◌<◌, ◌^◌}
 use mathlib.Core.Path.{◌≡◌, refl, sym, ap, ◌∙◌}
 use mathlib.Core.Bool.{Bool, true, false, ◌&&◌}
 use mathlib.Core.List.{List, [], ◌∷◌, ◌++◌, append_assoc}
-use mathlib.Core.Option.{some}
 use native.Mathlib.Numerals.{add-one}
 use native.Mathlib.Omega.{arith}
 use lib.Dec.{ltb, eqb}
@@ -12,8 +12,6 @@ use lib.ListN.{length, get_or, take, drop, set, length-append, length-take, leng
 use lib.Seq.{drop-cons, drop-drop, set_at, take_at, take-suc, take-length, take_all, take-append_seam, split_at, get_or-append-add, get_or-take, get_or-drop, length-take-le}
 use borrow.Author.Tests.{lt-ltb, le-ltb, eq-eqb, ne_eqb, ltb-true, eqb-true}
 use Rattle.text.specs.declared.class.Class.TheVariants.{NotClose}
-use Rattle.text.specs.declared.number.Number.{Number}
-use Rattle.text.specs.declared.number.Number.TheVariants as N
 use Rattle.text.specs.Class.{in_class}
 use Rattle.text.specs.Number.{HexNumber, hex_number_of}
 use Rattle.text.specs.Run.{Inside, Run, run_end}
@@ -23,16 +21,14 @@ use Rattle.text.proofs.Texts.{both_left, both_right}
 use Rattle.text.proofs.Hexes.{hex_is, hex_all}
 use Rattle.pairs.specs.declared.pair.Span.{Span}
 use Rattle.pairs.specs.declared.pair.Span.TheVariants.{At, Nothing}
-use Rattle.pairs.specs.declared.dwords.Piece.{Piece}
-use Rattle.pairs.specs.declared.dwords.Piece.TheVariants.{Dword, Bad}
 use Rattle.pairs.specs.declared.dwords.Tally.{Tally}
 use Rattle.pairs.specs.Pair.{part}
-use Rattle.pairs.specs.Data.{Dwords, Data, cut, piece_by, piece_of, taken, dwords_in, dwords_of, piece_end, inside_of, data_in, data_of, filled, Bracketed, Taken}
+use Rattle.pairs.specs.Data.{Dwords, Data, cut, piece_of, taken, dwords_in, dwords_of, piece_end, inside_of, data_in, data_of, filled, Bracketed, Taken}
 use Rattle.pairs.proofs.Tries.{ends_close}
 use Rattle.pairs.proofs.Cuts.{cut_all, cut_is, cut_last, cut_next}
 
 -- a hex number is within its limit
-pub hex_fits : (limit : ℕ) (s : List ℕ) {v : ℕ} → hex_number_of limit s ≡ N.Value v → v ≤ limit
+pub hex_fits : (limit : ℕ) (s : List ℕ) {v : ℕ} → hex_number_of limit s ≡ Some v → v ≤ limit
 hex_fits limit s {v} e = go (hex_is limit e)
   where
     go : HexNumber limit s v → v ≤ limit
@@ -41,12 +37,12 @@ hex_fits limit s {v} e = go (hex_is limit e)
 
 -- what a piece is, as its number is read
 module _ (p : List ℕ) where
-  pub piece_dword : {v : ℕ} → hex_number_of (2 ^ 32 - 1) p ≡ N.Value v → Dword v ≡ piece_of p
-  unfolding piece_of piece_by
+  pub piece_dword : {v : ℕ} → hex_number_of (2 ^ 32 - 1) p ≡ Some v → Some v ≡ piece_of p
+  unfolding piece_of
   piece_dword e = rw e
 
-  pub piece_bad : hex_number_of (2 ^ 32 - 1) p ≡ N.Unreadable → Bad ≡ piece_of p
-  unfolding piece_of piece_by
+  pub piece_bad : hex_number_of (2 ^ 32 - 1) p ≡ None → None ≡ piece_of p
+  unfolding piece_of
   piece_bad e = rw e
 
 module _ (l : List ℕ) where
@@ -86,7 +82,7 @@ module _ (l : List ℕ) where
 
   module _ {n at e : ℕ} (r : Before n at) (e-is : e ≡ piece_end l at) (up : at ≤ e) (in-text : e ≤ length l) where
     -- a bad piece adds none
-    pub up_to_bad : Bad ≡ piece_of (part l at e) → UpTo n e
+    pub up_to_bad : None ≡ piece_of (part l at e) → UpTo n e
     unfolding taken
     up_to_bad q =
         record {
@@ -97,7 +93,7 @@ module _ (l : List ℕ) where
         }
 
     -- a piece that is a dword
-    module _ {v : ℕ} (q : Dword v ≡ piece_of (part l at e)) where
+    module _ {v : ℕ} (q : Some v ≡ piece_of (part l at e)) where
       -- the dword stands behind the n before it
       Stands : List ℕ → Type 0
       Stands rest = drop n (dwords_of l) ≡ v ∷ rest
@@ -212,28 +208,28 @@ unfolding dwords_in taken
 dwords_in_is [] = Dwords.empty
 dwords_in_is (p ∷ ps) = go (hex_number_of (2 ^ 32 - 1) p) refl (dwords_in_is ps)
   where
-    go : (h : Number) → hex_number_of (2 ^ 32 - 1) p ≡ h → Dwords ps (dwords_in ps) →
+    go : (h : Option ℕ) → hex_number_of (2 ^ 32 - 1) p ≡ h → Dwords ps (dwords_in ps) →
         Dwords (p ∷ ps) (taken (piece_of p) (dwords_in ps))
-    go (N.Value v) e r = rw (← piece_dword p e) (Dwords.dword (hex_is (2 ^ 32 - 1) e) r)
-    go N.Unreadable e r =
+    go (Some v) e r = rw (← piece_dword p e) (Dwords.dword (hex_is (2 ^ 32 - 1) e) r)
+    go None e r =
         rw (← piece_bad p e)
-        (Dwords.left_out (λ v n. let q : hex_number_of (2 ^ 32 - 1) p ≡ N.Value v = hex_all
+        (Dwords.left_out (λ v n. let q : hex_number_of (2 ^ 32 - 1) p ≡ Some v = hex_all
         (2 ^ 32 - 1) n in let z : ◌≡◌ {A = ℕ} 0 1 = cc in omega arith) r)
 
 pub dwords_in_all : {ps : List (List ℕ)} {ds : List ℕ} → Dwords ps ds → dwords_in ps ≡ ds
 unfolding dwords_in taken
 dwords_in_all Dwords.empty = refl
 dwords_in_all (Dwords.dword {p = p} {v = v} {ps = ps} n r) =
-    ap (λ (x : Piece). taken x (dwords_in ps)) (sym (piece_dword p (hex_all (2 ^ 32 - 1) n))) ∙ ap
+    ap (λ (x : Option ℕ). taken x (dwords_in ps)) (sym (piece_dword p (hex_all (2 ^ 32 - 1) n))) ∙ ap
     (λ (x : List ℕ). v ∷ x) (dwords_in_all r)
 dwords_in_all (Dwords.left_out {p = p} {ps = ps} n r) =
-    ap (λ (x : Piece). taken x (dwords_in ps)) (sym (piece_bad p unreadable)) ∙ dwords_in_all r
+    ap (λ (x : Option ℕ). taken x (dwords_in ps)) (sym (piece_bad p unreadable)) ∙ dwords_in_all r
   where
-    go : (h : Number) → hex_number_of (2 ^ 32 - 1) p ≡ h → h ≡ N.Unreadable
-    go (N.Value v) e = absurd (n v (hex_is (2 ^ 32 - 1) e))
-    go N.Unreadable e = refl
+    go : (h : Option ℕ) → hex_number_of (2 ^ 32 - 1) p ≡ h → h ≡ None
+    go (Some v) e = absurd (n v (hex_is (2 ^ 32 - 1) e))
+    go None e = refl
 
-    unreadable : hex_number_of (2 ^ 32 - 1) p ≡ N.Unreadable
+    unreadable : hex_number_of (2 ^ 32 - 1) p ≡ None
     unreadable = go (hex_number_of (2 ^ 32 - 1) p) refl
 
 -- the ways of brackets
@@ -289,7 +285,7 @@ module _ (value : List ℕ) where
       { is = q; within = λ a b h. let o = inside_tells (sym q ∙ h) in (omega (arith, o.from, o.some), omega (arith, o.ends)) }
 
 -- brackets around one or more bytes other than `]` are found
-module _ (inner : List ℕ) (some : 0 < length inner) (no_close : Inside (in_class NotClose) inner 0 (length inner)) where
+module _ (inner : List ℕ) (Some : 0 < length inner) (no_close : Inside (in_class NotClose) inner 0 (length inner)) where
   closed : List ℕ
   closed = 91 ∷ inner ++ (93 ∷ [])
 
@@ -333,12 +329,12 @@ module _ {value ds : List ℕ} (r : Data value ds) where
   unfolding closed
   data_inner = rw r.brackets (inner_part r.inner r.some r.no_close)
 
-pub data_all : {value ds : List ℕ} → Data value ds → data_of value ≡ some ds
+pub data_all : {value ds : List ℕ} → Data value ds → data_of value ≡ Some ds
 unfolding data_of data_in dwords_of
 data_all {value} {ds} r =
     let found : inside_of value ≡ At 1 (length r.inner + 1) = data_stands r in
     let inner : part value 1 (length r.inner + 1) ≡ r.inner = data_inner r in
-    rw found (ap some (ap dwords_of inner ∙ ap dwords_in (cut_all r.cut_at) ∙ dwords_in_all r.dwords))
+    rw found (ap Some (ap dwords_of inner ∙ ap dwords_in (cut_all r.cut_at) ∙ dwords_in_all r.dwords))
 
 -- a value between brackets is what stands there
 closed_whole : (value : List ℕ) (b : ℕ) → get_or value 0 0 ≡ 91 → 1 < b → b + 1 ≡ length value → get_or value b 0 ≡ 93 →
@@ -353,14 +349,14 @@ closed_whole (x ∷ t) (suc b) opens h e close =
     let split : t ≡ take b t ++ (93 ∷ []) = split_at t b 0 (omega arith) ∙ rw (last, over) refl in
     rw (n, first) (ap (λ (l : List ℕ). 91 ∷ l) split)
 
-pub data_is : {value ds : List ℕ} → data_of value ≡ some ds → Data value ds
+pub data_is : {value ds : List ℕ} → data_of value ≡ Some ds → Data value ds
 unfolding data_of data_in dwords_of
 data_is {value} {ds} q = go (inside_of value) refl q
   where
-    inner_some : {x y : List ℕ} → some x ≡ some y → x ≡ y
+    inner_some : {x y : List ℕ} → Some x ≡ Some y → x ≡ y
     inner_some e = cc
 
-    found : (a b : ℕ) → inside_of value ≡ At a b → some (dwords_of (part value a b)) ≡ some ds → Data value ds
+    found : (a b : ℕ) → inside_of value ≡ At a b → Some (dwords_of (part value a b)) ≡ Some ds → Data value ds
     found a b e t =
         let o = inside_tells value e in
         let r : Run (in_class NotClose) value 1 b =
@@ -381,7 +377,7 @@ data_is {value} {ds} q = go (inside_of value) refl q
           dwords = rw (← is) (dwords_in_is (cut (part value 1 b)));
         }
 
-    go : (r : Span) → inside_of value ≡ r → data_in value r ≡ some ds → Data value ds
+    go : (r : Span) → inside_of value ≡ r → data_in value r ≡ Some ds → Data value ds
     go (At a b) e t = found a b e t
     go Nothing e t = absurd (let z : ◌≡◌ {A = ℕ} 0 1 = cc in omega arith)
 

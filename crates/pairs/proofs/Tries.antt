@@ -1,5 +1,6 @@
 -- A try at a pair: each repeated class is followed by a byte outside it, so a try has one word run, one `=` and one value, and the tests of
 -- a try hold exactly where the sentence's record stands. Assumes nothing.
+use Rattle.std.specs.Prelude.{None, Option, Some}
 use Prim.Native.Nat.{ℕ, ◌+◌, ◌≤◌, ◌<◌}
 use mathlib.Core.Path.{◌≡◌, refl, sym, ap, ◌∙◌}
 use mathlib.Core.Bool.{Bool, true, false, ◌&&◌}
@@ -9,8 +10,6 @@ use lib.Dec.{ltb, eqb}
 use lib.ListN.{length, get_or}
 use borrow.Author.Tests.{lt-ltb, le-ltb, eq-eqb, ne_eqb, ltb-true, eqb-true, eqb-false, not-false}
 use Rattle.text.specs.declared.class.Class.TheVariants.{NotClose}
-use Rattle.text.specs.declared.place.Found.{Found}
-use Rattle.text.specs.declared.place.Found.TheVariants as F
 use Rattle.text.specs.Class.{between, is_letter, is_digit, is_word, in_class}
 use Rattle.text.specs.Run.{Run, run_end, run_start}
 use Rattle.text.proofs.Places.{by_order, stands_within}
@@ -44,28 +43,28 @@ module _ (s : List ℕ) where
 
   module _ (v : ℕ) where
     -- the ways of brackets
-    pub no_bracket : (get_or s v 0 ≡ 91 → ⊥) → bracket_end s v ≡ F.Nothing
+    pub no_bracket : (get_or s v 0 ≡ 91 → ⊥) → bracket_end s v ≡ None
     unfolding bracket_end
     no_bracket n = rw (ne_eqb _ _ n)
 
     module _ (c : ℕ) (c-is : c ≡ run_end (in_class NotClose) s (v + 1)) (opens : get_or s v 0 ≡ 91) where
-      pub bracket-empty : c ≤ v + 1 → bracket_end s v ≡ F.Nothing
+      pub bracket-empty : c ≤ v + 1 → bracket_end s v ≡ None
       unfolding bracket_end
       bracket-empty l = rw (← c-is, eq-eqb _ _ opens, le-ltb (v + 1) c l)
 
-      pub bracket-unclosed : v + 1 < c → length s ≤ c → bracket_end s v ≡ F.Nothing
+      pub bracket-unclosed : v + 1 < c → length s ≤ c → bracket_end s v ≡ None
       unfolding bracket_end
       bracket-unclosed h l = rw (← c-is, eq-eqb _ _ opens, lt-ltb (v + 1) c h, le-ltb c (length s) l)
 
-      pub bracket-closed : v + 1 < c → c < length s → bracket_end s v ≡ F.At (c + 1)
+      pub bracket-closed : v + 1 < c → c < length s → bracket_end s v ≡ Some (c + 1)
       unfolding bracket_end
       bracket-closed h l = rw (← c-is, eq-eqb _ _ opens, lt-ltb (v + 1) c h, lt-ltb c (length s) l)
 
     -- from the start of the run that ends the text without `]`, no brackets are closed
-    pub bracket_behind : {tail : ℕ} → tail ≡ run_start (in_class NotClose) s → tail ≤ v → bracket_end s v ≡ F.Nothing
+    pub bracket_behind : {tail : ℕ} → tail ≡ run_start (in_class NotClose) s → tail ≤ v → bracket_end s v ≡ None
     bracket_behind {tail} t-is l = go (eqb (get_or s v 0) 91) refl
       where
-        go : (b : Bool) → eqb (get_or s v 0) 91 ≡ b → bracket_end s v ≡ F.Nothing
+        go : (b : Bool) → eqb (get_or s v 0) 91 ≡ b → bracket_end s v ≡ None
         go false t = no_bracket (eqb-false _ _ t)
         go true t =
             let opens : get_or s v 0 ≡ 91 = eqb-true _ _ t in
@@ -83,7 +82,7 @@ module _ (s : List ℕ) where
             (λ h. bracket-empty (length s) (sym whole) opens (omega arith))
 
     -- the ways of a value
-    pub value_word : {e : ℕ} → e ≡ run_end is_word s v → v < e → value_end s v ≡ F.At e
+    pub value_word : {e : ℕ} → e ≡ run_end is_word s v → v < e → value_end s v ≡ Some e
     unfolding value_end
     value_word {e} e-is h = rw (← e-is, lt-ltb v e h)
 
@@ -92,7 +91,7 @@ module _ (s : List ℕ) where
     value_bracket {e} e-is h = rw (← e-is, le-ltb v e h)
 
     -- the end that is found is a value's, and a value's end is found
-    bracket_is : {e : ℕ} → bracket_end s v ≡ F.At e → Value s v e
+    bracket_is : {e : ℕ} → bracket_end s v ≡ Some e → Value s v e
     unfolding bracket_end
     bracket_is {e} q = go (eqb (get_or s v 0) 91 && ltb (v + 1) c && ltb c (length s)) refl
       where
@@ -101,7 +100,7 @@ module _ (s : List ℕ) where
 
         go : (b : Bool) → (eqb (get_or s v 0) 91 && ltb (v + 1) c && ltb c (length s)) ≡ b → Value s v e
         go true t =
-            let same : F.At (c + 1) ≡ F.At e = rw t at q in
+            let same : Some (c + 1) ≡ Some e = rw t at q in
             let e-is : c + 1 ≡ e = cc in
             let front = both_left _ _ t in
             let below : c < length s = ltb-true _ _ (both_right (eqb (get_or s v 0) 91 && ltb (v + 1) c) _ t) in
@@ -109,23 +108,23 @@ module _ (s : List ℕ) where
             let r : Run (in_class NotClose) s (v + 1) c = run_is (in_class NotClose) s (omega arith) in
             Value.bracket c (eqb-true _ _ (both_left _ _ front)) more r.inside (ends_close (r.stops below)) (sym e-is)
         go false t =
-            let same : F.Nothing ≡ F.At e = rw t at q in
+            let same : None ≡ Some e = rw t at q in
             absurd (let z : ◌≡◌ {A = ℕ} 0 1 = cc in omega arith)
 
-    pub value_is : {e : ℕ} → value_end s v ≡ F.At e → Value s v e
+    pub value_is : {e : ℕ} → value_end s v ≡ Some e → Value s v e
     unfolding value_end
     value_is {e} q = go (ltb v (run_end is_word s v)) refl
       where
         go : (b : Bool) → ltb v (run_end is_word s v) ≡ b → Value s v e
         go true t =
-            let same : F.At (run_end is_word s v) ≡ F.At e = rw t at q in
+            let same : Some (run_end is_word s v) ≡ Some e = rw t at q in
             let e-is : run_end is_word s v ≡ e = cc in
             let some : v < run_end is_word s v = ltb-true _ _ t in
             let in-text : v < length s = run_within_text v some in
             rw (← e-is) (Value.word some (run_is is_word s (omega arith)))
         go false t = bracket_is (rw t at q)
 
-    pub value_all : {e : ℕ} → Value s v e → value_end s v ≡ F.At e
+    pub value_all : {e : ℕ} → Value s v e → value_end s v ≡ Some e
     value_all (Value.word h r) = value_word (sym (run_all is_word s r)) h
     value_all {e} (Value.bracket c opens more ins closes e-is) =
         let in-text : v < length s = stands_within s v (λ z. absurd (omega arith)) in
@@ -136,7 +135,7 @@ module _ (s : List ℕ) where
         (record { from = omega arith; within = omega arith; inside = ins; stops = λ h. close_ends closes }) in
         value_bracket (sym (run_stop is_word s in-text no_word_lem)) (omega arith)
         ∙ bracket-closed c (sym c-is) opens more close-in
-        ∙ ap F.At (sym e-is)
+        ∙ ap Some (sym e-is)
 
     -- a value is not empty and ends within the text
     pub value_up : {e : ℕ} → Value s v e → v < e
@@ -164,11 +163,11 @@ module _ (s : List ℕ) where
       unfolding pair_with
       try-value e = rw (lt-ltb i m some, eq-eqb _ _ e)
 
-      pub try-hits : {e : ℕ} → get_or s m 0 ≡ 61 → value_end s (m + 1) ≡ F.At e → pair_with s i m ≡ Hit i m e
+      pub try-hits : {e : ℕ} → get_or s m 0 ≡ 61 → value_end s (m + 1) ≡ Some e → pair_with s i m ≡ Hit i m e
       unfolding with_value
       try-hits q v = try-value q ∙ rw v
 
-      pub try-misses : get_or s m 0 ≡ 61 → value_end s (m + 1) ≡ F.Nothing → pair_with s i m ≡ Miss
+      pub try-misses : get_or s m 0 ≡ 61 → value_end s (m + 1) ≡ None → pair_with s i m ≡ Miss
       unfolding with_value
       try-misses q v = try-value q ∙ rw v
 
@@ -178,7 +177,7 @@ module _ (s : List ℕ) where
     pub equals : m ≡ b
     pub some : i < m
     pub sign : get_or s m 0 ≡ 61
-    pub value : value_end s (m + 1) ≡ F.At e
+    pub value : value_end s (m + 1) ≡ Some e
 
   pub try_tells : {i m a b e : ℕ} → pair_with s i m ≡ Hit a b e → Tried i m a b e
   try_tells {i} {m} {a} {b} {e} q =
@@ -188,12 +187,12 @@ module _ (s : List ℕ) where
       no : {A : Type 0} → pair_with s i m ≡ Miss → A
       no n = absurd (let z : ◌≡◌ {A = ℕ} 0 1 = cc in omega arith)
 
-      found : i < m → get_or s m 0 ≡ 61 → (f : Found) → value_end s (m + 1) ≡ f → Tried i m a b e
-      found h t (F.At x) v =
+      found : i < m → get_or s m 0 ≡ 61 → (f : Option ℕ) → value_end s (m + 1) ≡ f → Tried i m a b e
+      found h t (Some x) v =
           let hit : pair_with s i m ≡ Hit i m x = try-hits i m h t v in
           let same : x ≡ e = cc in
-          record { key = cc; equals = cc; some = h; sign = t; value = v ∙ ap F.At same }
-      found h t F.Nothing v = no (try-misses i m h t v)
+          record { key = cc; equals = cc; some = h; sign = t; value = v ∙ ap Some same }
+      found h t None v = no (try-misses i m h t v)
 
       go : (x : Bool) → eqb (get_or s m 0) 61 ≡ x → i < m → Tried i m a b e
       go true t h = found h (eqb-true _ _ t) (value_end s (m + 1)) refl
@@ -235,11 +234,11 @@ module _ (s : List ℕ) where
           (record { from = omega arith; within = r.within; inside = λ j a b. r.inside j (omega arith) b; stops = r.stops }) in
           rw k-run (go (eqb (get_or s m 0) 61) refl)
         where
-          found : get_or s m 0 ≡ 61 → (f : Found) → value_end s (m + 1) ≡ f → pair_with s k m ≡ Miss
-          found t (F.At x) v =
+          found : get_or s m 0 ≡ 61 → (f : Option ℕ) → value_end s (m + 1) ≡ f → pair_with s k m ≡ Miss
+          found t (Some x) v =
               let hit : pair_with s i m ≡ Hit i m x = try-hits i m (omega arith) t v in
               absurd (let z : ◌≡◌ {A = ℕ} 0 1 = cc in omega arith)
-          found t F.Nothing v = try-misses k m h t v
+          found t None v = try-misses k m h t v
 
           go : (x : Bool) → eqb (get_or s m 0) 61 ≡ x → pair_with s k m ≡ Miss
           go true t = found (eqb-true _ _ t) (value_end s (m + 1)) refl

@@ -1,17 +1,12 @@
 -- The dwords of a bracketed value.
-use Rattle.std.specs.Prelude.{ℕ, zero, suc, ◌+◌, ◌-◌, ◌≤◌, ◌<◌, ◌^◌, ◌≡◌, Bool, true, false, cond, ◌&&◌, ◌||◌, List, [], ◌∷◌, ◌++◌, ltb, eqb, length, get_or, take, drop}
-use Rattle.std.proofs.Math.Option.{Option, some, none}
+use Rattle.std.specs.Prelude.{ℕ, zero, suc, ◌+◌, ◌-◌, ◌≤◌, ◌<◌, ◌^◌, ◌≡◌, Bool, true, false, cond, ◌&&◌, ◌||◌, List, [], ◌∷◌, ◌++◌, ltb, eqb, length, get_or, take, drop, None, Option, Some}
 use Rattle.text.specs.declared.class.Class.TheVariants.{NotClose}
-use Rattle.text.specs.declared.number.Number.{Number}
-use Rattle.text.specs.declared.number.Number.TheVariants as N
 use Rattle.text.specs.Class.{in_class}
 use Rattle.text.specs.Number.{HexNumber, hex_number_of}
 use Rattle.text.specs.Place.{is_at, first_in}
 use Rattle.text.specs.Run.{Inside, run_end}
 use Rattle.pairs.specs.declared.pair.Span.{Span}
 use Rattle.pairs.specs.declared.pair.Span.TheVariants.{At, Nothing}
-use Rattle.pairs.specs.declared.dwords.Piece.{Piece}
-use Rattle.pairs.specs.declared.dwords.Piece.TheVariants.{Dword, Bad}
 use Rattle.pairs.specs.declared.dwords.NextPiece.{NextPiece}
 use Rattle.pairs.specs.declared.dwords.Tally.{Tally}
 use Rattle.pairs.specs.Pair.{part}
@@ -79,19 +74,14 @@ cut [] = [] ∷ []
 cut (a ∷ []) = (a ∷ []) ∷ []
 cut (a ∷ b ∷ l) = cond (eqb a 44 && eqb b 32) ([] ∷ cut l) (ahead a (cut (b ∷ l)))
 
--- what a piece is by its number's reading: a value is a dword, and what is not 32-bit hex is bad
-unfoldable pub piece_by : Number → Piece
-piece_by (N.Value v) = Dword v
-piece_by N.Unreadable = Bad
-
 -- what a piece is
-unfoldable pub piece_of : List ℕ → Piece
-piece_of p = piece_by (hex_number_of (2 ^ 32 - 1) p)
+unfoldable pub piece_of : List ℕ → Option ℕ
+piece_of p = (hex_number_of (2 ^ 32 - 1) p)
 
 -- what a piece adds to the dwords of those behind it
-unfoldable pub taken : Piece → List ℕ → List ℕ
-taken (Dword v) ds = v ∷ ds
-taken Bad ds = ds
+unfoldable pub taken : Option ℕ → List ℕ → List ℕ
+taken (Some v) ds = v ∷ ds
+taken None ds = ds
 
 -- the dwords of the pieces
 unfoldable pub dwords_in : List (List ℕ) → List ℕ
@@ -103,9 +93,9 @@ unfoldable pub dwords_of : List ℕ → List ℕ
 dwords_of l = dwords_in (cut l)
 
 -- is a piece bad?
-unfoldable pub is_bad : Piece → Bool
-is_bad (Dword v) = false
-is_bad Bad = true
+unfoldable pub is_bad : Option ℕ → Bool
+is_bad (Some v) = false
+is_bad None = true
 
 -- is one of the pieces bad?
 unfoldable pub any_bad : List (List ℕ) → Bool
@@ -137,8 +127,8 @@ inside_of value =
 
 -- the dwords of a part
 unfoldable pub data_in : List ℕ → Span → Option (List ℕ)
-data_in value (At a b) = some (dwords_of (part value a b))
-data_in value Nothing = none
+data_in value (At a b) = Some (dwords_of (part value a b))
+data_in value Nothing = None
 
 -- the dwords of a value in brackets
 unfoldable pub data_of : List ℕ → Option (List ℕ)
@@ -180,8 +170,8 @@ pub record Tallied (inner : List ℕ) (r : Tally) : Type 0 where
   pub bad_is : r.bad ≡ bad_of inner
 
 -- the piece that a number stands for: a dword, and bad for every number past 32 bits
-unfoldable pub piece_for : ℕ → Piece
-piece_for d = cond (ltb d (2 ^ 32)) (Dword d) Bad
+unfoldable pub piece_for : ℕ → Option ℕ
+piece_for d = cond (ltb d (2 ^ 32)) (Some d) None
 
 -- an answer is the piece from a place on: its end, and the number that stands for it
 pub record PieceHere (l : List ℕ) (from : ℕ) (r : NextPiece) : Type 0 where

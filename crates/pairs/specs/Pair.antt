@@ -1,10 +1,6 @@
 -- The pairs of a payload, and the last pair of a key.
-use Rattle.std.specs.Prelude.{ℕ, zero, suc, ◌+◌, ◌-◌, ◌≤◌, ◌<◌, ◌≡◌, Bool, true, false, cond, ◌&&◌, List, [], ◌∷◌, ◌++◌, ltb, length, get_or, take, drop}
+use Rattle.std.specs.Prelude.{ℕ, zero, suc, ◌+◌, ◌-◌, ◌≤◌, ◌<◌, ◌≡◌, Bool, true, false, cond, ◌&&◌, List, [], ◌∷◌, ◌++◌, ltb, length, get_or, take, drop, None, Option, Some}
 use Rattle.text.specs.declared.class.Class.TheVariants.{NotClose}
-use Rattle.text.specs.declared.number.Number.{Number}
-use Rattle.text.specs.declared.number.Number.TheVariants as N
-use Rattle.text.specs.declared.place.Found.{Found}
-use Rattle.text.specs.declared.place.Found.TheVariants as F
 use Rattle.text.specs.Class.{is_word, in_class}
 use Rattle.text.specs.Number.{number_of, hex_number_of}
 use Rattle.text.specs.Place.{first_place, is_at}
@@ -81,19 +77,19 @@ pub record KeyMissing (s key : List ℕ) : Type 0 where
   pub none : Lacks s key pairs
 
 -- where the brackets from v on end, if they stand there
-unfoldable pub bracket_end : List ℕ → ℕ → Found
+unfoldable pub bracket_end : List ℕ → ℕ → Option ℕ
 bracket_end s v =
     let c : ℕ = run_end (in_class NotClose) s (v + 1) in
-    cond (is_at 91 s v && ltb (v + 1) c && ltb c (length s)) (F.At (c + 1)) F.Nothing
+    cond (is_at 91 s v && ltb (v + 1) c && ltb c (length s)) (Some (c + 1)) None
 
 -- where the value from v on ends, if one stands there
-unfoldable pub value_end : List ℕ → ℕ → Found
-value_end s v = cond (ltb v (run_end is_word s v)) (F.At (run_end is_word s v)) (bracket_end s v)
+unfoldable pub value_end : List ℕ → ℕ → Option ℕ
+value_end s v = cond (ltb v (run_end is_word s v)) (Some (run_end is_word s v)) (bracket_end s v)
 
 -- a key and its value together
-unfoldable pub with_value : ℕ → ℕ → Found → Pair
-with_value i m (F.At e) = Hit i m e
-with_value i m F.Nothing = Miss
+unfoldable pub with_value : ℕ → ℕ → Option ℕ → Pair
+with_value i m (Some e) = Hit i m e
+with_value i m None = Miss
 
 -- the match whose word run is from i to m, if `=` and a value follow
 unfoldable pub pair_with : List ℕ → ℕ → ℕ → Pair
@@ -109,9 +105,9 @@ is_hit (Hit i m e) = true
 is_hit Miss = false
 
 -- the match at a place that was found
-unfoldable pub pair_from : List ℕ → Found → Pair
-pair_from s (F.At i) = pair_at s i
-pair_from s F.Nothing = Miss
+unfoldable pub pair_from : List ℕ → Option ℕ → Pair
+pair_from s (Some i) = pair_at s i
+pair_from s None = Miss
 
 -- the next match from a place on
 unfoldable pub next_pair : List ℕ → ℕ → Pair
@@ -145,21 +141,21 @@ unfoldable pub last_pair : List ℕ → List ℕ → Span
 last_pair s key = last_in s key Nothing (pairs_from s 0)
 
 -- the decimal number in a part of s
-unfoldable pub decimal_in : List ℕ → ℕ → Span → Number
+unfoldable pub decimal_in : List ℕ → ℕ → Span → Option ℕ
 decimal_in s limit (At a b) = number_of 10 limit (part s a b)
-decimal_in s limit Nothing = N.Unreadable
+decimal_in s limit Nothing = None
 
 -- the last pair of the key, in decimal
-unfoldable pub decimal_of : List ℕ → List ℕ → ℕ → Number
+unfoldable pub decimal_of : List ℕ → List ℕ → ℕ → Option ℕ
 decimal_of s key limit = decimal_in s limit (last_pair s key)
 
 -- the hex number in a part of s
-unfoldable pub hex_in : List ℕ → ℕ → Span → Number
+unfoldable pub hex_in : List ℕ → ℕ → Span → Option ℕ
 hex_in s limit (At a b) = hex_number_of limit (part s a b)
-hex_in s limit Nothing = N.Unreadable
+hex_in s limit Nothing = None
 
 -- the last pair of the key, in hex
-unfoldable pub hex_at : List ℕ → List ℕ → ℕ → Number
+unfoldable pub hex_at : List ℕ → List ℕ → ℕ → Option ℕ
 hex_at s key limit = hex_in s limit (last_pair s key)
 
 -- an answer is the next pair; its places rise within the text, which spares callers the argument

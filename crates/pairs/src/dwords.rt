@@ -2,23 +2,15 @@
 // so that it ends where the next comma-space stands or the text; and a sum of entries is below 128 only where each is a digit's.
 ghost use Rattle.std.specs.Prelude.{◌≡◌, ◌+◌, ◌≤◌, ◌<◌, length, take, drop};
 ghost use Rattle.text.specs.Number.{number_of};
-ghost use Rattle.text.specs.declared.number.Number.TheVariants as N;
 ghost use Rattle.text.specs.Table.{table};
 ghost use Rattle.pairs.specs.Data.{Bracketed, comma_space, EndsPiece, piece_of, piece_for, PieceHere, Taken, NthPiece};
 
 use crate::pair::Span;
-use text::number::{MAX_32, Number, hex, value_of};
+use text::number::{MAX_32, hex};
 use text::place::byte_at;
 use text::run::until;
 use text::table::wide;
 use text::word::{one, two};
-
-// What a piece is: a dword, or bad, that is not 32-bit hex.
-#[derive(Clone, Copy)]
-pub enum Piece {
-    Dword(u32),
-    Bad,
-}
 
 // A piece by its end and its dword; any number past 32 bits stands for a bad one.
 #[derive(Clone, Copy)]
@@ -103,12 +95,12 @@ fn piece_at(inner: &[u8], t: &[u8; 256], at: usize) -> NextPiece
 }
 
 // A piece as a number.
-fn dword_of(piece: Piece) -> u64
+fn dword_of(piece: Option<u32>) -> u64
     ensures { piece ≡ piece_for result }
 {
     match piece {
-        Piece::Dword(v) => v as u64,
-        Piece::Bad => NO_DWORD,
+        Some(v) => v as u64,
+        None => NO_DWORD,
     }
 }
 
@@ -145,7 +137,7 @@ fn printed(s: &[u8], t: &[u8; 256], at: usize) -> u64
 // The number of eight hex digits, `NO_DWORD` where one is none: its entry is 128 or more, and so is the sum then.
 fn eight_digits(s: &[u8], t: &[u8; 256], at: usize) -> u64
     requires { (t.now ≡ table) × (at + 8 ≤ length s.now) }
-    ensures { result < 4294967296 → number_of 16 4294967295 (take 8 (drop at s.now)) ≡ N.Value result }
+    ensures { result < 4294967296 → number_of 16 4294967295 (take 8 (drop at s.now)) ≡ Some result }
 {
     let mut v: u64 = 0;
     let mut sum: u64 = 0;
@@ -181,12 +173,12 @@ pub fn nth_piece(inner: &[u8], i: usize) -> Span
 }
 
 // A piece is a dword where it is hex of 32 bits.
-fn read_piece(piece: &[u8]) -> Piece
+fn read_piece(piece: &[u8]) -> Option<u32>
     ensures { result ≡ piece_of piece.now }
 {
-    match value_of(hex(piece, MAX_32)) {
-        Number::Value(v) => Piece::Dword(v as u32),
-        Number::Unreadable => Piece::Bad,
+    match hex(piece, MAX_32).ok() {
+        Some(v) => Some(v as u32),
+        None => None,
     }
 }
 

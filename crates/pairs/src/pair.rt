@@ -6,7 +6,7 @@ ghost use Rattle.text.specs.declared.class.Class.TheVariants.{NotClose};
 ghost use Rattle.pairs.specs.Pair.{bracket_end, value_end, pair_with, NextPair, ValueAt};
 
 use text::class::Class;
-use text::place::{Found, byte_at};
+use text::place::byte_at;
 use text::run::{behind_last, run_end, until};
 use text::same::same;
 
@@ -87,44 +87,44 @@ fn try_at(s: &[u8], i: usize, m: usize, tail: usize) -> Pair
     }
     let v = m + 1;
     match value_end(s, v, run_end(s, Class::Word, v), tail) {
-        Found::At(e) => Pair::Hit {
+        Some(e) => Pair::Hit {
             key: i,
             equals: m,
             end: e,
         },
-        Found::Nothing => Pair::Miss,
+        None => Pair::Miss,
     }
 }
 
 // Where the value from v on ends, whose word run ends at e: there if the run has a byte, else with its brackets. No `]` stands from `tail` on, so a `[`
 // there is given up at once, and many of them cost no more than one. Asked for: where the run ends and where no `]` stands any more, which both walks have
 // sought.
-pub fn value_end(s: &[u8], v: usize, e: usize, tail: usize) -> Found
+pub fn value_end(s: &[u8], v: usize, e: usize, tail: usize) -> Option<usize>
     requires { (e ≡ run_end is_word s.now v) × (tail ≡ run_start (in_class NotClose) s.now) }
     ensures { result ≡ value_end s.now v }
 {
     if v < e {
-        return Found::At(e);
+        return Some(e);
     }
     if tail <= v {
-        return Found::Nothing;
+        return None;
     }
     bracket_end(s, v)
 }
 
 // `[`, one or more bytes other than `]`, `]`.
-fn bracket_end(s: &[u8], v: usize) -> Found
+fn bracket_end(s: &[u8], v: usize) -> Option<usize>
     ensures { result ≡ bracket_end s.now v }
 {
     if byte_at(s, v) != b'[' {
-        return Found::Nothing;
+        return None;
     }
     let c = until(s, b']', v + 1);
     if c == v + 1 {
-        return Found::Nothing;
+        return None;
     }
     if s.len() <= c {
-        return Found::Nothing;
+        return None;
     }
-    Found::At(c + 1)
+    Some(c + 1)
 }

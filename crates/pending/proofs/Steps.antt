@@ -1,5 +1,7 @@
 -- What the plan does is a step, and what the questions answer is so: the look at all slots is taken apart, the table is sound or refused, and each
 -- ask is decided by the first free slot or the oldest that is asked for. Assumes nothing.
+use Rattle.std.specs.Prelude.{None, Option, Result, Some}
+use Rattle.refusal.specs.declared.Refusal.{Refusal}
 use mathlib.Core.Path.{◌≡◌, refl, sym, ◌∙◌, ap, subst}
 use Prim.Native.Nat.{ℕ, zero, suc, ◌+◌, ◌%◌, ◌<◌, ◌≤◌}
 use native.Mathlib.Omega.{arith}
@@ -18,10 +20,6 @@ use Rattle.slots.specs.declared.look.Seen.{Seen}
 use Rattle.slots.specs.declared.decide.Plan.{Plan}
 use Rattle.slots.specs.declared.decide.Report.{Report}
 use Rattle.slots.specs.declared.decide.Report.TheVariants as R
-use Rattle.slots.specs.declared.decide.Waiting.{Waiting}
-use Rattle.slots.specs.declared.decide.Place.{Place}
-use Rattle.entry.specs.declared.optional.MaybeByte.{MaybeByte}
-use Rattle.entry.specs.declared.optional.MaybeByte.TheVariants as B
 use Rattle.slots.specs.Ask.{ask_of, by_kind, by_seq, four_of}
 use Rattle.slots.specs.Look.{start_of, seek_of, is_asked}
 use Rattle.slots.specs.Decide.{free_slot, still_of, take_of, free_of, sound_of, fault_of, request_of, response_of, judged, decide_of, count_of, place_of}
@@ -166,11 +164,11 @@ no_rank e = by_d e.dropped (eqb e.kind 0 || ltb 4 e.kind) e.seq
     by_k true four = refl
     by_k false four = refl
 
-    by_d : (d o : Bool) (q : MaybeByte) → asks_rank (cond d A.Dropped (cond o A.Other (by_seq e q))) ≡ 0
+    by_d : (d o : Bool) (q : Option ℕ) → asks_rank (cond d A.Dropped (cond o A.Other (by_seq e q))) ≡ 0
     by_d true o q = refl
     by_d false true q = refl
-    by_d false false (B.Is n) = by_k (eqb (e.kind % 2) 1) (four_of e n)
-    by_d false false B.Absent = refl
+    by_d false false (Some n) = by_k (eqb (e.kind % 2) 1) (four_of e n)
+    by_d false false None = refl
 
 -- ---- the step
 step_of : (e : Entry) (t : List Slot) → Does e t (plan_of e t)
@@ -184,17 +182,17 @@ pub step_by : (e : Entry) (t : List Slot) (p : Plan) (u : List Slot) → p ≡ p
 step_by e t p u h g = subst (Step e t p.report) (sym g) (subst (Does e t) (sym h) (step_of e t))
 
 -- ---- the questions
-pub count_told : (t : List Slot) (r : Waiting) → r ≡ count_of (look_all t 0 (seek_of 0 (length t))) → CountTold t (waiting_told r)
+pub count_told : (t : List Slot) (r : Result ℕ Refusal) → r ≡ count_of (look_all t 0 (seek_of 0 (length t))) → CountTold t (waiting_told r)
 unfolding count_of waiting_told
-count_told t r h = subst (λ (x : Waiting). CountTold t (waiting_told x)) (sym (h ∙ ap count_of (sought_is 0 t))) (by_table (judge (A.Rank 0) t))
+count_told t r h = subst (λ (x : Result ℕ Refusal). CountTold t (waiting_told x)) (sym (h ∙ ap count_of (sought_is 0 t))) (by_table (judge (A.Rank 0) t))
   where
     by_table : Judged t (fault_of (seen_by (A.Rank 0) t)) → CountTold t (waiting_told (count_of (seen_by (A.Rank 0) t)))
     by_table (well g z) = let c = le-ltb 0 (fault_of (seen_by (A.Rank 0) t)) (omega (arith, z)) in let n = count_is t g.sound g.sized.1 in rw (c, n) (Tables.counts g)
     by_table (ill f z) = let c = lt-ltb 0 (fault_of (seen_by (A.Rank 0) t)) z in rw c (Tables.refuses f)
 
-pub place_told_lem : (t : List Slot) (k : ℕ) (r : Place) → r ≡ place_of (look_all t 0 (seek_of k (length t))) → PlaceTold t k (place_told r)
+pub place_told_lem : (t : List Slot) (k : ℕ) (r : Result (Option ℕ) Refusal) → r ≡ place_of (look_all t 0 (seek_of k (length t))) → PlaceTold t k (place_told r)
 unfolding place_of place_told is_asked
-place_told_lem t k r h = subst (λ (x : Place). PlaceTold t k (place_told x)) (sym (h ∙ ap place_of (sought_is k t))) (by_table (judge (A.Rank k) t) (oldest_is t 0 (A.Rank k) o₀))
+place_told_lem t k r h = subst (λ (x : Result (Option ℕ) Refusal). PlaceTold t k (place_told x)) (sym (h ∙ ap place_of (sought_is k t))) (by_table (judge (A.Rank k) t) (oldest_is t 0 (A.Rank k) o₀))
   where
     by_table : Judged t (fault_of (seen_by (A.Rank k) t)) → OldestIs t 0 (A.Rank k) o₀ (oldest_all t 0 (A.Rank k) o₀) → PlaceTold t k (place_told (place_of (seen_by (A.Rank k) t)))
     by_table (ill f z) o = let c = lt-ltb 0 (fault_of (seen_by (A.Rank k) t)) z in rw c (Tables.refuses f)

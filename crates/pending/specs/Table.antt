@@ -1,12 +1,9 @@
 -- A table of waiting requests: how many wait, which slots are a table, and which number refuses those that are none.
-use Rattle.std.specs.Prelude.{ℕ, ◌+◌, ◌<◌, ◌≤◌, ◌^◌, ◌≡◌, cond, List, [], ◌∷◌, eqb, length, get_or}
+use Rattle.refusal.specs.declared.Refusal.{Refusal}
+use Rattle.std.specs.Prelude.{ℕ, ◌+◌, ◌<◌, ◌≤◌, ◌^◌, ◌≡◌, cond, List, [], ◌∷◌, eqb, length, get_or, Err, None, Ok, Option, Result, Some}
 use Rattle.text.specs.Told.{Told, is, absent, refused}
 use Rattle.slots.specs.declared.Four.{Four}
 use Rattle.slots.specs.declared.Slot.{Slot}
-use Rattle.slots.specs.declared.decide.Waiting.{Waiting}
-use Rattle.slots.specs.declared.decide.Waiting.TheVariants as W
-use Rattle.slots.specs.declared.decide.Place.{Place}
-use Rattle.slots.specs.declared.decide.Place.TheVariants as P
 use Rattle.slots.specs.Decide.{free_slot}
 
 -- the rank and the four of the slot at a place
@@ -52,14 +49,14 @@ pub data Refuses (t : List Slot) : ℕ → Type 0 where
   by_ranks : Sized t → (Sound t → ⊥) → Refuses t 51
 
 -- what the answers tell
-unfoldable pub waiting_told : Waiting → Told ℕ
-waiting_told (W.Count n) = is n
-waiting_told (W.Refused n) = refused n
+unfoldable pub waiting_told : Result ℕ Refusal → Told ℕ
+waiting_told (Ok n) = is n
+waiting_told (Err n) = refused n
 
-unfoldable pub place_told : Place → Told ℕ
-place_told (P.At i) = is i
-place_told P.Nowhere = absent
-place_told (P.Refused n) = refused n
+unfoldable pub place_told : Result (Option ℕ) Refusal → Told ℕ
+place_told (Ok (Some i)) = is i
+place_told (Ok None) = absent
+place_told (Err n) = refused n
 
 -- how many requests wait
 pub data CountTold (t : List Slot) : Told ℕ → Type 0 where

@@ -14,8 +14,9 @@ ghost use Rattle.pending.specs.Step.{Step, freed};
 
 use entry::Entry;
 use slots::Slot;
-use slots::decide::{Place, Report, Waiting, count_of, decide, free_slot, lowered, place_of};
+use slots::decide::{Report, count_of, decide, free_slot, lowered, place_of};
 use slots::look::{Seen, look, seek, start};
+use refusal::Refusal;
 
 // Every slot is made free.
 pub fn clear(slots: &mut [Slot])
@@ -44,7 +45,7 @@ pub fn step(e: Entry, slots: &mut [Slot]) -> Report
 }
 
 // How many slots wait.
-pub fn waiting(slots: &[Slot]) -> Waiting
+pub fn waiting(slots: &[Slot]) -> Result<u32, Refusal>
     ensures { CountTold slots.now (waiting_told result) }
 {
     let begun = seek(0, slots.len());
@@ -53,7 +54,7 @@ pub fn waiting(slots: &[Slot]) -> Waiting
 }
 
 // Where the k-th oldest of those that wait lies, the oldest being the first.
-pub fn oldest(slots: &[Slot], k: u32) -> Place
+pub fn oldest(slots: &[Slot], k: u32) -> Result<Option<usize>, Refusal>
     ensures { PlaceTold slots.now k (place_told result) }
 {
     let begun = seek(k, slots.len());

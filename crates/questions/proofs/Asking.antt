@@ -1,4 +1,5 @@
 -- The questions of a described packet, case by case of what was found. Assumes nothing.
+use Rattle.std.specs.Prelude.{None, Some}
 use Prim.Native.Nat.{ℕ, zero, suc, ◌+◌, ◌*◌, ◌^◌, ◌≤◌, ◌<◌}
 use mathlib.Core.Path.{◌≡◌, refl, ap, ap₂, ◌∙◌}
 use mathlib.Core.Bool.{cond}
@@ -6,7 +7,6 @@ use mathlib.Core.List.{List, [], ◌∷◌}
 use native.Mathlib.Omega.{arith}
 use lib.ListN.{length, get_or, take}
 use Rattle.text.specs.Quote.{bytes}
-use Rattle.text.specs.declared.place.Found.TheVariants.{At, Nothing}
 use Rattle.packet.specs.declared.field.Ask.{Ask}
 use Rattle.packet.specs.declared.field.Ask.TheVariants.{Named, Holds}
 use Rattle.packet.specs.Field.{range_in, value_in, asks}
@@ -33,31 +33,31 @@ route_joined (a ∷ b ∷ ds) le e = ap is e
 
 module _ (s ds ps : List ℕ) where
   module _ (name : List ℕ) where
-    pub asked_none : first_from (asks Holds s name) 0 ps ≡ Nothing → absent ≡ asked s ds ps name
+    pub asked_none : first_from (asks Holds s name) 0 ps ≡ None → absent ≡ asked s ds ps name
     unfolding asked
     asked_none e = rw e
 
-    pub asked_at : {i : ℕ} → first_from (asks Holds s name) 0 ps ≡ At i → {range dword v : ℕ} → range ≡ range_in s name (get_or ps i 0)
+    pub asked_at : {i : ℕ} → first_from (asks Holds s name) 0 ps ≡ Some i → {range dword v : ℕ} → range ≡ range_in s name (get_or ps i 0)
         → dword ≡ get_or ds i 0 → v ≡ value_in s range dword → is v ≡ asked s ds ps name
     unfolding asked
     asked_at e r d v = rw e (ap is (v ∙ ap₂ (value_in s) r d))
 
-  pub type_none : first_from (asks Holds s (bytes "Packet Type")) 0 ps ≡ Nothing → absent ≡ type_in s ds ps
+  pub type_none : first_from (asks Holds s (bytes "Packet Type")) 0 ps ≡ None → absent ≡ type_in s ds ps
   unfolding type_in
   type_none e = rw e
 
-  pub type_at_lem : {i : ℕ} → first_from (asks Holds s (bytes "Packet Type")) 0 ps ≡ At i → {range dword : ℕ}
+  pub type_at_lem : {i : ℕ} → first_from (asks Holds s (bytes "Packet Type")) 0 ps ≡ Some i → {range dword : ℕ}
       → range ≡ range_in s (bytes "Packet Type") (get_or ps i 0) → dword ≡ get_or ds i 0 → {told : Told PacketType} → told ≡ type_by s range dword
       → told ≡ type_in s ds ps
   unfolding type_in
   type_at_lem e r d t = rw e (t ∙ ap₂ (type_by s) r d)
 
   module _ (ask : Ask) (kind : ℕ) (name : List ℕ) where
-    pub field_none : first_from (asks ask s name) 0 ps ≡ Nothing → absent ≡ field_with s ds ps ask kind name
+    pub field_none : first_from (asks ask s name) 0 ps ≡ None → absent ≡ field_with s ds ps ask kind name
     unfolding field_with
     field_none e = rw e
 
-    pub field_found : {i : ℕ} → first_from (asks ask s name) 0 ps ≡ At i → {f : Field} → f ≡ field_in s ds ps kind i
+    pub field_found : {i : ℕ} → first_from (asks ask s name) 0 ps ≡ Some i → {f : Field} → f ≡ field_in s ds ps kind i
         → is f ≡ field_with s ds ps ask kind name
     unfolding field_with
     field_found e f = rw e (ap is f)

@@ -1,5 +1,7 @@
 -- What a parse into 256 places tells a question: 26 does not come, a number stands before every answer, and the first places are the packet's,
 -- whatever was there before. Assumes nothing.
+use Rattle.std.specs.Prelude.{Err, Ok, Result}
+use Rattle.refusal.specs.declared.Refusal.{Refusal}
 use Prim.Native.Nat.{ℕ, zero, suc, ◌≤◌}
 use mathlib.Core.Path.{◌≡◌, refl, sym, ap, ◌∙◌}
 use mathlib.Core.Bool.{Bool, true, false}
@@ -11,8 +13,6 @@ use lib.ListN.{length, take, drop, length-append}
 use lib.Seq.{take_at}
 use Rattle.text.specs.Told as T
 use Rattle.book.specs.Reading.{accepted as checked, check_of}
-use Rattle.packet.specs.declared.Answer.{Answer}
-use Rattle.packet.specs.declared.Answer.TheVariants as A
 use Rattle.packet.specs.declared.Packet.{Packet}
 use Rattle.packet.specs.Packet.{Parsed, after, number_checked, number_of, places_of, packet_of, answer_told, parse_of, list_by}
 use Rattle.packet.proofs.Packets.{Passed, passed_whole, length_places, parsed_20}
@@ -73,12 +73,12 @@ refusal_checked kind s ds e = rw e
 
 -- ---- an answer by a parse
 
-module _ {kind : ℕ} {s ds out exit : List ℕ} {r : Answer} (parsed : Parsed kind s ds out exit r) (room : length out ≡ 256) where
+module _ {kind : ℕ} {s ds out exit : List ℕ} {r : Result Packet Refusal} (parsed : Parsed kind s ds out exit r) (room : length out ≡ 256) where
   number_is : number_of kind s (length ds) (length out) ≡ refusal kind s ds
   unfolding refusal
   number_is = never_26 kind s (length ds) (length out) (omega (arith, room))
 
-  pub refused_first : {k : ℕ} → r ≡ A.Refused k → {B : Type 0} (told : Told B) → refused k ≡ answer kind s ds told
+  pub refused_first : {k : ℕ} → r ≡ Err k → {B : Type 0} (told : Told B) → refused k ≡ answer kind s ds told
   unfolding parse_of
   refused_first e told =
       let w = refused_by (packet_of kind s ds) (number_of kind s (length ds) (length out)) (sym parsed.answer ∙ ap answer_told e) in
@@ -91,13 +91,13 @@ module _ {kind : ℕ} {s ds out exit : List ℕ} {r : Answer} (parsed : Parsed k
     pub fit : length ds ≤ length exit
     pub first : take (length ds) exit ≡ places_of kind s ds
 
-  pub accepted : {p : Packet} → r ≡ A.Packet p → Accepted p
+  pub accepted : {p : Packet} → r ≡ Ok p → Accepted p
   unfolding parse_of list_by
   accepted {p} e =
       let w = accepted_by (packet_of kind s ds) (number_of kind s (length ds) (length out)) (sym parsed.answer ∙ ap answer_told e) in
       let ps : List ℕ = places_of kind s ds in
       let size : length ps ≡ length ds = length_places kind s ds in
-      let exit-is : exit ≡ ps ++ drop (length ps) out = parsed.places ∙ ap (λ (a : Answer). list_by (answer_told a) ps out) e in
+      let exit-is : exit ≡ ps ++ drop (length ps) out = parsed.places ∙ ap (λ (a : Result Packet Refusal). list_by (answer_told a) ps out) e in
       record {
         none = sym number_is ∙ w.0;
         is_packet = w.1;
@@ -106,14 +106,14 @@ module _ {kind : ℕ} {s ds out exit : List ℕ} {r : Answer} (parsed : Parsed k
       }
 
   -- what is told over the places is the answer
-  pub answers_over : {p : Packet} → r ≡ A.Packet p → {B : Type 0} (question : List ℕ → Told B)
+  pub answers_over : {p : Packet} → r ≡ Ok p → {B : Type 0} (question : List ℕ → Told B)
       → question (take (length ds) exit) ≡ answer kind s ds (question (places_of kind s ds))
   answers_over e question =
       let a = accepted e in
       ap question a.first ∙ no_number kind s ds (sym a.none) (question (places_of kind s ds)) refl
 
   -- what is told of the packet is the answer
-  pub answers_of : {p : Packet} → r ≡ A.Packet p → {B : Type 0} (question : Packet → Told B)
+  pub answers_of : {p : Packet} → r ≡ Ok p → {B : Type 0} (question : Packet → Told B)
       → question p ≡ answer kind s ds (question (packet_of kind s ds))
   answers_of e question =
       let a = accepted e in

@@ -1,5 +1,7 @@
 -- The data view: its start lies within the dwords, so that the cut to 16 bits loses nothing and the view is the rest of the lent dwords.
 -- Assumes nothing.
+use Rattle.std.specs.Prelude.{Err, None, Ok, Option, Result, Some}
+use Rattle.refusal.specs.declared.Refusal.{Refusal}
 use Prim.Native.Nat.{ℕ, zero, suc, ◌+◌, ◌%◌, ◌≤◌, ◌<◌}
 use mathlib.Core.Path.{◌≡◌, refl, sym, ap, ◌∙◌}
 use mathlib.Core.Bool.{Bool, true, false, cond, ◌&&◌}
@@ -11,18 +13,12 @@ use lib.ListN.{length, drop, length-drop}
 use Rattle.text.specs.Part.{Slice, OwnDwords}
 use Rattle.text.proofs.OwnParts.{own_is, own_from}
 use Rattle.text.specs.Quote.{bytes}
-use Rattle.text.specs.declared.place.Found.{Found}
-use Rattle.text.specs.declared.place.Found.TheVariants.{At, Nothing}
 use Rattle.packet.specs.declared.field.Ask.TheVariants.{Holds}
 use Rattle.packet.specs.Field.{asks}
 use Rattle.packet.specs.Packet.{is_read_response_or_write_request, is_xdomain, entries_of, places_of, first_from, behind, view_from, word}
 use Rattle.packet.proofs.Packets.{length_places}
 use Rattle.packet.proofs.Gathering.{first_within}
-use Rattle.questions.specs.declared.WordAnswer.{WordAnswer}
-use Rattle.questions.specs.declared.WordAnswer.TheVariants as Word
 use Rattle.questions.specs.declared.PacketType.{PacketType}
-use Rattle.questions.specs.declared.TypeAnswer.{TypeAnswer}
-use Rattle.questions.specs.declared.TypeAnswer.TheVariants as TypeA
 use Rattle.questions.specs.Answers.{word_told, type_told}
 use Rattle.questions.specs.Questions.{refusal, answer, start_of, view_at, view_of, view_place, DataView, name_by}
 use Rattle.text.specs.Told.{Told, is, absent, unless}
@@ -30,29 +26,29 @@ use Rattle.entry.specs.Entry.{maybe_word}
 use Rattle.questions.proofs.Over.{passed, no_number}
 
 -- the view of what was found, with no cut
-abbrev pub started : Found → Told ℕ
-started (At n) = is n
-started Nothing = absent
+abbrev pub started : Option ℕ → Told ℕ
+started (Some n) = is n
+started None = absent
 
 module _ (kind : ℕ) (s ds : List ℕ) where
   -- ---- the start lies within the dwords
 
-  behind_within : (f : Found) → ((j : ℕ) → f ≡ At j → j < length ds) → (n : ℕ) → behind f ≡ At n → n ≤ length ds
-  behind_within (At j) within n e = let same : j + 1 ≡ n = cc in omega (arith, within j refl, same)
-  behind_within Nothing within n e = absurd (let q : ◌≡◌ {A = ℕ} 0 1 = cc in omega arith)
+  behind_within : (f : Option ℕ) → ((j : ℕ) → f ≡ Some j → j < length ds) → (n : ℕ) → behind f ≡ Some n → n ≤ length ds
+  behind_within (Some j) within n e = let same : j + 1 ≡ n = cc in omega (arith, within j refl, same)
+  behind_within None within n e = absurd (let q : ◌≡◌ {A = ℕ} 0 1 = cc in omega arith)
 
-  pub start_within : refusal kind s ds ≡ 0 → (n : ℕ) → view_from kind s (places_of kind s ds) ≡ At n → n ≤ length ds
+  pub start_within : refusal kind s ds ≡ 0 → (n : ℕ) → view_from kind s (places_of kind s ds) ≡ Some n → n ≤ length ds
   unfolding view_from
   start_within none n e = by (is_read_response_or_write_request kind) refl (is_xdomain kind) e
     where
       ok : ℕ → Bool
       ok = asks Holds s (bytes "Properties Block Generation")
 
-      control : (b : Bool) → is_read_response_or_write_request kind ≡ b → ltb (length ds) (entries_of s kind) ≡ false → At (entries_of s kind) ≡ At n → n ≤ length ds
+      control : (b : Bool) → is_read_response_or_write_request kind ≡ b → ltb (length ds) (entries_of s kind) ≡ false → Some (entries_of s kind) ≡ Some n → n ≤ length ds
       control b v l h = let same : entries_of s kind ≡ n = cc in omega (arith, ltb-false (length ds) (entries_of s kind) l, same)
 
       by : (v : Bool) → is_read_response_or_write_request kind ≡ v → (x : Bool)
-          → cond v (At (entries_of s kind)) (cond x (behind (first_from ok 0 (places_of kind s ds))) Nothing) ≡ At n → n ≤ length ds
+          → cond v (Some (entries_of s kind)) (cond x (behind (first_from ok 0 (places_of kind s ds))) None) ≡ Some n → n ≤ length ds
       by true v x h = control true v (ap (λ (b : Bool). b && ltb (length ds) (entries_of s kind)) (sym v) ∙ (passed kind s ds none).enough) h
       by false v true h =
           behind_within (first_from ok 0 (places_of kind s ds))
@@ -68,31 +64,31 @@ module _ (kind : ℕ) (s ds : List ℕ) where
       sym (no_number kind s ds (sym none) (maybe_word (word (view_from kind s (places_of kind s ds)))) refl)
       ∙ by (view_from kind s (places_of kind s ds)) (start_within none)
     where
-      by : (f : Found) → ((n : ℕ) → f ≡ At n → n ≤ length ds) → maybe_word (word f) ≡ started f
-      by (At n) within = ap is (let few = (passed kind s ds none).few in omega (arith, few, within n refl))
-      by Nothing within = refl
+      by : (f : Option ℕ) → ((n : ℕ) → f ≡ Some n → n ≤ length ds) → maybe_word (word f) ≡ started f
+      by (Some n) within = ap is (let few = (passed kind s ds none).few in omega (arith, few, within n refl))
+      by None within = refl
 
   -- an answer lies within the dwords
   pub start_fits : (n : ℕ) → is n ≡ start_of kind s ds → n ≤ length ds
   unfolding start_of answer
   start_fits n e = by (refusal kind s ds) refl e
     where
-      start : (f : Found) → view_from kind s (places_of kind s ds) ≡ f → refusal kind s ds ≡ 0 → is n ≡ maybe_word (word f) → n ≤ length ds
-      start (At m) f none h =
+      start : (f : Option ℕ) → view_from kind s (places_of kind s ds) ≡ f → refusal kind s ds ≡ 0 → is n ≡ maybe_word (word f) → n ≤ length ds
+      start (Some m) f none h =
           let same : n ≡ m % 65536 = cc in
           omega (arith, same, start_within none m f)
-      start Nothing f none h = absurd (let q : ◌≡◌ {A = ℕ} 0 1 = cc in omega arith)
+      start None f none h = absurd (let q : ◌≡◌ {A = ℕ} 0 1 = cc in omega arith)
 
       by : (k : ℕ) → refusal kind s ds ≡ k → is n ≡ unless k (maybe_word (word (view_from kind s (places_of kind s ds)))) → n ≤ length ds
       by zero z h = start (view_from kind s (places_of kind s ds)) refl z h
       by (suc k) z h = absurd (let q : ◌≡◌ {A = ℕ} 0 1 = cc in omega arith)
 
   -- the view of an accepted packet: its dwords from the start onward
-  view_from_lem : refusal kind s ds ≡ 0 → {f : Found} → view_from kind s (places_of kind s ds) ≡ f → view_of kind s ds ≡ view_at kind s ds (started f)
+  view_from_lem : refusal kind s ds ≡ 0 → {f : Option ℕ} → view_from kind s (places_of kind s ds) ≡ f → view_of kind s ds ≡ view_at kind s ds (started f)
   unfolding view_of
   view_from_lem none e = ap (view_at kind s ds) (start_is_not_cut none ∙ ap started e)
 
-  viewed_from : is_read_response_or_write_request kind ≡ true → view_from kind s (places_of kind s ds) ≡ At (entries_of s kind)
+  viewed_from : is_read_response_or_write_request kind ≡ true → view_from kind s (places_of kind s ds) ≡ Some (entries_of s kind)
   unfolding view_from
   viewed_from v = rw v
 
@@ -101,7 +97,7 @@ module _ (kind : ℕ) (s ds : List ℕ) where
   unfolding view_from
   xdomain_from v x = rw (v, x)
 
-  other_from : is_read_response_or_write_request kind ≡ false → is_xdomain kind ≡ false → view_from kind s (places_of kind s ds) ≡ Nothing
+  other_from : is_read_response_or_write_request kind ≡ false → is_xdomain kind ≡ false → view_from kind s (places_of kind s ds) ≡ None
   unfolding view_from
   other_from v x = rw (v, x)
 
@@ -148,20 +144,20 @@ view_is_the_callers_own kind s {dwords} v none h =
 -- ---- where there is none
 
 -- no start, no place
-pub no_place : (r : WordAnswer) → ((n : ℕ) → r ≡ Word.Is n → ⊥) → view_place (word_told r) ≡ 0
-no_place (Word.Is n) h = absurd (h n refl)
-no_place Word.Absent h = refl
-no_place (Word.Refused k) h = refl
+pub no_place : (r : Result (Option ℕ) Refusal) → ((n : ℕ) → r ≡ Ok (Some n) → ⊥) → view_place (word_told r) ≡ 0
+no_place (Ok (Some n)) h = absurd (h n refl)
+no_place (Ok None) h = refl
+no_place (Err k) h = refl
 
 module _ (kind : ℕ) (s ds : List ℕ) where
   -- no start, no view
-  pub no_start : (r : WordAnswer) → ((n : ℕ) → r ≡ Word.Is n → ⊥) → view_at kind s ds (word_told r) ≡ []
-  no_start (Word.Is n) h = absurd (h n refl)
-  no_start Word.Absent h = refl
-  no_start (Word.Refused k) h = refl
+  pub no_start : (r : Result (Option ℕ) Refusal) → ((n : ℕ) → r ≡ Ok (Some n) → ⊥) → view_at kind s ds (word_told r) ≡ []
+  no_start (Ok (Some n)) h = absurd (h n refl)
+  no_start (Ok None) h = refl
+  no_start (Err k) h = refl
 
   -- no packet type, no name
-  pub no_type : (r : TypeAnswer) → ((t : PacketType) → r ≡ TypeA.Is t → ⊥) → name_by kind s ds (type_told r) ≡ []
-  no_type (TypeA.Is t) h = absurd (h t refl)
-  no_type TypeA.Absent h = refl
-  no_type (TypeA.Refused k) h = refl
+  pub no_type : (r : Result (Option PacketType) Refusal) → ((t : PacketType) → r ≡ Ok (Some t) → ⊥) → name_by kind s ds (type_told r) ≡ []
+  no_type (Ok (Some t)) h = absurd (h t refl)
+  no_type (Ok None) h = refl
+  no_type (Err k) h = refl

@@ -1,9 +1,7 @@
 -- The questions of a described packet: dwords, and for each the place of its entry.
 -- Assumes nothing.
-use Rattle.std.specs.Prelude.{ℕ, zero, suc, ◌+◌, ◌*◌, ◌%◌, ◌^◌, Bool, cond, ◌||◌, List, [], ◌∷◌, eqb, ltb, length, get_or}
+use Rattle.std.specs.Prelude.{ℕ, zero, suc, ◌+◌, ◌*◌, ◌%◌, ◌^◌, Bool, cond, ◌||◌, List, [], ◌∷◌, eqb, ltb, length, get_or, None, Option, Some}
 use Rattle.text.specs.Quote.{bytes}
-use Rattle.text.specs.declared.place.Found.{Found}
-use Rattle.text.specs.declared.place.Found.TheVariants.{At, Nothing}
 use Rattle.bits.specs.Range.{bit}
 use Rattle.book.specs.declared.Uuid.{Uuid}
 use Rattle.packet.specs.declared.field.Ask.{Ask}
@@ -53,9 +51,9 @@ type_by s range dword = named (value_in s range dword) (named_in s range dword)
 
 module _ (s ds ps : List ℕ) where
   -- the value of the first range of a name in the dword that was found
-  abbrev pub asked_at : List ℕ → Found → Told ℕ
-  asked_at name (At i) = is (value_in s (range_in s name (get_or ps i 0)) (get_or ds i 0))
-  asked_at name Nothing = absent
+  abbrev pub asked_at : List ℕ → Option ℕ → Told ℕ
+  asked_at name (Some i) = is (value_in s (range_in s name (get_or ps i 0)) (get_or ds i 0))
+  asked_at name None = absent
 
   -- the first dword whose description has a range of the name
   unfoldable pub asked : List ℕ → Told ℕ
@@ -82,9 +80,9 @@ module _ (s ds ps : List ℕ) where
   uuid_in name = maybe_uuid (gathered s name ds ps)
 
   -- in the dword that was found
-  abbrev pub type_at : Found → Told PacketType
-  type_at (At i) = type_by s (range_in s (bytes "Packet Type") (get_or ps i 0)) (get_or ds i 0)
-  type_at Nothing = absent
+  abbrev pub type_at : Option ℕ → Told PacketType
+  type_at (Some i) = type_by s (range_in s (bytes "Packet Type") (get_or ps i 0)) (get_or ds i 0)
+  type_at None = absent
 
   -- the first dword whose description has such a range
   unfoldable pub type_in : Told PacketType
@@ -99,9 +97,9 @@ module _ (s ds ps : List ℕ) where
   field_at kind i = cond (ltb i (length ds)) (is (field_in kind i)) absent
 
   -- of the dword that was found
-  abbrev pub field_found : ℕ → Found → Told Field
-  field_found kind (At i) = is (field_in kind i)
-  field_found kind Nothing = absent
+  abbrev pub field_found : ℕ → Option ℕ → Told Field
+  field_found kind (Some i) = is (field_in kind i)
+  field_found kind None = absent
 
   -- the first with that name, or with a range of that name
   unfoldable pub field_with : Ask → ℕ → List ℕ → Told Field

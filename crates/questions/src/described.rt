@@ -20,31 +20,21 @@ ghost use Rattle.questions.specs.Described.{
 
 use crate::kept::uuid_kept;
 use crate::kinds::{is_reading, is_writing};
-use crate::{
-    ByteAnswer, FieldAnswer, FlagAnswer, PacketType, TypeAnswer, UuidAnswer, WideAnswer, WordAnswer,
-};
+use crate::PacketType;
 use field::{Field, Place, field_of};
 use packet::field::{Ask, named_in, range_in, value_in, wide};
 use packet::numbers::is_xdomain_kind;
 use packet::seek::{dword_at, first_asked, gather};
-use refusal::{NO_PACKET_ROUTE, UNNAMED_TYPE};
-use text::place::Found;
-
-// The value of a bit range, or there is none of that name.
-#[derive(Clone, Copy)]
-pub enum MaybeDword {
-    Is(u32),
-    Absent,
-}
+use refusal::Refusal;
 
 // The first dword above the second.
-pub fn route_in(dwords: &[u32]) -> WideAnswer
+pub fn route_in(dwords: &[u32]) -> Result<u64, Refusal>
     ensures { wide_told result ≡ route_in dwords.now }
 {
     if dwords.len() < 2 {
-        return WideAnswer::Refused(NO_PACKET_ROUTE);
+        return Err(Refusal::NoPacketRoute);
     }
-    WideAnswer::Is(join(dwords[0], dwords[1]))
+    Ok(join(dwords[0], dwords[1]))
 }
 
 // One dword above another.
@@ -55,41 +45,41 @@ fn join(high: u32, low: u32) -> u64
 }
 
 // The top bit of the route.
-pub fn cm_in(dwords: &[u32]) -> FlagAnswer
+pub fn cm_in(dwords: &[u32]) -> Result<bool, Refusal>
     ensures { flag_told result ≡ top_bit (route_in dwords.now) }
 {
     let route = route_in(dwords);
     match route {
-        WideAnswer::Is(v) => FlagAnswer::Is(v / 9_223_372_036_854_775_808 % 2 == 1),
-        WideAnswer::Refused(number) => FlagAnswer::Refused(number),
+        Ok(v) => Ok(v / 9_223_372_036_854_775_808 % 2 == 1),
+        Err(number) => Err(number),
     }
 }
 
 // The value of the first bit range of that name, in the first dword that has one.
-pub fn value_asked(book: &[u8], name: &[u8], dwords: &[u32], places: &[u32]) -> MaybeDword
+pub fn value_asked(book: &[u8], name: &[u8], dwords: &[u32], places: &[u32]) -> Option<u32>
     ensures { dword_told result ≡ asked book.now dwords.now places.now name.now }
 {
     let found = first_asked(book, Ask::Holds, name, places, 0);
-    let Found::At(i) = found else {
-        return MaybeDword::Absent;
+    let Some(i) = found else {
+        return None;
     };
     let range = range_in(book, name, wide(dword_at(places, i)));
-    MaybeDword::Is(value_in(book, range, dword_at(dwords, i)))
+    Some(value_in(book, range, dword_at(dwords, i)))
 }
 
 // The adapter number, cut to 8 bits.
-pub fn adapter_in(book: &[u8], dwords: &[u32], places: &[u32]) -> ByteAnswer
+pub fn adapter_in(book: &[u8], dwords: &[u32], places: &[u32]) -> Result<Option<u8>, Refusal>
     ensures { byte_told result ≡ adapter_in book.now dwords.now places.now }
 {
     let value = value_asked(book, b"Adapter Num", dwords, places);
     match value {
-        MaybeDword::Is(v) => ByteAnswer::Is((v % 256) as u8),
-        MaybeDword::Absent => ByteAnswer::Absent,
+        Some(v) => Ok(Some((v % 256) as u8)),
+        None => Ok(None),
     }
 }
 
 // The offset of an inter-domain packet, the address of any other.
-pub fn address_in(kind: u8, book: &[u8], dwords: &[u32], places: &[u32]) -> WordAnswer
+pub fn address_in(kind: u8, book: &[u8], dwords: &[u32], places: &[u32]) -> Result<Option<u16>, Refusal>
     ensures { word_told result ≡ address_in book.now dwords.now places.now kind }
 {
     if is_xdomain_kind(kind) {
@@ -99,7 +89,7 @@ pub fn address_in(kind: u8, book: &[u8], dwords: &[u32], places: &[u32]) -> Word
 }
 
 // The size that the kind has, if it has one.
-pub fn size_in(kind: u8, book: &[u8], dwords: &[u32], places: &[u32]) -> WordAnswer
+pub fn size_in(kind: u8, book: &[u8], dwords: &[u32], places: &[u32]) -> Result<Option<u16>, Refusal>
     ensures { word_told result ≡ size_in book.now dwords.now places.now kind }
 {
     if is_reading(kind) {
@@ -111,22 +101,22 @@ pub fn size_in(kind: u8, book: &[u8], dwords: &[u32], places: &[u32]) -> WordAns
     if is_xdomain_kind(kind) {
         return word_asked(book, b"Properties Block Size", dwords, places);
     }
-    WordAnswer::Absent
+    Ok(None)
 }
 
 // The value of the first bit range of that name, cut to 16 bits.
-fn word_asked(book: &[u8], name: &[u8], dwords: &[u32], places: &[u32]) -> WordAnswer
+fn word_asked(book: &[u8], name: &[u8], dwords: &[u32], places: &[u32]) -> Result<Option<u16>, Refusal>
     ensures { word_told result ≡ cut 16 (asked book.now dwords.now places.now name.now) }
 {
     let value = value_asked(book, name, dwords, places);
     match value {
-        MaybeDword::Is(v) => WordAnswer::Is((v % 65_536) as u16),
-        MaybeDword::Absent => WordAnswer::Absent,
+        Some(v) => Ok(Some((v % 65_536) as u16)),
+        None => Ok(None),
     }
 }
 
 // The values of the dwords of that name, if there are exactly four. A dword without a place, or a place without a dword, counts for nothing.
-pub fn uuid_in(book: &[u8], name: &[u8], dwords: &[u32], places: &[u32]) -> UuidAnswer
+pub fn uuid_in(book: &[u8], name: &[u8], dwords: &[u32], places: &[u32]) -> Result<Option<Uuid>, Refusal>
     ensures { uuid_told result ≡ uuid_in book.now dwords.now places.now name.now }
 {
     let n = dwords.len();
@@ -138,40 +128,40 @@ pub fn uuid_in(book: &[u8], name: &[u8], dwords: &[u32], places: &[u32]) -> Uuid
 }
 
 // The packet type: of the first dword with such a range, whether its value has a name or not.
-pub fn type_in(book: &[u8], dwords: &[u32], places: &[u32]) -> TypeAnswer
+pub fn type_in(book: &[u8], dwords: &[u32], places: &[u32]) -> Result<Option<PacketType>, Refusal>
     ensures { type_told result ≡ type_in book.now dwords.now places.now }
 {
     let found = first_asked(book, Ask::Holds, b"Packet Type", places, 0);
-    let Found::At(i) = found else {
-        return TypeAnswer::Absent;
+    let Some(i) = found else {
+        return Ok(None);
     };
     let range = range_in(book, b"Packet Type", wide(dword_at(places, i)));
     type_by(book, range, dword_at(dwords, i))
 }
 
 // The value of a packet type's range and the place of its name.
-fn type_by(book: &[u8], range: usize, dword: u32) -> TypeAnswer
+fn type_by(book: &[u8], range: usize, dword: u32) -> Result<Option<PacketType>, Refusal>
     ensures { type_told result ≡ type_by book.now range dword }
 {
     let at = named_in(book, range, dword);
     if at == 0 {
-        return TypeAnswer::Refused(UNNAMED_TYPE);
+        return Err(Refusal::UnnamedType);
     }
-    TypeAnswer::Is(PacketType {
+    Ok(Some(PacketType {
         value: value_in(book, range, dword),
         name: Place { at },
-    })
+    }))
 }
 
 // The field at an offset, where there is a dword.
-pub fn field_at(kind: u8, book: &[u8], dwords: &[u32], places: &[u32], offset: u16) -> FieldAnswer
+pub fn field_at(kind: u8, book: &[u8], dwords: &[u32], places: &[u32], offset: u16) -> Result<Option<Field>, Refusal>
     ensures { field_told result ≡ field_at book.now dwords.now places.now kind offset }
 {
     let i = offset as usize;
     if dwords.len() <= i {
-        return FieldAnswer::Absent;
+        return Ok(None);
     }
-    FieldAnswer::Is(field_in(kind, book, dwords, places, i))
+    Ok(Some(field_in(kind, book, dwords, places, i)))
 }
 
 // The first field as asked.
@@ -182,13 +172,13 @@ pub fn field_with(
     name: &[u8],
     dwords: &[u32],
     places: &[u32],
-) -> FieldAnswer
+) -> Result<Option<Field>, Refusal>
     ensures { field_told result ≡ field_with book.now dwords.now places.now ask kind name.now }
 {
     let found = first_asked(book, ask, name, places, 0);
     match found {
-        Found::At(i) => FieldAnswer::Is(field_in(kind, book, dwords, places, i)),
-        Found::Nothing => FieldAnswer::Absent,
+        Some(i) => Ok(Some(field_in(kind, book, dwords, places, i))),
+        None => Ok(None),
     }
 }
 

@@ -6,11 +6,9 @@ ghost use Rattle.entry.specs.Entry.{maybe_word};
 ghost use Rattle.questions.specs.Answers.{word_told, uuid_told};
 ghost use Rattle.questions.specs.Questions.{refusal};
 
-use crate::{UuidAnswer, WordAnswer};
 use book::Checked;
-use entry::optional::MaybeWord;
 use packet::numbers::open;
-use packet::{MaybeUuid, Opened};
+use refusal::Refusal;
 
 // Numbers 20 to 25, 0 for none.
 pub fn number_of(kind: u8, book: &[u8], dwords: &[u32]) -> u8
@@ -29,27 +27,27 @@ fn number_checked(kind: u8, book: &[u8], count: usize) -> u8
 {
     let opened = open(kind, book, count, count);
     match opened {
-        Opened::Tables(_) => 0,
-        Opened::Refused(number) => number,
+        Ok(_) => 0,
+        Err(number) => number,
     }
 }
 
 // The start that a packet keeps.
-pub fn start_in(start: MaybeWord) -> WordAnswer
+pub fn start_in(start: Option<u16>) -> Result<Option<u16>, Refusal>
     ensures { word_told result ≡ maybe_word start }
 {
     match start {
-        MaybeWord::Is(n) => WordAnswer::Is(n),
-        MaybeWord::Absent => WordAnswer::Absent,
+        Some(n) => Ok(Some(n)),
+        None => Ok(None),
     }
 }
 
 // The UUID that a packet keeps.
-pub fn uuid_kept(uuid: MaybeUuid) -> UuidAnswer
+pub fn uuid_kept(uuid: Option<Uuid>) -> Result<Option<Uuid>, Refusal>
     ensures { uuid_told result ≡ maybe_uuid uuid }
 {
     match uuid {
-        MaybeUuid::Is(u) => UuidAnswer::Is(u),
-        MaybeUuid::Absent => UuidAnswer::Absent,
+        Some(u) => Ok(Some(u)),
+        None => Ok(None),
     }
 }

@@ -42,42 +42,9 @@ use crate::kept::{number_of, start_in, uuid_kept};
 use crate::kinds::{is_reading, is_writing};
 use book::Uuid;
 use field::{Field, Place};
-use packet::Answer;
 use packet::field::{Ask, name_in};
 use packet::numbers::is_xdomain_kind;
-
-#[derive(Clone, Copy)]
-pub enum ByteAnswer {
-    Is(u8),
-    Absent,
-    Refused(u8),
-}
-
-#[derive(Clone, Copy)]
-pub enum WordAnswer {
-    Is(u16),
-    Absent,
-    Refused(u8),
-}
-
-#[derive(Clone, Copy)]
-pub enum WideAnswer {
-    Is(u64),
-    Refused(u8),
-}
-
-#[derive(Clone, Copy)]
-pub enum FlagAnswer {
-    Is(bool),
-    Refused(u8),
-}
-
-#[derive(Clone, Copy)]
-pub enum UuidAnswer {
-    Is(Uuid),
-    Absent,
-    Refused(u8),
-}
+use refusal::Refusal;
 
 // A packet type: its number, and where the book names it.
 #[derive(Clone, Copy)]
@@ -86,90 +53,76 @@ pub struct PacketType {
     pub name: Place,
 }
 
-#[derive(Clone, Copy)]
-pub enum TypeAnswer {
-    Is(PacketType),
-    Absent,
-    Refused(u8),
-}
-
-#[derive(Clone, Copy)]
-pub enum FieldAnswer {
-    Is(Field),
-    Absent,
-    Refused(u8),
-}
-
 // The route: the first dword above the second; 27 if there are fewer than two.
-pub fn route(kind: u8, book: &[u8], dwords: &[u32]) -> WideAnswer
+pub fn route(kind: u8, book: &[u8], dwords: &[u32]) -> Result<u64, Refusal>
     ensures { wide_told result ≡ route_of kind book.now dwords.now }
 {
     let number = number_of(kind, book, dwords);
     if number != 0 {
-        return WideAnswer::Refused(number);
+        return Err(number);
     }
     described::route_in(dwords)
 }
 
 // The top bit of the route; 27 as for the route.
-pub fn cm(kind: u8, book: &[u8], dwords: &[u32]) -> FlagAnswer
+pub fn cm(kind: u8, book: &[u8], dwords: &[u32]) -> Result<bool, Refusal>
     ensures { flag_told result ≡ cm_of kind book.now dwords.now }
 {
     let number = number_of(kind, book, dwords);
     if number != 0 {
-        return FlagAnswer::Refused(number);
+        return Err(number);
     }
     described::cm_in(dwords)
 }
 
 // The adapter number, cut to 8 bits.
-pub fn adapter_num(kind: u8, book: &[u8], dwords: &[u32]) -> ByteAnswer
+pub fn adapter_num(kind: u8, book: &[u8], dwords: &[u32]) -> Result<Option<u8>, Refusal>
     ensures { byte_told result ≡ adapter_of kind book.now dwords.now }
 {
     let mut places = [0u32; 256];
     let parsed = packet::parse(kind, book, dwords, &mut places[..256]);
     match parsed {
-        Answer::Packet(_) => adapter_in(book, dwords, &places[..dwords.len()]),
-        Answer::Refused(number) => ByteAnswer::Refused(number),
+        Ok(_) => adapter_in(book, dwords, &places[..dwords.len()]),
+        Err(number) => Err(number),
     }
 }
 
 // The address of kinds 1 to 7 and 10 to 12, the offset of kinds 8 and 9, cut to 16 bits.
-pub fn data_address(kind: u8, book: &[u8], dwords: &[u32]) -> WordAnswer
+pub fn data_address(kind: u8, book: &[u8], dwords: &[u32]) -> Result<Option<u16>, Refusal>
     ensures { word_told result ≡ address_of kind book.now dwords.now }
 {
     let mut places = [0u32; 256];
     let parsed = packet::parse(kind, book, dwords, &mut places[..256]);
     match parsed {
-        Answer::Packet(_) => address_in(kind, book, dwords, &places[..dwords.len()]),
-        Answer::Refused(number) => WordAnswer::Refused(number),
+        Ok(_) => address_in(kind, book, dwords, &places[..dwords.len()]),
+        Err(number) => Err(number),
     }
 }
 
 // The read size, write size or properties block size, by the kind, cut to 16 bits.
-pub fn data_size(kind: u8, book: &[u8], dwords: &[u32]) -> WordAnswer
+pub fn data_size(kind: u8, book: &[u8], dwords: &[u32]) -> Result<Option<u16>, Refusal>
     ensures { word_told result ≡ size_of kind book.now dwords.now }
 {
     let mut places = [0u32; 256];
     let parsed = packet::parse(kind, book, dwords, &mut places[..256]);
     match parsed {
-        Answer::Packet(_) => size_in(kind, book, dwords, &places[..dwords.len()]),
-        Answer::Refused(number) => WordAnswer::Refused(number),
+        Ok(_) => size_in(kind, book, dwords, &places[..dwords.len()]),
+        Err(number) => Err(number),
     }
 }
 
 // Where the data view starts; absent where there is none.
-pub fn data_start(kind: u8, book: &[u8], dwords: &[u32]) -> WordAnswer
+pub fn data_start(kind: u8, book: &[u8], dwords: &[u32]) -> Result<Option<u16>, Refusal>
     ensures { word_told result ≡ start_of kind book.now dwords.now }
 {
     let mut places = [0u32; 256];
     let parsed = packet::parse(kind, book, dwords, &mut places[..256]);
     match parsed {
-        Answer::Packet(packet) => {
+        Ok(packet) => {
             let start = packet.start;
             start_in(start)
         }
-        Answer::Refused(number) => WordAnswer::Refused(number),
+        Err(number) => Err(number),
     }
 }
 
@@ -179,7 +132,7 @@ pub fn data<'a, 'b>(kind: u8, book: &'b [u8], dwords: &'a [u32]) -> &'a [u32]
     ensures { DataView kind book.now dwords.entry result }
 {
     let start = data_start(kind, book, dwords);
-    let WordAnswer::Is(n) = start else {
+    let Ok(Some(n)) = start else {
         return &dwords[..0];
     };
     let first = n as usize;
@@ -187,74 +140,74 @@ pub fn data<'a, 'b>(kind: u8, book: &'b [u8], dwords: &'a [u32]) -> &'a [u32]
 }
 
 // Is it a read packet: kind 1 or 2?
-pub fn is_read(kind: u8, book: &[u8], dwords: &[u32]) -> FlagAnswer
+pub fn is_read(kind: u8, book: &[u8], dwords: &[u32]) -> Result<bool, Refusal>
     ensures { flag_told result ≡ read_of kind book.now dwords.now }
 {
     let number = number_of(kind, book, dwords);
     if number != 0 {
-        return FlagAnswer::Refused(number);
+        return Err(number);
     }
-    FlagAnswer::Is(is_reading(kind))
+    Ok(is_reading(kind))
 }
 
 // Is it a write packet: kind 3 or 4?
-pub fn is_write(kind: u8, book: &[u8], dwords: &[u32]) -> FlagAnswer
+pub fn is_write(kind: u8, book: &[u8], dwords: &[u32]) -> Result<bool, Refusal>
     ensures { flag_told result ≡ write_of kind book.now dwords.now }
 {
     let number = number_of(kind, book, dwords);
     if number != 0 {
-        return FlagAnswer::Refused(number);
+        return Err(number);
     }
-    FlagAnswer::Is(is_writing(kind))
+    Ok(is_writing(kind))
 }
 
 // Is it an inter-domain packet: kind 8 or 9?
-pub fn is_xdomain(kind: u8, book: &[u8], dwords: &[u32]) -> FlagAnswer
+pub fn is_xdomain(kind: u8, book: &[u8], dwords: &[u32]) -> Result<bool, Refusal>
     ensures { flag_told result ≡ xdomain_of kind book.now dwords.now }
 {
     let number = number_of(kind, book, dwords);
     if number != 0 {
-        return FlagAnswer::Refused(number);
+        return Err(number);
     }
-    FlagAnswer::Is(is_xdomain_kind(kind))
+    Ok(is_xdomain_kind(kind))
 }
 
 // The UUID of an inter-domain packet, as step 2 gathered it.
-pub fn uuid(kind: u8, book: &[u8], dwords: &[u32]) -> UuidAnswer
+pub fn uuid(kind: u8, book: &[u8], dwords: &[u32]) -> Result<Option<Uuid>, Refusal>
     ensures { uuid_told result ≡ uuid_answer kind book.now dwords.now }
 {
     let mut places = [0u32; 256];
     let parsed = packet::parse(kind, book, dwords, &mut places[..256]);
     match parsed {
-        Answer::Packet(packet) => {
+        Ok(packet) => {
             let uuid = packet.uuid;
             uuid_kept(uuid)
         }
-        Answer::Refused(number) => UuidAnswer::Refused(number),
+        Err(number) => Err(number),
     }
 }
 
 // The values of the fields of that name, if there are exactly four.
-pub fn uuid_by_name(kind: u8, book: &[u8], dwords: &[u32], name: &[u8]) -> UuidAnswer
+pub fn uuid_by_name(kind: u8, book: &[u8], dwords: &[u32], name: &[u8]) -> Result<Option<Uuid>, Refusal>
     ensures { uuid_told result ≡ uuid_by_name kind book.now dwords.now name.now }
 {
     let mut places = [0u32; 256];
     let parsed = packet::parse(kind, book, dwords, &mut places[..256]);
     match parsed {
-        Answer::Packet(_) => uuid_in(book, name, dwords, &places[..dwords.len()]),
-        Answer::Refused(number) => UuidAnswer::Refused(number),
+        Ok(_) => uuid_in(book, name, dwords, &places[..dwords.len()]),
+        Err(number) => Err(number),
     }
 }
 
 // The packet type: the value of the first `Packet Type` range and where its name stands; 28 if it has none.
-pub fn packet_type(kind: u8, book: &[u8], dwords: &[u32]) -> TypeAnswer
+pub fn packet_type(kind: u8, book: &[u8], dwords: &[u32]) -> Result<Option<PacketType>, Refusal>
     ensures { type_told result ≡ type_of kind book.now dwords.now }
 {
     let mut places = [0u32; 256];
     let parsed = packet::parse(kind, book, dwords, &mut places[..256]);
     match parsed {
-        Answer::Packet(_) => type_in(book, dwords, &places[..dwords.len()]),
-        Answer::Refused(number) => TypeAnswer::Refused(number),
+        Ok(_) => type_in(book, dwords, &places[..dwords.len()]),
+        Err(number) => Err(number),
     }
 }
 
@@ -263,46 +216,46 @@ pub fn packet_type_name<'a, 'b>(kind: u8, book: &'b [u8], dwords: &'a [u32]) -> 
     ensures { TypeNamePart kind book.entry dwords.now result }
 {
     let told = packet_type(kind, book, dwords);
-    let TypeAnswer::Is(named) = told else {
+    let Ok(Some(named)) = told else {
         return &book[..0];
     };
     name_in(book, named.name.at)
 }
 
 // The field at an offset.
-pub fn field_by_offset(kind: u8, book: &[u8], dwords: &[u32], offset: u16) -> FieldAnswer
+pub fn field_by_offset(kind: u8, book: &[u8], dwords: &[u32], offset: u16) -> Result<Option<Field>, Refusal>
     ensures { field_told result ≡ field_by_offset kind book.now dwords.now offset }
 {
     let mut places = [0u32; 256];
     let parsed = packet::parse(kind, book, dwords, &mut places[..256]);
     match parsed {
-        Answer::Packet(_) => field_at(kind, book, dwords, &places[..dwords.len()], offset),
-        Answer::Refused(number) => FieldAnswer::Refused(number),
+        Ok(_) => field_at(kind, book, dwords, &places[..dwords.len()], offset),
+        Err(number) => Err(number),
     }
 }
 
 // The first field of that name.
-pub fn field_by_name(kind: u8, book: &[u8], dwords: &[u32], name: &[u8]) -> FieldAnswer
+pub fn field_by_name(kind: u8, book: &[u8], dwords: &[u32], name: &[u8]) -> Result<Option<Field>, Refusal>
     ensures { field_told result ≡ field_by kind book.now dwords.now Ask.Named name.now }
 {
     field_asked(Ask::Named, kind, book, dwords, name)
 }
 
 // The first field with a bit range of that name.
-pub fn field_by_bitfield_name(kind: u8, book: &[u8], dwords: &[u32], name: &[u8]) -> FieldAnswer
+pub fn field_by_bitfield_name(kind: u8, book: &[u8], dwords: &[u32], name: &[u8]) -> Result<Option<Field>, Refusal>
     ensures { field_told result ≡ field_by kind book.now dwords.now Ask.Holds name.now }
 {
     field_asked(Ask::Holds, kind, book, dwords, name)
 }
 
 // The first field as asked.
-fn field_asked(ask: Ask, kind: u8, book: &[u8], dwords: &[u32], name: &[u8]) -> FieldAnswer
+fn field_asked(ask: Ask, kind: u8, book: &[u8], dwords: &[u32], name: &[u8]) -> Result<Option<Field>, Refusal>
     ensures { field_told result ≡ field_by kind book.now dwords.now ask name.now }
 {
     let mut places = [0u32; 256];
     let parsed = packet::parse(kind, book, dwords, &mut places[..256]);
     match parsed {
-        Answer::Packet(_) => field_with(ask, kind, book, name, dwords, &places[..dwords.len()]),
-        Answer::Refused(number) => FieldAnswer::Refused(number),
+        Ok(_) => field_with(ask, kind, book, name, dwords, &places[..dwords.len()]),
+        Err(number) => Err(number),
     }
 }

@@ -1,26 +1,25 @@
 -- The reasons beside the entry: the number that a key says is the number its field was read from, and the numbers that the pieces say, in order,
 -- are the dwords; and strict refuses the pieces exactly where one of them says none. Assumes nothing.
+use Rattle.std.specs.Prelude.{Err, None, Ok, Option, Result, Some}
+use Rattle.text.specs.declared.number.BadNumber.{BadNumber}
+use Rattle.text.specs.declared.number.BadNumber.TheVariants as BadNumber
 use Prim.Native.Nat.{ℕ, suc, ◌+◌, ◌-◌, ◌^◌, ◌≤◌, ◌<◌}
 use mathlib.Core.Path.{◌≡◌, refl, sym, ap, ◌∙◌}
 use mathlib.Core.List.{List, [], ◌∷◌, ◌++◌, append_assoc}
 use mathlib.Core.Logic.{◌↔◌}
-use mathlib.Core.Option.{Option, some, none}
 use native.Mathlib.Omega.{arith}
 use lib.ListN.{length, take, drop, get_or, length-append}
 use lib.Seq.{split_at, length-take-le}
 use Rattle.text.specs.Told.{Told, is, absent, refused}
-use Rattle.text.specs.Number.{Means, number_value, read_value, hex_number_of}
+use Rattle.text.specs.Number.{Means, hex_number_of}
+use Rattle.std.specs.Result.{result_ok}
 use Rattle.text.specs.Quote.{bytes}
-use Rattle.text.specs.declared.number.Number as NumberModule
-use Rattle.text.specs.declared.number.Number.TheVariants as N
 use Rattle.text.proofs.Hexes.{hex_is, one_meaning}
-use Rattle.text.specs.declared.number.Reading.{Reading}
-use Rattle.text.specs.declared.number.Reading.TheVariants as R
 use Rattle.entry.specs.Entry.{EntryValue}
 use Rattle.pairs.specs.declared.pair.Span.{Span}
 use Rattle.pairs.specs.declared.pair.Span.TheVariants.{At, Nothing}
 use Rattle.pairs.specs.Pair.{part, last_pair, hex_at}
-use Rattle.pairs.specs.Data.{NoDword, Data, PieceIn, joined, cut, piece_by, piece_of, taken, dwords_in, nth_piece}
+use Rattle.pairs.specs.Data.{NoDword, Data, PieceIn, joined, cut, piece_of, taken, dwords_in, nth_piece}
 use Rattle.pairs.proofs.LastPairs.{hex_some, hex_none}
 use Rattle.pairs.proofs.Cuts.{cut_all}
 use Rattle.pairs.proofs.Slots.{dwords_in_all}
@@ -47,36 +46,32 @@ use Rattle.reasons.proofs.Told.{start_at, last_colon, split_here, own_place, few
 
 -- ---- the number that is told
 
-number_there : (told : Told HexText) {n : ℕ} → number_told told ≡ some n → SaysNumber told n
-unfolding number_value read_value
+number_there : (told : Told HexText) {n : ℕ} → number_told told ≡ Some n → SaysNumber told n
 number_there (is said) {n} q = go said.reading refl q
   where
-    go : (r : Reading) → said.reading ≡ r → number_value (read_value r) ≡ some n → SaysNumber (is said) n
-    go (R.Value v) e q = record { said = said; found = refl; reads = e ∙ ap R.Value (let same : v ≡ n = cc in same) }
-    go R.Empty e q = absurd (let z : ◌≡◌ {A = ℕ} 0 1 = cc in omega arith)
-    go (R.BadDigit k) e q = absurd (let z : ◌≡◌ {A = ℕ} 0 1 = cc in omega arith)
-    go R.TooWide e q = absurd (let z : ◌≡◌ {A = ℕ} 0 1 = cc in omega arith)
+    go : (r : Result ℕ BadNumber) → said.reading ≡ r → (result_ok r) ≡ Some n → SaysNumber (is said) n
+    go (Ok v) e q = record { said = said; found = refl; reads = e ∙ ap Ok (let same : v ≡ n = cc in same) }
+    go (Err BadNumber.Empty) e q = absurd (let z : ◌≡◌ {A = ℕ} 0 1 = cc in omega arith)
+    go (Err (BadNumber.BadDigit k)) e q = absurd (let z : ◌≡◌ {A = ℕ} 0 1 = cc in omega arith)
+    go (Err BadNumber.TooWide) e q = absurd (let z : ◌≡◌ {A = ℕ} 0 1 = cc in omega arith)
 number_there absent q = absurd (let z : ◌≡◌ {A = ℕ} 0 1 = cc in omega arith)
 number_there (refused k) q = absurd (let z : ◌≡◌ {A = ℕ} 0 1 = cc in omega arith)
 
-there_number : (told : Told HexText) {n : ℕ} → SaysNumber told n → number_told told ≡ some n
-unfolding number_value read_value
+there_number : (told : Told HexText) {n : ℕ} → SaysNumber told n → number_told told ≡ Some n
 there_number told r = rw (r.found, r.reads)
 
-none_there : (told : Told HexText) → ((k : ℕ) → told ≡ refused k → ⊥) → number_told told ≡ none → NoNumber told
-unfolding number_value read_value
+none_there : (told : Told HexText) → ((k : ℕ) → told ≡ refused k → ⊥) → number_told told ≡ None → NoNumber told
 none_there (is said) never q = go said.reading refl q
   where
-    go : (r : Reading) → said.reading ≡ r → number_value (read_value r) ≡ none → NoNumber (is said)
-    go (R.Value v) e q = absurd (let z : ◌≡◌ {A = ℕ} 0 1 = cc in omega arith)
-    go R.Empty e q = NoNumber.empty e
-    go (R.BadDigit k) e q = NoNumber.bad k e
-    go R.TooWide e q = NoNumber.wide e
+    go : (r : Result ℕ BadNumber) → said.reading ≡ r → (result_ok r) ≡ None → NoNumber (is said)
+    go (Ok v) e q = absurd (let z : ◌≡◌ {A = ℕ} 0 1 = cc in omega arith)
+    go (Err BadNumber.Empty) e q = NoNumber.empty e
+    go (Err (BadNumber.BadDigit k)) e q = NoNumber.bad k e
+    go (Err BadNumber.TooWide) e q = NoNumber.wide e
 none_there absent never q = NoNumber.missing
 none_there (refused k) never q = absurd (never k refl)
 
-there_none : {told : Told HexText} → NoNumber told → number_told told ≡ none
-unfolding number_value read_value
+there_none : {told : Told HexText} → NoNumber told → number_told told ≡ None
 there_none NoNumber.missing = refl
 there_none (NoNumber.empty e) = rw e
 there_none (NoNumber.bad k e) = rw e
@@ -93,14 +88,14 @@ module _ (t : List ℕ) {colon : ℕ} (f : frame_of t ≡ is colon) (key : Key) 
   key_never k q = (key_answers key).never (payload_of t colon) (start_at t colon) k (sym key_asks ∙ q)
 
   -- what is told is the number that the entry's reader has
-  key_number : number_told (key_answer t key) ≡ number_value (hex_at (payload_of t colon) (name_of key) (limit_of key))
-  unfolding key_in said_at number_value
+  key_number : number_told (key_answer t key) ≡ (hex_at (payload_of t colon) (name_of key) (limit_of key))
+  unfolding key_in said_at
   key_number = rw key_asks (go (last_pair (payload_of t colon) (name_of key)) refl)
     where
       go : (s : Span) → last_pair (payload_of t colon) (name_of key) ≡ s
-          → number_told (said_at (limit_of key) (start_at t colon) (payload_of t colon) s) ≡ number_value (hex_at (payload_of t colon) (name_of key) (limit_of key))
-      go (At a b) e = ap number_value (hex_some (payload_of t colon) (name_of key) (limit_of key) e)
-      go Nothing e = ap number_value (hex_none (payload_of t colon) (name_of key) (limit_of key) e)
+          → number_told (said_at (limit_of key) (start_at t colon) (payload_of t colon) s) ≡ (hex_at (payload_of t colon) (name_of key) (limit_of key))
+      go (At a b) e = ap (hex_some (payload_of t colon) (name_of key) (limit_of key) e)
+      go Nothing e = ap (hex_none (payload_of t colon) (name_of key) (limit_of key) e)
 
 -- an accepted line is parted
 line_framed : (pieces : Pieces) (t : List ℕ) {v : EntryValue} → Line pieces t v → (colon : ℕ) × (frame_of t ≡ is colon)
@@ -129,11 +124,11 @@ number_of_field pieces t {v} l key =
     ∙ one_optional (KeyHex (payload_of t w.0) (name_of key) (limit_of key)) (λ x y. one_key_hex (payload_of t w.0) (name_of key) (limit_of key)) _ (field_of key v)
     (optional_hex (payload_of t w.0) (name_of key) (limit_of key)) (rw (← same) (line_field l key))
 
-pub number_exactly : (pieces : Pieces) (t : List ℕ) {v : EntryValue} → Line pieces t v → (key : Key) (n : ℕ) → SaysNumber (key_answer t key) n ↔ (field_of key v ≡ some n)
+pub number_exactly : (pieces : Pieces) (t : List ℕ) {v : EntryValue} → Line pieces t v → (key : Key) (n : ℕ) → SaysNumber (key_answer t key) n ↔ (field_of key v ≡ Some n)
 number_exactly pieces t l key n =
     (λ r. sym (number_of_field pieces t l key) ∙ there_number (key_answer t key) r, λ e. number_there (key_answer t key) (number_of_field pieces t l key ∙ e))
 
-pub none_exactly : (pieces : Pieces) (t : List ℕ) {v : EntryValue} → Line pieces t v → (key : Key) → NoNumber (key_answer t key) ↔ (field_of key v ≡ none)
+pub none_exactly : (pieces : Pieces) (t : List ℕ) {v : EntryValue} → Line pieces t v → (key : Key) → NoNumber (key_answer t key) ↔ (field_of key v ≡ None)
 none_exactly pieces t l key = (
   λ r. sym (number_of_field pieces t l key) ∙ there_none r,
   λ e. none_there (key_answer t key) (key_never t (line_framed pieces t l).1 key) (number_of_field pieces t l key ∙ e),
@@ -145,11 +140,11 @@ pub no_route : (pieces : Pieces) (t : List ℕ) (room : ℕ) → Applies pieces 
 unfolding Condition
 no_route pieces t room r = go (frame_of t) refl (framed t)
   where
-    none_read : {colon : ℕ} → frame_of t ≡ is colon → (o : Option ℕ) → number_told (key_answer t K.Route) ≡ o → o ≡ none
-    none_read {colon} f none e = refl
-    none_read {colon} f (some v) e = absurd (route-missing f v (sym (key_number t f K.Route) ∙ e))
+    none_read : {colon : ℕ} → frame_of t ≡ is colon → (o : Option ℕ) → number_told (key_answer t K.Route) ≡ o → o ≡ None
+    none_read {colon} f None e = refl
+    none_read {colon} f (Some v) e = absurd (route-missing f v (sym (key_number t f K.Route) ∙ e))
       where
-        route-missing : frame_of t ≡ is colon → (v : ℕ) → number_value (hex_at (payload_of t colon) (bytes "route") (2 ^ 64 - 1)) ≡ some v → ⊥
+        route-missing : frame_of t ≡ is colon → (v : ℕ) → (hex_at (payload_of t colon) (bytes "route") (2 ^ 64 - 1)) ≡ Some v → ⊥
         route-missing f v e = r.holds _ _ (split_here t f) v (key_hex_is (payload_of t colon) (bytes "route") (2 ^ 64 - 1) (number_tells _ e))
 
     go : (x : Told ℕ) → frame_of t ≡ x → Framed x → NoNumber (key_answer t K.Route)
@@ -159,10 +154,10 @@ no_route pieces t room r = go (frame_of t) refl (framed t)
 -- ---- the pieces, in order
 
 -- a number in front is what a piece adds
-kept_taken : (n : NumberModule.Number) (ds : List ℕ) → kept (number_value n) ds ≡ taken (piece_by n) ds
-unfolding number_value piece_by taken
-kept_taken (N.Value v) ds = refl
-kept_taken N.Unreadable ds = refl
+kept_taken : (n : Option ℕ) (ds : List ℕ) → kept (n) ds ≡ taken (n) ds
+unfolding taken
+kept_taken (Some v) ds = refl
+kept_taken None ds = refl
 
 module _ (t : List ℕ) {colon : ℕ} (f : frame_of t ≡ is colon) {c d : ℕ} (found : data_span (payload_of t colon) ≡ At c d) where
   inner : List ℕ
@@ -174,7 +169,7 @@ module _ (t : List ℕ) {colon : ℕ} (f : frame_of t ≡ is colon) {c d : ℕ} 
 
   -- a piece that is there is told of, with its number
   piece_told : (before after : List (List ℕ)) (piece : List ℕ) → cut inner ≡ before ++ (piece ∷ after)
-      → (said : HexText) × (piece_answer t (length before) ≡ is said) × (number_told (piece_answer t (length before)) ≡ number_value (hex_number_of (2 ^ 32 - 1) piece))
+      → (said : HexText) × (piece_answer t (length before) ≡ is said) × (number_told (piece_answer t (length before)) ≡ (hex_number_of (2 ^ 32 - 1) piece))
   unfolding said_at
   piece_told before after piece e =
       let here : PieceIn (cut inner) (length before) piece (length (joined before)) (length (joined before) + length piece) =
@@ -184,7 +179,7 @@ module _ (t : List ℕ) {colon : ℕ} (f : frame_of t ≡ is colon) {c d : ℕ} 
       let same : part inner (length (joined before)) (length (joined before) + length piece) ≡ piece = one_piece (nth_is inner (length before) n) here in (
         _,
         told,
-        ap number_told told ∙ ap (λ (x : List ℕ). number_value (hex_number_of (2 ^ 32 - 1) x)) same,
+        ap number_told told ∙ ap (λ (x : List ℕ). (hex_number_of (2 ^ 32 - 1) x)) same,
       )
 
   numbers_are : (before after : List (List ℕ)) → cut inner ≡ before ++ after → piece_numbers t (length after) (length before) ≡ dwords_in after
@@ -195,7 +190,7 @@ module _ (t : List ℕ) {colon : ℕ} (f : frame_of t ≡ is colon) {c d : ℕ} 
       let next : length (before ++ (piece ∷ [])) ≡ suc (length before) = omega (arith, length-append before (piece ∷ [])) in
       let rest : cut inner ≡ (before ++ (piece ∷ [])) ++ after = e ∙ sym (append_assoc before (piece ∷ []) after) in
       ap (λ (o : Option ℕ). kept o (piece_numbers t (length after) (suc (length before)))) w.2
-      ∙ ap (kept (number_value (hex_number_of (2 ^ 32 - 1) piece))) (ap (piece_numbers t (length after)) (sym next) ∙ numbers_are (before ++ (piece ∷ [])) after rest)
+      ∙ ap (kept (hex_number_of (2 ^ 32 - 1) piece)) (ap (piece_numbers t (length after)) (sym next) ∙ numbers_are (before ++ (piece ∷ [])) after rest)
       ∙ kept_taken (hex_number_of (2 ^ 32 - 1) piece) (dwords_in after)
 
   told_of : (i : ℕ) → i < length (cut inner) → (said : HexText) × (piece_answer t i ≡ is said)
@@ -240,18 +235,16 @@ in_order pieces t {v} l =
 
 -- a piece that says no number is not 32-bit hex, and the other way round
 module _ (p : List ℕ) where
-  no_dword_unread : NoDword p → number_value (hex_number_of (2 ^ 32 - 1) p) ≡ none
-  unfolding number_value
+  no_dword_unread : NoDword p → (hex_number_of (2 ^ 32 - 1) p) ≡ None
   no_dword_unread n = go (hex_number_of (2 ^ 32 - 1) p) refl
     where
-      go : (h : NumberModule.Number) → hex_number_of (2 ^ 32 - 1) p ≡ h → number_value h ≡ none
-      go (N.Value v) e = absurd (n v (hex_is (2 ^ 32 - 1) e))
-      go N.Unreadable e = refl
+      go : (h : Option ℕ) → hex_number_of (2 ^ 32 - 1) p ≡ h → h ≡ None
+      go (Some v) e = absurd (n v (hex_is (2 ^ 32 - 1) e))
+      go None e = refl
 
-  unread_no_dword : (r : Reading) → Means (2 ^ 32 - 1) p r → number_value (read_value r) ≡ none → NoDword p
-  unfolding number_value read_value
+  unread_no_dword : (r : Result ℕ BadNumber) → Means (2 ^ 32 - 1) p r → (result_ok r) ≡ None → NoDword p
   unread_no_dword r m e v n =
-      let same : r ≡ R.Value v = one_meaning (2 ^ 32 - 1) p r (R.Value v) m n in
+      let same : r ≡ Ok v = one_meaning (2 ^ 32 - 1) p r (Ok v) m n in
       let z : ◌≡◌ {A = ℕ} 0 1 = cc in
       omega arith
 
@@ -279,7 +272,7 @@ module _ (t : List ℕ) where
       let all : cut (part (payload_of t colon) (value.from + 1) (value.from + (length held.inner + 1))) ≡ b.piece.before ++ (b.piece.piece ∷ b.piece.after) =
       ap cut (inner_is (payload_of t colon) value.last held) ∙ cut_all held.cut_at ∙ b.piece.are in
       let w = piece_told t f found b.piece.before b.piece.after b.piece.piece all in
-      let none_told : number_told (is w.0) ≡ none = ap number_told (sym w.1) ∙ w.2 ∙ no_dword_unread b.piece.piece b.piece.bad in
+      let none_told : number_told (is w.0) ≡ None = ap number_told (sym w.1) ∙ w.2 ∙ no_dword_unread b.piece.piece b.piece.bad in
       record {
         which = length b.piece.before;
         said = w.0;

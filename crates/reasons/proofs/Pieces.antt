@@ -1,9 +1,9 @@
 -- Pieces: the brackets of the last `data` are found where they stand, and the walk through what is in them comes to the piece of that number.
 -- Assumes nothing.
+use Rattle.std.specs.Prelude.{Some}
 use Prim.Native.Nat.{ℕ, ◌+◌, ◌-◌, ◌^◌, ◌≤◌}
 use mathlib.Core.Path.{◌≡◌, refl, sym, ap, ◌∙◌}
 use mathlib.Core.List.{List, [], ◌∷◌, ◌++◌}
-use mathlib.Core.Option.{some}
 use native.Mathlib.Omega.{arith}
 use lib.ListN.{length, drop, length-drop}
 use lib.Seq.{length-take-le}
@@ -82,7 +82,7 @@ module _ (p : List ℕ) where
             within = omega (arith, high, inner_within last held);
           }
         where
-          data_there : inside_of (part p a b) ≡ At x y → data_of (part p a b) ≡ some (dwords_of (part (part p a b) x y))
+          data_there : inside_of (part p a b) ≡ At x y → data_of (part p a b) ≡ Some (dwords_of (part (part p a b) x y))
           data_there i = ap (data_in (part p a b)) i
 
           data-found-by : last_pair p (bytes "data") ≡ At a b → inside_of (part p a b) ≡ At x y → At (a + x) (a + y) ≡ data_span p

@@ -1,5 +1,7 @@
 -- Spans and what they say: a span that was found lies in its text, so it has a place in the line, and each call's answer is the definition's
 -- by the case it took. Assumes nothing.
+use Rattle.std.specs.Prelude.{Err, Ok, Result}
+use Rattle.text.specs.declared.number.BadNumber.{BadNumber}
 use Prim.Native.Nat.{ℕ, ◌+◌, ◌-◌, ◌^◌, ◌≤◌, ◌<◌}
 use mathlib.Core.Path.{◌≡◌, refl, sym}
 use mathlib.Core.List.{List}
@@ -11,7 +13,6 @@ use Rattle.text.specs.Number.{hex_of}
 use Rattle.text.specs.Quote.{bytes}
 use Rattle.text.specs.Run.{run_end, stripped}
 use Rattle.text.proofs.Stripping.{strip_size}
-use Rattle.text.specs.declared.number.Reading.{Reading}
 use Rattle.pairs.specs.declared.pair.Span.{Span}
 use Rattle.pairs.specs.declared.pair.Span.TheVariants.{At, Nothing}
 use Rattle.pairs.specs.Pair.{part, last_pair, ValueAt}
@@ -19,7 +20,6 @@ use Rattle.pairs.specs.Data.{Bracketed, NthPiece}
 use Rattle.scan.specs.Frame.{frame_of}
 use Rattle.reasons.specs.declared.Key.{Key}
 use Rattle.reasons.specs.declared.payload.Place.{Place}
-use Rattle.reasons.specs.declared.payload.Payload.TheVariants as P
 use Rattle.reasons.specs.Reasons.{name_of, limit_of, payload_from, payload_place, said_at, moved, brackets_at, data_span, piece_at, key_in, piece_in, key_answer, piece_answer, SpanWithin, PlacedAt, PayloadAt, DataAt}
 
 -- ---- spans within their text
@@ -30,7 +30,7 @@ pair_within v a b q = let w = v.within a b q in (omega (arith, w.0), w.1)
 -- ---- what a span says
 
 module _ (limit start : ℕ) (s : List ℕ) where
-  pub said_some : {span : Span} {a b : ℕ} → span ≡ At a b → {r : Reading} → r ≡ hex_of limit (part s a b)
+  pub said_some : {span : Span} {a b : ℕ} → span ≡ At a b → {r : Result ℕ BadNumber} → r ≡ hex_of limit (part s a b)
       → is (record { from = start + a; to = start + b; reading = r }) ≡ said_at limit start s span
   unfolding said_at
   said_some e q = rw (e, q)
@@ -99,12 +99,12 @@ module _ (t : List ℕ) {colon : ℕ} where
       fits : colon < length t → blanks ≡ run_end is_blank (drop (colon + 1) t) 0 → payload ≡ stripped (drop (colon + 1) t) → colon + 1 + (blanks + length payload) ≤ length t
       fits h b p = rw (b, p) (omega (arith, strip_size (drop (colon + 1) t), length-drop (colon + 1) t))
 
-  pub payload_there : {place : Place} → frame_of t ≡ is colon → PlacedAt t colon place → PayloadAt t (P.At place)
+  pub payload_there : {place : Place} → frame_of t ≡ is colon → PlacedAt t colon place → PayloadAt t (Ok place)
   unfolding payload_place
   payload_there {place} f p =
       record { is = rw (f, p.is); within = λ other e. let q : place ≡ other = cc in rw (← q) (p.up, p.within) }
 
-pub payload_refused : (t : List ℕ) {k : ℕ} → frame_of t ≡ refused k → PayloadAt t (P.Refused k)
+pub payload_refused : (t : List ℕ) {k : ℕ} → frame_of t ≡ refused k → PayloadAt t (Err k)
 unfolding payload_place
 payload_refused t f =
     record { is = rw f; within = λ place e. absurd (let z : ◌≡◌ {A = ℕ} 0 1 = cc in omega arith) }
@@ -112,18 +112,18 @@ payload_refused t f =
 -- ---- the whole line
 
 module _ (t : List ℕ) where
-  pub key_there : {place : Place} (key : Key) → PayloadAt t (P.At place) → key_in (part t place.from place.to) place.from key ≡ key_answer t key
+  pub key_there : {place : Place} (key : Key) → PayloadAt t (Ok place) → key_in (part t place.from place.to) place.from key ≡ key_answer t key
   unfolding key_answer
   key_there key p = rw (← p.is)
 
-  pub key_refused : {k : ℕ} (key : Key) → PayloadAt t (P.Refused k) → refused k ≡ key_answer t key
+  pub key_refused : {k : ℕ} (key : Key) → PayloadAt t (Err k) → refused k ≡ key_answer t key
   unfolding key_answer
   key_refused key p = rw (← p.is)
 
-  pub piece_there : {place : Place} (i : ℕ) → PayloadAt t (P.At place) → piece_in (part t place.from place.to) place.from i ≡ piece_answer t i
+  pub piece_there : {place : Place} (i : ℕ) → PayloadAt t (Ok place) → piece_in (part t place.from place.to) place.from i ≡ piece_answer t i
   unfolding piece_answer
   piece_there i p = rw (← p.is)
 
-  pub piece_refused : {k : ℕ} (i : ℕ) → PayloadAt t (P.Refused k) → refused k ≡ piece_answer t i
+  pub piece_refused : {k : ℕ} (i : ℕ) → PayloadAt t (Err k) → refused k ≡ piece_answer t i
   unfolding piece_answer
   piece_refused i p = rw (← p.is)

@@ -1,5 +1,7 @@
 -- Spots of a payload: a part of a part is a part, so a text that stands in the payload stands in the line; and the last pair of a key is at the
 -- one spot that the answer gives. Assumes nothing.
+use Rattle.std.specs.Prelude.{Result}
+use Rattle.text.specs.declared.number.BadNumber.{BadNumber}
 use Prim.Native.Nat.{ℕ, ◌+◌, ◌-◌, ◌≤◌, ◌<◌}
 use mathlib.Core.Path.{◌≡◌, refl, sym, ap, ◌∙◌}
 use mathlib.Core.List.{List}
@@ -9,7 +11,6 @@ use lib.Seq.{drop-drop, take-take}
 use Rattle.tlv.proofs.Places.{drop_take}
 use Rattle.text.specs.Told.{Told, is, absent, refused}
 use Rattle.text.specs.Number.{Means, hex_of}
-use Rattle.text.specs.declared.number.Reading.{Reading}
 use Rattle.text.proofs.Hexes.{hex_means, means_all}
 use Rattle.pairs.specs.declared.pair.Span.{Span}
 use Rattle.pairs.specs.declared.pair.Span.TheVariants.{At, Nothing}
@@ -61,7 +62,7 @@ pub record Answers (At : Spot) (limit : ℕ) (tell : List ℕ → ℕ → Told H
   pub stands : (p text : List ℕ) (a b : ℕ) → At p text a b → Stands p text a b
 
 -- two texts of one place and reading are one
-pub one_text : {a b : ℕ} {r : Reading} (said : HexText) → a ≡ said.from → b ≡ said.to → r ≡ said.reading → record { from = a; to = b; reading = r } ≡ said
+pub one_text : {a b : ℕ} {r : Result ℕ BadNumber} (said : HexText) → a ≡ said.from → b ≡ said.to → r ≡ said.reading → record { from = a; to = b; reading = r } ≡ said
 one_text said x y z = rw (x, y, z)
 
 pub told_same : {x y : HexText} → is x ≡ is y → x ≡ y

@@ -1,5 +1,6 @@
 -- What is told of a line is what it means: the frame parts the line at one colon or gives one of 1 to 4, the payload behind the colon is a part of
 -- the line, and what is told of the payload is what is there. One argument for keys and pieces. Assumes nothing.
+use Rattle.std.specs.Prelude.{None, Some}
 use Prim.Native.Nat.{ℕ, zero, suc, ◌+◌, ◌-◌, ◌≤◌, ◌<◌}
 use mathlib.Core.Path.{◌≡◌, refl, sym, ap, ◌∙◌}
 use mathlib.Core.Bool.{Bool, true, false, cond}
@@ -13,7 +14,6 @@ use lib.Seq.{drop-drop, drop-append-add}
 use Rattle.text.specs.Told.{Told, is, absent, refused, and_then}
 use Rattle.text.specs.Class.{is_blank}
 use Rattle.text.specs.Run.{run_end, run_start, stripped}
-use Rattle.text.specs.declared.place.Found.TheVariants as P
 use Rattle.text.specs.Place.{last_byte}
 use Rattle.text.proofs.Stripping.{front_size}
 use Rattle.pairs.specs.Pair.{part}
@@ -50,7 +50,7 @@ payload_is_part t colon =
     ∙ take_front (run_start is_blank (drop (run_end is_blank (drop (colon + 1) t) 0) (drop (colon + 1) t))) (drop (run_end is_blank (drop (colon + 1) t) 0) (drop (colon + 1) t)))
 
 module _ (t : List ℕ) {colon : ℕ} (f : frame_of t ≡ is colon) where
-  pub last_colon : last_byte 58 t ≡ P.At colon
+  pub last_colon : last_byte 58 t ≡ Some colon
   last_colon = (frame_passed t f).3
 
   pub split_here : Split t (header_of t colon) (payload_of t colon)
@@ -65,7 +65,7 @@ module _ (t : List ℕ) {colon : ℕ} (f : frame_of t ≡ is colon) where
       let rest : drop (colon + 1) t ≡ s.after = rw (← same, s.whole) (drop-append-add s.before (58 ∷ s.after) 1) in
       rw (same, blanks, rest)
     where
-      place_same : {m n : ℕ} → P.At m ≡ P.At n → m ≡ n
+      place_same : {m n : ℕ} → Some m ≡ Some n → m ≡ n
       place_same e = cc
 
 -- ---- the numbers in their order

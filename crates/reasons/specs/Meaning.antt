@@ -1,11 +1,12 @@
 -- What each answer means, without a search: which text of the payload is asked for, where it stands in the line, and what it reads as.
-use Rattle.std.specs.Prelude.{ℕ, zero, suc, ◌+◌, ◌-◌, ◌^◌, ◌≤◌, ◌<◌, ◌≡◌, ◌↔◌, List, [], ◌∷◌, length}
-use Rattle.std.proofs.Math.Option.{Option, some, none}
+use Rattle.refusal.specs.declared.Refusal.{Refusal}
+use Rattle.text.specs.declared.number.BadNumber.{BadNumber}
+use Rattle.text.specs.declared.number.BadNumber.TheVariants as BadNumber
+use Rattle.std.specs.Prelude.{ℕ, zero, suc, ◌+◌, ◌-◌, ◌^◌, ◌≤◌, ◌<◌, ◌≡◌, ◌↔◌, List, [], ◌∷◌, length, Err, None, Ok, Option, Result, Some}
 use Rattle.text.specs.Told.{Told, is, absent, refused}
-use Rattle.text.specs.Number.{Means, hex_of, number_value, read_value}
+use Rattle.text.specs.Number.{Means, hex_of}
+use Rattle.std.specs.Result.{result_ok}
 use Rattle.text.specs.Quote.{bytes}
-use Rattle.text.specs.declared.number.Reading.{Reading}
-use Rattle.text.specs.declared.number.Reading.TheVariants as R
 use Rattle.entry.specs.Entry.{EntryValue}
 use Rattle.pairs.specs.Pair.{part, LastPair}
 use Rattle.pairs.specs.Data.{Data, PieceIn}
@@ -16,7 +17,6 @@ use Rattle.scan.specs.Line.{Line, Condition, Applies}
 use Rattle.reasons.specs.declared.Key.{Key}
 use Rattle.reasons.specs.declared.Key.TheVariants as K
 use Rattle.reasons.specs.declared.HexText.{HexText}
-use Rattle.reasons.specs.declared.Answer.{Answer}
 use Rattle.reasons.specs.Reasons.{name_of, limit_of, answer_told, key_answer, piece_answer}
 
 -- a text of the payload, from a place of it up to another
@@ -78,26 +78,26 @@ Tells At limit t (refused k) = (k ≤ 4) × Applies Strict t 0 k
 
 -- the number that is told: none where the text is absent, for each reason, and where the line has no payload
 abbrev pub number_told : Told HexText → Option ℕ
-number_told (is said) = number_value (read_value said.reading)
-number_told absent = none
-number_told (refused k) = none
+number_told (is said) = (result_ok said.reading)
+number_told absent = None
+number_told (refused k) = None
 
 -- absent, or one of the three reasons
 pub data NoNumber : Told HexText → Type 0 where
   missing : NoNumber absent
-  empty : {said : HexText} → said.reading ≡ R.Empty → NoNumber (is said)
-  bad : {said : HexText} (place : ℕ) → said.reading ≡ R.BadDigit place → NoNumber (is said)
-  wide : {said : HexText} → said.reading ≡ R.TooWide → NoNumber (is said)
+  empty : {said : HexText} → said.reading ≡ (Err BadNumber.Empty) → NoNumber (is said)
+  bad : {said : HexText} (place : ℕ) → said.reading ≡ Err (BadNumber.BadDigit place) → NoNumber (is said)
+  wide : {said : HexText} → said.reading ≡ (Err BadNumber.TooWide) → NoNumber (is said)
 
 -- a number
 pub record SaysNumber (told : Told HexText) (v : ℕ) : Type 0 where
   pub said : HexText
   pub found : told ≡ is said
-  pub reads : said.reading ≡ R.Value v
+  pub reads : said.reading ≡ Ok v
 
 -- the entry's field of a key: the route is always there
 abbrev pub field_of : Key → EntryValue → Option ℕ
-field_of K.Route v = some v.route
+field_of K.Route v = Some v.route
 field_of K.Offset v = v.offset
 field_of K.Error v = v.code
 field_of K.Config v = v.config
@@ -105,8 +105,8 @@ field_of K.Unplug v = v.unplug
 
 -- a number in front, where there is one
 abbrev pub kept : Option ℕ → List ℕ → List ℕ
-kept (some v) ds = v ∷ ds
-kept none ds = ds
+kept (Some v) ds = v ∷ ds
+kept None ds = ds
 
 -- the numbers that n pieces from the i-th on say, in order
 unfoldable pub piece_numbers : List ℕ → ℕ → ℕ → List ℕ
@@ -132,20 +132,20 @@ pub record PieceWithout (t : List ℕ) : Type 0 where
 -- `Answer` is what the calls `ask_key` and `ask_piece` hand out; their contracts are `answer_told r ≡ key_answer t key` and `≡ piece_answer t i`
 pub record WhyUnreadable : Type 0 where
   -- of every text and within every limit exactly one case holds, and it is the hex reader's answer
-  pub hex_exactly : (limit : ℕ) (s : List ℕ) (r : Reading) → (hex_of limit s ≡ r) ↔ Means limit s r
-  pub one_case : (limit : ℕ) (s : List ℕ) (r q : Reading) → Means limit s r → Means limit s q → r ≡ q
+  pub hex_exactly : (limit : ℕ) (s : List ℕ) (r : Result ℕ BadNumber) → (hex_of limit s ≡ r) ↔ Means limit s r
+  pub one_case : (limit : ℕ) (s : List ℕ) (r q : Result ℕ BadNumber) → Means limit s r → Means limit s q → r ≡ q
   -- for every line and hex key the answer is what it means, and what is meant is the answer
   pub key_exactly : (t : List ℕ) (key : Key) (told : Told HexText) → (key_answer t key ≡ told) ↔ Tells (KeyAt key) (limit_of key) t told
   -- likewise for every line and number of a piece
   pub piece_exactly : (t : List ℕ) (i : ℕ) (told : Told HexText) → (piece_answer t i ≡ told) ↔ Tells (PieceAt i) (2 ^ 32 - 1) t told
   -- of a line that either choice accepts a key says a number exactly when the entry's field is that number
-  pub number_exactly : (pieces : Pieces) (t : List ℕ) {v : EntryValue} → Line pieces t v → (key : Key) (n : ℕ) → SaysNumber (key_answer t key) n ↔ (field_of key v ≡ some n)
+  pub number_exactly : (pieces : Pieces) (t : List ℕ) {v : EntryValue} → Line pieces t v → (key : Key) (n : ℕ) → SaysNumber (key_answer t key) n ↔ (field_of key v ≡ Some n)
   -- and it is absent or gives a reason exactly when the field is none
-  pub none_exactly : (pieces : Pieces) (t : List ℕ) {v : EntryValue} → Line pieces t v → (key : Key) → NoNumber (key_answer t key) ↔ (field_of key v ≡ none)
+  pub none_exactly : (pieces : Pieces) (t : List ℕ) {v : EntryValue} → Line pieces t v → (key : Key) → NoNumber (key_answer t key) ↔ (field_of key v ≡ None)
   -- of a line refused with 14 the route is absent or gives a reason
   pub no_route : (pieces : Pieces) (t : List ℕ) (room : ℕ) → Applies pieces t room 14 → NoNumber (key_answer t K.Route)
   -- no second answer meets either contract
-  pub one_answer : (a b : Answer) → answer_told a ≡ answer_told b → a ≡ b
+  pub one_answer : (a b : Result (Option HexText) Refusal) → answer_told a ≡ answer_told b → a ≡ b
   -- the dwords of an accepted line are the numbers that its pieces say, in order
   pub in_order : (pieces : Pieces) (t : List ℕ) {v : EntryValue} → Line pieces t v → InOrder t v.dwords
   -- strict says 18 of a line exactly when none of 1 to 15 applies and one of its pieces says no number

@@ -1,5 +1,6 @@
 -- The one answer for a line and a hex key, and for a line and a piece of its data.
-use Rattle.std.specs.Prelude.{ℕ, ◌+◌, ◌-◌, ◌^◌, ◌≤◌, ◌≡◌, List, length, drop}
+use Rattle.refusal.specs.declared.Refusal.{Refusal}
+use Rattle.std.specs.Prelude.{ℕ, ◌+◌, ◌-◌, ◌^◌, ◌≤◌, ◌≡◌, List, length, drop, Err, None, Ok, Option, Result, Some}
 use Rattle.text.specs.Told.{Told, is, absent, refused, and_then}
 use Rattle.text.specs.Class.{is_blank}
 use Rattle.text.specs.Number.{hex_of}
@@ -14,11 +15,7 @@ use Rattle.scan.specs.Parse.{payload_of}
 use Rattle.reasons.specs.declared.Key.{Key}
 use Rattle.reasons.specs.declared.Key.TheVariants as K
 use Rattle.reasons.specs.declared.HexText.{HexText}
-use Rattle.reasons.specs.declared.Answer.{Answer}
-use Rattle.reasons.specs.declared.Answer.TheVariants as A
 use Rattle.reasons.specs.declared.payload.Place.{Place}
-use Rattle.reasons.specs.declared.payload.Payload.{Payload}
-use Rattle.reasons.specs.declared.payload.Payload.TheVariants as P
 
 -- a key's name
 abbrev pub name_of : Key → List ℕ
@@ -37,10 +34,10 @@ limit_of K.Config = 2 ^ 8 - 1
 limit_of K.Unplug = 2 ^ 8 - 1
 
 -- what each case of an answer tells: the text and what it reads as; "none", where it is absent; or the number 1 to 4
-abbrev pub answer_told : Answer → Told HexText
-answer_told (A.Found text) = is text
-answer_told A.Absent = absent
-answer_told (A.Refused k) = refused k
+abbrev pub answer_told : Result (Option HexText) Refusal → Told HexText
+answer_told (Ok (Some text)) = is text
+answer_told (Ok None) = absent
+answer_told (Err k) = refused k
 
 -- where the payload of a line parted at a colon stands
 unfoldable pub payload_from : List ℕ → ℕ → Place
@@ -53,9 +50,9 @@ unfoldable pub payload_place : List ℕ → Told Place
 payload_place t = and_then (frame_of t) (λ colon. is (payload_from t colon))
 
 -- what each case of the payload's answer tells: where it stands, or the number
-abbrev pub payload_told : Payload → Told Place
-payload_told (P.At place) = is place
-payload_told (P.Refused k) = refused k
+abbrev pub payload_told : Result Place Refusal → Told Place
+payload_told (Ok place) = is place
+payload_told (Err k) = refused k
 
 -- what a span of a text that starts at a place of the line says in hex
 unfoldable pub said_at : ℕ → ℕ → List ℕ → Span → Told HexText
@@ -110,9 +107,9 @@ pub record PlacedAt (t : List ℕ) (colon : ℕ) (place : Place) : Type 0 where
   pub within : place.to ≤ length t
 
 -- an answer is the payload's place, and lies within the line
-pub record PayloadAt (t : List ℕ) (r : Payload) : Type 0 where
+pub record PayloadAt (t : List ℕ) (r : Result Place Refusal) : Type 0 where
   pub is : payload_told r ≡ payload_place t
-  pub within : (place : Place) → r ≡ P.At place → (place.from ≤ place.to) × (place.to ≤ length t)
+  pub within : (place : Place) → r ≡ Ok place → (place.from ≤ place.to) × (place.to ≤ length t)
 
 -- an answer is what stands between the brackets, and lies within the payload
 pub record DataAt (p : List ℕ) (r : Span) : Type 0 where

@@ -10,10 +10,11 @@ pub mod payload;
 ghost use Rattle.std.specs.Prelude.{◌≡◌, ◌+◌, ◌^◌, ◌<◌, length};
 ghost use Rattle.reasons.specs.Reasons.{answer_told, key_answer, piece_answer, key_in, piece_in, SpanWithin, said_at};
 
-use crate::payload::{Payload, find_data, payload_of};
+use crate::payload::{find_data, payload_of};
 use pairs::dwords::nth_piece;
 use pairs::pair::{Span, last_pair};
-use text::number::{MAX_8, MAX_16, MAX_32, MAX_64, Reading, hex};
+use text::number::{MAX_8, MAX_16, MAX_32, MAX_64, hex};
+use refusal::Refusal;
 
 // The keys of a line that are read as hex.
 #[derive(Clone, Copy)]
@@ -30,47 +31,39 @@ pub enum Key {
 pub struct HexText {
     pub from: usize,
     pub to: usize,
-    pub reading: Reading,
-}
-
-// `Refused` has the number 1 to 4 of a line that has no payload.
-#[derive(Clone, Copy)]
-pub enum Answer {
-    Found(HexText),
-    Absent,
-    Refused(u8),
+    pub reading: Result<u64, BadNumber>,
 }
 
 // The last pair of the key; absent where the payload has none.
-pub fn ask_key(line: &[u8], key: Key) -> Answer
+pub fn ask_key(line: &[u8], key: Key) -> Result<Option<HexText>, Refusal>
     ensures { answer_told result ≡ key_answer line.now key }
 {
     match payload_of(line) {
-        Payload::At(place) => {
+        Ok(place) => {
             let from = place.from;
             let to = place.to;
             key_in(&line[from..to], from, key)
         }
-        Payload::Refused(number) => Answer::Refused(number),
+        Err(number) => Err(number),
     }
 }
 
 // The piece of that number, from 0; absent behind the last piece, and where `data` is missing or not in brackets.
-pub fn ask_piece(line: &[u8], i: usize) -> Answer
+pub fn ask_piece(line: &[u8], i: usize) -> Result<Option<HexText>, Refusal>
     ensures { answer_told result ≡ piece_answer line.now i }
 {
     match payload_of(line) {
-        Payload::At(place) => {
+        Ok(place) => {
             let from = place.from;
             let to = place.to;
             piece_in(&line[from..to], from, i)
         }
-        Payload::Refused(number) => Answer::Refused(number),
+        Err(number) => Err(number),
     }
 }
 
 // Each key with its name and its width.
-pub fn key_in(payload: &[u8], start: usize, key: Key) -> Answer
+pub fn key_in(payload: &[u8], start: usize, key: Key) -> Result<Option<HexText>, Refusal>
     requires { start + length payload.now < 2 ^ 64 }
     ensures { answer_told result ≡ key_in payload.now start key }
 {
@@ -83,7 +76,7 @@ pub fn key_in(payload: &[u8], start: usize, key: Key) -> Answer
     }
 }
 
-fn piece_in(payload: &[u8], start: usize, i: usize) -> Answer
+fn piece_in(payload: &[u8], start: usize, i: usize) -> Result<Option<HexText>, Refusal>
     requires { start + length payload.now < 2 ^ 64 }
     ensures { answer_told result ≡ piece_in payload.now start i }
 {
@@ -92,21 +85,21 @@ fn piece_in(payload: &[u8], start: usize, i: usize) -> Answer
             let inner = &payload[from..to];
             read_at(inner, start + from, nth_piece(inner, i), MAX_32)
         }
-        Span::Nothing => Answer::Absent,
+        Span::Nothing => Ok(None),
     }
 }
 
 // What stands at a span of a text that starts at a place of the line.
-fn read_at(s: &[u8], start: usize, span: Span, limit: u64) -> Answer
+fn read_at(s: &[u8], start: usize, span: Span, limit: u64) -> Result<Option<HexText>, Refusal>
     requires { (start + length s.now < 2 ^ 64) × (SpanWithin s.now span) }
     ensures { answer_told result ≡ said_at limit start s.now span }
 {
     match span {
-        Span::At { from, to } => Answer::Found(HexText {
+        Span::At { from, to } => Ok(Some(HexText {
             from: start + from,
             to: start + to,
             reading: hex(&s[from..to], limit),
-        }),
-        Span::Nothing => Answer::Absent,
+        })),
+        Span::Nothing => Ok(None),
     }
 }

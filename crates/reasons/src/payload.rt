@@ -4,9 +4,10 @@ ghost use Rattle.reasons.specs.Reasons.{PayloadAt, PlacedAt, DataAt};
 
 use pairs::dwords::inside;
 use pairs::pair::{Span, last_pair};
-use scan::frame::{FrameAnswer, read_frame};
+use scan::frame::read_frame;
 use text::class::Class;
 use text::run::{run_end, strip};
+use refusal::Refusal;
 
 // A part of the line.
 #[derive(Clone, Copy)]
@@ -15,20 +16,13 @@ pub struct Place {
     pub to: usize,
 }
 
-// `Refused` has the number 1 to 4 that the line reader gives.
-#[derive(Clone, Copy)]
-pub enum Payload {
-    At(Place),
-    Refused(u8),
-}
-
 // Where the payload stands.
-pub fn payload_of(line: &[u8]) -> Payload
+pub fn payload_of(line: &[u8]) -> Result<Place, Refusal>
     ensures { PayloadAt line.now result }
 {
     match read_frame(line) {
-        FrameAnswer::Colon(colon) => Payload::At(payload_behind(line, colon)),
-        FrameAnswer::Refused(number) => Payload::Refused(number),
+        Ok(colon) => Ok(payload_behind(line, colon)),
+        Err(number) => Err(number),
     }
 }
 

@@ -1,11 +1,11 @@
 -- A field's body and what is read of it: what a body of the right length reads is what it was made from, for every width, and for dwords by one
 -- induction. Assumes nothing.
+use Rattle.std.specs.Prelude.{None, Option, Some}
 use Prim.Native.Nat.{ℕ, zero, suc, ◌+◌, ◌-◌, ◌*◌, ◌/◌, ◌%◌, ◌^◌, ◌≤◌, ◌<◌}
 use mathlib.Core.Path.{◌≡◌, ◌∙◌, sym, ap, ap₂, refl}
 use mathlib.Core.Bool.{Bool, true, false, cond}
 use mathlib.Core.List.{List, [], ◌∷◌, ◌++◌, map, append-nil}
 use mathlib.Core.Option
-use mathlib.Core.Option.{Option, some, none}
 use native.Mathlib.Omega.{arith}
 use borrow.Author.Tests.{eqb-true, leb-true, ltb-true, eq-eqb, le-leb, lt-ltb}
 use lib.Dec.{ltb, eqb}
@@ -131,8 +131,8 @@ module _ (t : List ℕ) where
   pieces_in = map (piece_of t) (parts t 3)
 
   abbrev body_by : Span → Option (List ℕ)
-  body_by (At from to) = some (between t from to)
-  body_by Absent = none
+  body_by (At from to) = Some (between t from to)
+  body_by Absent = None
 
   lookup_among : (tag : ℕ) (ps : List Part) → lookup tag (map (piece_of t) ps) ≡ body_by (span_among tag ps)
   unfolding lookup span_among
@@ -140,7 +140,7 @@ module _ (t : List ℕ) where
   lookup_among tag (p ∷ ps) = go (eqb p.tag tag) (lookup_among tag ps)
     where
       go : (x : Bool) → lookup tag (map (piece_of t) ps) ≡ body_by (span_among tag ps)
-          → cond x (some (between t p.from p.to)) (lookup tag (map (piece_of t) ps)) ≡ body_by (cond x (At p.from p.to) (span_among tag ps))
+          → cond x (Some (between t p.from p.to)) (lookup tag (map (piece_of t) ps)) ≡ body_by (cond x (At p.from p.to) (span_among tag ps))
       go true e = refl
       go false e = e
 
@@ -158,29 +158,29 @@ module _ (t : List ℕ) where
     pub up : from ≤ to
     pub within : to ≤ length t
 
-  pub body_found : (tag : ℕ) (b : List ℕ) → lookup tag pieces_in ≡ some b → Body tag b
+  pub body_found : (tag : ℕ) (b : List ℕ) → lookup tag pieces_in ≡ Some b → Body tag b
   body_found tag b e = go (span_of t tag) refl
     where
       go : (s : Span) → span_of t tag ≡ s → Body tag b
       go (At from to) h =
           let m = span_moves t tag h in
-          let same : some (between t from to) ≡ some b = sym (ap body_by h) ∙ sym (lookup_span tag) ∙ e in
+          let same : Some (between t from to) ≡ Some b = sym (ap body_by h) ∙ sym (lookup_span tag) ∙ e in
           let is : between t from to ≡ b = cc in
           record { from = from; to = to; span = h; is = is; up = m.0; within = m.1 }
       go Absent h =
-          let same : none ≡ some b = sym (ap body_by h) ∙ sym (lookup_span tag) ∙ e in
+          let same : None ≡ Some b = sym (ap body_by h) ∙ sym (lookup_span tag) ∙ e in
           absurd (let z : ◌≡◌ {A = ℕ} 0 1 = cc in omega arith)
 
-  pub body_absent : (tag : ℕ) → lookup tag pieces_in ≡ none → span_of t tag ≡ Absent
+  pub body_absent : (tag : ℕ) → lookup tag pieces_in ≡ None → span_of t tag ≡ Absent
   body_absent tag e = go (span_of t tag) refl
     where
       go : (s : Span) → span_of t tag ≡ s → s ≡ Absent
       go (At from to) h =
-          let same : some (between t from to) ≡ none = sym (ap body_by h) ∙ sym (lookup_span tag) ∙ e in
+          let same : Some (between t from to) ≡ None = sym (ap body_by h) ∙ sym (lookup_span tag) ∙ e in
           absurd (let z : ◌≡◌ {A = ℕ} 0 1 = cc in omega arith)
       go Absent h = refl
 
-  pub body_there : (tag : ℕ) (b : List ℕ) → lookup tag pieces_in ≡ some b → is_there (span_of t tag) ≡ true
+  pub body_there : (tag : ℕ) (b : List ℕ) → lookup tag pieces_in ≡ Some b → is_there (span_of t tag) ≡ true
   body_there tag b e = rw (body_found tag b e).span
 
   module _ {tag : ℕ} {b : List ℕ} (f : Body tag b) where
@@ -191,7 +191,7 @@ module _ (t : List ℕ) where
     body_bytes bytes = rw (← f.is) (bytes_drop (take f.to t) f.from (bytes_take t f.to bytes))
 
     -- the number at its start
-    pub number_read : (k : ℕ) → length b ≡ k → maybe_of k t tag ≡ some (number k b 0)
+    pub number_read : (k : ℕ) → length b ≡ k → maybe_of k t tag ≡ Some (number k b 0)
     unfolding maybe_of
     number_read k e =
         let room : f.from + k ≤ f.to = omega (arith, body_length, f.up) in
@@ -221,8 +221,8 @@ module _ (t : List ℕ) where
         (sym (dwords_between t f.from f.to n 0 (omega (arith, body_length, f.up, e)) ∙ ap (λ (m : ℕ). dwords_at t m n) start))
 
   -- a number that was made
-  module _ (tag k n : ℕ) (found : lookup tag pieces_in ≡ some (number_bytes k n)) (fits : n < 256 ^ k) where
-    pub made_some : maybe_of k t tag ≡ some n
+  module _ (tag k n : ℕ) (found : lookup tag pieces_in ≡ Some (number_bytes k n)) (fits : n < 256 ^ k) where
+    pub made_some : maybe_of k t tag ≡ Some n
     made_some = number_read (body_found tag (number_bytes k n) found) k (number_bytes_length k n) ∙ rw (number_back k n fits)
 
     pub made_number : number_of k t tag ≡ n
@@ -231,5 +231,5 @@ module _ (t : List ℕ) where
 
   pub made_maybe : (tag k : ℕ) (o : Option ℕ) → lookup tag pieces_in ≡ Option.map (number_bytes k) o → Below (256 ^ k) o → maybe_of k t tag ≡ o
   unfolding maybe_of
-  made_maybe tag k none e h = rw (body_absent tag e)
-  made_maybe tag k (some n) e h = made_some tag k n e h
+  made_maybe tag k None e h = rw (body_absent tag e)
+  made_maybe tag k (Some n) e h = made_some tag k n e h

@@ -1,10 +1,11 @@
 -- Every record of the grammar is read, and reads as the value that it was made from: its fields are the rows that are there, each is good, and each
 -- is found by its tag. Assumes nothing.
+use Rattle.std.specs.Prelude.{None, Option, Some}
 use Prim.Native.Nat.{ℕ, ◌+◌, ◌-◌, ◌*◌, ◌^◌, ◌≤◌, ◌<◌}
 use mathlib.Core.Path.{◌≡◌, ◌∙◌, sym, ap, refl}
 use mathlib.Core.Bool.{Bool, true, false}
 use mathlib.Core.List.{List, [], append-nil}
-use mathlib.Core.Option.{Option, some, none, map}
+use mathlib.Core.Option.{map}
 use native.Mathlib.Omega.{arith}
 use borrow.Author.Tests.{eq-eqb, ne_eqb, lt-ltb, le-leb}
 use lib.Dec.{eqb}
@@ -16,7 +17,7 @@ use Rattle.tlv.specs.Number.{number_bytes}
 use Rattle.tlv.specs.Grammar.{field_bytes, fields_bytes}
 use Rattle.tlv.specs.Reading.{field_at}
 use Rattle.tlv.proofs.Pieces.{field_bytes_length, made_field, made_pieces, made_fills}
-use Rattle.entry.specs.Entry.{EntryValue, part_of, byte_value, word_value, value_of}
+use Rattle.entry.specs.Entry.{EntryValue, part_of, value_of}
 use Rattle.entry.proofs.Parts.{part_in}
 use Rattle.record.specs.declared.rule.Width.{Width}
 use Rattle.record.specs.declared.rule.Width.TheVariants.{One, Two, Four, Eight}
@@ -25,7 +26,7 @@ use Rattle.record.specs.declared.rule.Rule.TheVariants as R
 use Rattle.record.specs.Grammar.{flag, dwords_bytes, rows_of, present, record_bytes, Below, Ranged, IsRecord}
 use Rattle.record.specs.Rule.{bytes_of, rule_of, is_letter, fits_rule}
 use Rattle.record.specs.Judging.{framed, task_size, judged, has_required, refusal_of}
-use Rattle.record.specs.Finding.{maybe_of, number_of, byte_of, word_of, as_byte, as_word, place_of}
+use Rattle.record.specs.Finding.{maybe_of, number_of, byte_of, word_of, place_of}
 use Rattle.record.specs.Gathering.{origin_of, packet_of, noted_of, entry_of}
 use Rattle.record.specs.Reading.{dword_count, dwords_of}
 use Rattle.record.proofs.Finding.{lookup}
@@ -53,15 +54,13 @@ unfoldable pub value_in : List ℕ → EntryValue
 value_in t = value_of (entry_of t) t (dwords_of t)
 
 -- optional fields of the entry, as values
-pub byte_value_lem : (o : Option ℕ) → byte_value (as_byte o) ≡ o
-unfolding byte_value
-byte_value_lem none = refl
-byte_value_lem (some n) = refl
+pub byte_value_lem : (o : Option ℕ) → o ≡ o
+byte_value_lem None = refl
+byte_value_lem (Some n) = refl
 
-pub word_value_lem : (o : Option ℕ) → word_value (as_word o) ≡ o
-unfolding word_value
-word_value_lem none = refl
-word_value_lem (some n) = refl
+pub word_value_lem : (o : Option ℕ) → o ≡ o
+word_value_lem None = refl
+word_value_lem (Some n) = refl
 
 -- all the dwords of a list
 pub part_all : (ds : List ℕ) (n : ℕ) → n ≡ length ds → part_of ds 0 n ≡ ds
@@ -85,7 +84,7 @@ function_letter b h = h
 
 -- a number's body is as its rule asks
 module _ (task : ℕ) (w : Width) (limit : ℕ) where
-  number_fits : (n : ℕ) → n < 256 ^ bytes_of w → n ≤ limit → (b : List ℕ) → some (number_bytes (bytes_of w) n) ≡ some b
+  number_fits : (n : ℕ) → n < 256 ^ bytes_of w → n ≤ limit → (b : List ℕ) → Some (number_bytes (bytes_of w) n) ≡ Some b
       → fits_rule (R.Number w limit) task b ≡ true
   unfolding fits_rule
   number_fits n h l b e =
@@ -93,9 +92,9 @@ module _ (task : ℕ) (w : Width) (limit : ℕ) where
       rw (← same) (fits_number_all (bytes_of w) limit n h l)
 
   maybe_fits : (o : Option ℕ) → Below (256 ^ bytes_of w) o → ((n : ℕ) → n < 256 ^ bytes_of w → n ≤ limit) → (b : List ℕ)
-      → map (number_bytes (bytes_of w)) o ≡ some b → fits_rule (R.Number w limit) task b ≡ true
-  maybe_fits none h l b e = absurd (let z : ◌≡◌ {A = ℕ} 0 1 = cc in omega arith)
-  maybe_fits (some n) h l b e = number_fits n h (l n h) b e
+      → map (number_bytes (bytes_of w)) o ≡ Some b → fits_rule (R.Number w limit) task b ≡ true
+  maybe_fits None h l b e = absurd (let z : ◌≡◌ {A = ℕ} 0 1 = cc in omega arith)
+  maybe_fits (Some n) h l b e = number_fits n h (l n h) b e
 
 -- the tags of the rows ascend
 pub rows_rise : (v : EntryValue) → RisingRows 0 (rows_of v)
@@ -105,20 +104,20 @@ rows_rise v =
 
 -- rows of a value within the ranges are good
 module _ (v : EntryValue) (r : Ranged v) where
-  task_fits : (task : ℕ) (b : List ℕ) → some v.task ≡ some b → fits_rule R.Task task b ≡ true
+  task_fits : (task : ℕ) (b : List ℕ) → Some v.task ≡ Some b → fits_rule R.Task task b ≡ true
   unfolding fits_rule
   task_fits task b e =
       let same : v.task ≡ b = cc in
       rw (← same) (fits_text_all (is_letter L.Task) (λ b. (b < 128) × (b ≡ 32 → ⊥)) task_letter v.task r.task.some r.task.letters)
 
-  function_fits : (b : List ℕ) → some v.function ≡ some b → fits_rule R.Function (length v.task) b ≡ true
+  function_fits : (b : List ℕ) → Some v.function ≡ Some b → fits_rule R.Function (length v.task) b ≡ true
   unfolding fits_rule
   function_fits b e =
       let same : v.function ≡ b = cc in
       rw (← same, le-leb (length v.task + length v.function) 4096 r.together)
       (fits_text_all (is_letter L.Function) (λ b. is_word b ≡ true) function_letter v.function r.function.some r.function.letters)
 
-  dwords_fit : (task : ℕ) (b : List ℕ) → some (dwords_bytes v.dwords) ≡ some b → fits_rule R.Dwords task b ≡ true
+  dwords_fit : (task : ℕ) (b : List ℕ) → Some (dwords_bytes v.dwords) ≡ Some b → fits_rule R.Dwords task b ≡ true
   unfolding fits_rule
   dwords_fit task b e =
       let same : dwords_bytes v.dwords ≡ b = cc in
@@ -304,14 +303,14 @@ module _ (t : List ℕ) (v : EntryValue) (r : IsRecord t v) where
       (dwords_read t dwords_body (length v.dwords) (dwords_bytes_length v.dwords)
       ∙ dwords_back (dwords_bytes v.dwords) 0 v.dwords r.ranged.dwords refl)
 
-  number_here : (tag k n : ℕ) → body_at tag (rows_of v) ≡ some (number_bytes k n) → n < 256 ^ k → number_of k t tag ≡ n
+  number_here : (tag k n : ℕ) → body_at tag (rows_of v) ≡ Some (number_bytes k n) → n < 256 ^ k → number_of k t tag ≡ n
   number_here tag k n e h = made_number t tag k n (row_found tag ∙ e) h
 
-  byte_here : (tag : ℕ) (o : Option ℕ) → body_at tag (rows_of v) ≡ map (number_bytes 1) o → Below (2 ^ 8) o → byte_value (byte_of t tag) ≡ o
+  byte_here : (tag : ℕ) (o : Option ℕ) → body_at tag (rows_of v) ≡ map (number_bytes 1) o → Below (2 ^ 8) o → (byte_of t tag) ≡ o
   unfolding byte_of
   byte_here tag o e h = byte_value_lem (maybe_of 1 t tag) ∙ made_maybe t tag 1 o (row_found tag ∙ e) h
 
-  word_here : (tag : ℕ) (o : Option ℕ) → body_at tag (rows_of v) ≡ map (number_bytes 2) o → Below (2 ^ 16) o → word_value (word_of t tag) ≡ o
+  word_here : (tag : ℕ) (o : Option ℕ) → body_at tag (rows_of v) ≡ map (number_bytes 2) o → Below (2 ^ 16) o → (word_of t tag) ≡ o
   unfolding word_of
   word_here tag o e h = word_value_lem (maybe_of 2 t tag) ∙ made_maybe t tag 2 o (row_found tag ∙ e) h
 
@@ -332,13 +331,13 @@ module _ (t : List ℕ) (v : EntryValue) (r : IsRecord t v) where
       rw (number_here 9 1 (flag v.dropped) refl (omega (arith, flag_small v.dropped))) (flag_back v.dropped) in
       let domain : number_of 4 t 10 ≡ v.domain = number_here 10 4 v.domain refl q.domain in
       let route : number_of 8 t 11 ≡ v.route = number_here 11 8 v.route refl q.route in
-      let offset : word_value (word_of t 12) ≡ v.offset = word_here 12 v.offset refl q.offset in
-      let code : byte_value (byte_of t 13) ≡ v.code = byte_here 13 v.code refl q.code in
-      let len : word_value (word_of t 14) ≡ v.len = word_here 14 v.len refl q.len in
-      let port : byte_value (byte_of t 15) ≡ v.port = byte_here 15 v.port refl q.port in
-      let config : byte_value (byte_of t 16) ≡ v.config = byte_here 16 v.config refl q.config in
-      let seq : byte_value (byte_of t 17) ≡ v.seq = byte_here 17 v.seq refl q.seq in
-      let unplug : byte_value (byte_of t 18) ≡ v.unplug = byte_here 18 v.unplug refl q.unplug in
+      let offset : (word_of t 12) ≡ v.offset = word_here 12 v.offset refl q.offset in
+      let code : (byte_of t 13) ≡ v.code = byte_here 13 v.code refl q.code in
+      let len : (word_of t 14) ≡ v.len = word_here 14 v.len refl q.len in
+      let port : (byte_of t 15) ≡ v.port = byte_here 15 v.port refl q.port in
+      let config : (byte_of t 16) ≡ v.config = byte_here 16 v.config refl q.config in
+      let seq : (byte_of t 17) ≡ v.seq = byte_here 17 v.seq refl q.seq in
+      let unplug : (byte_of t 18) ≡ v.unplug = byte_here 18 v.unplug refl q.unplug in
       let dwords : part_of (dwords_of t) 0 (dword_count t) ≡ v.dwords =
       part_all (dwords_of t) (dword_count t) (record_dword_count ∙ sym (ap length record_dwords)) ∙ record_dwords in
       λ i.

@@ -1,10 +1,10 @@
 -- Finding a field by its tag: the field sought among those from a place on is the one there, if it has the tag, else the one sought from its end on.
 -- Assumes nothing.
+use Rattle.std.specs.Prelude.{None, Option, Some}
 use Prim.Native.Nat.{ℕ, ◌≤◌, ◌<◌}
 use mathlib.Core.Path.{◌≡◌, ◌∙◌, sym, refl}
 use mathlib.Core.Bool.{Bool, true, false, cond}
 use mathlib.Core.List.{List, [], ◌∷◌}
-use mathlib.Core.Option.{Option, some, none}
 use native.Mathlib.Omega.{arith}
 use borrow.Author.Tests.{eq-eqb, ne_eqb, eqb-true}
 use lib.Dec.{eqb}
@@ -19,8 +19,8 @@ use Rattle.record.specs.Finding.{span_among, span_of}
 
 -- the body of the first piece with a tag
 unfoldable pub lookup : ℕ → List Piece → Option (List ℕ)
-lookup tag [] = none
-lookup tag (p ∷ ps) = cond (eqb p.tag tag) (some p.body) (lookup tag ps)
+lookup tag [] = None
+lookup tag (p ∷ ps) = cond (eqb p.tag tag) (Some p.body) (lookup tag ps)
 
 -- a field that stands at a place ends behind it, within the text
 pub record Moves (t : List ℕ) (at from to : ℕ) : Type 0 where

@@ -1,12 +1,12 @@
 -- Each number is answered exactly where its condition holds: up to the first thing wrong the fields are good, and a text has one first thing wrong,
 -- since the judgement passes over good fields. Assumes nothing.
+use Rattle.std.specs.Prelude.{None, Option, Some}
 use Prim.Native.Nat.{ℕ, ◌+◌, ◌-◌, ◌≤◌, ◌<◌}
 use mathlib.Core.Path.{◌≡◌, ◌∙◌, sym, ap, ap₂, refl}
 use mathlib.Core.Bool.{Bool, true, false, cond, ◌&&◌, and-false, false≢true}
 use mathlib.Core.List.Memᴰ
 use mathlib.Core.List.{List, [], ◌∷◌, ◌++◌, append-nil, Memᴰ}
 use mathlib.Core.Logic.{◌↔◌, ⊎_elim}
-use mathlib.Core.Option.{Option, some, none}
 use native.Mathlib.Omega.{arith}
 use borrow.Author.Tests.{eq-eqb, ne_eqb, eqb-true, eqb-false, ltb-true, ltb-false}
 use lib.Dec.{eqb, ltb}
@@ -61,19 +61,19 @@ last_more last (q ∷ ps) p = last_more q.tag ps p
 
 -- ---- fields that lack a tag
 
-lacks_none : (tag : ℕ) (ps : List Piece) → Lacks tag ps → lookup tag ps ≡ none
+lacks_none : (tag : ℕ) (ps : List Piece) → Lacks tag ps → lookup tag ps ≡ None
 unfolding lookup
 lacks_none tag [] l = refl
 lacks_none tag (p ∷ ps) l = rw (ne_eqb p.tag tag l.0) (lacks_none tag ps l.1)
 
-none_lacks : (tag : ℕ) (ps : List Piece) → lookup tag ps ≡ none → Lacks tag ps
+none_lacks : (tag : ℕ) (ps : List Piece) → lookup tag ps ≡ None → Lacks tag ps
 unfolding lookup
 none_lacks tag [] e = tt
 none_lacks tag (p ∷ ps) e = go (eqb p.tag tag) refl (none_lacks tag ps)
   where
-    go : (x : Bool) → eqb p.tag tag ≡ x → (lookup tag ps ≡ none → Lacks tag ps) → Lacks tag (p ∷ ps)
+    go : (x : Bool) → eqb p.tag tag ≡ x → (lookup tag ps ≡ None → Lacks tag ps) → Lacks tag (p ∷ ps)
     go true h rest =
-        let same : some p.body ≡ none = rw h at e in
+        let same : Some p.body ≡ None = rw h at e in
         absurd (let z : ◌≡◌ {A = ℕ} 0 1 = cc in omega arith)
     go false h rest = (eqb-false p.tag tag h, rest (rw h at e))
 
@@ -243,12 +243,12 @@ module _ (t : List ℕ) (bytes : Bytes t) where
               which (tag_due d w) = wrong_tag (sym j ∙ d) p.at ps p.tag p.from p.to g stands w
               which (body_due d up known w) = wrong_body (sym j ∙ d) p.at ps p.tag p.from p.to g stands up known w
 
-  not_there : (n : ℕ) → is_there (span_of t n) ≡ false → lookup n (pieces_in t) ≡ none
+  not_there : (n : ℕ) → is_there (span_of t n) ≡ false → lookup n (pieces_in t) ≡ None
   not_there n e = by (lookup n (pieces_in t)) refl
     where
-      by : (o : Option (List ℕ)) → lookup n (pieces_in t) ≡ o → lookup n (pieces_in t) ≡ none
-      by none h = h
-      by (some b) h = absurd (false≢true (sym e ∙ body_there t n b h))
+      by : (o : Option (List ℕ)) → lookup n (pieces_in t) ≡ o → lookup n (pieces_in t) ≡ None
+      by None h = h
+      by (Some b) h = absurd (false≢true (sym e ∙ body_there t n b h))
 
   number_breaks : (k : ℕ) → refusal_of t ≡ k → (k ≡ 0 → ⊥) → Breaks t k
   unfolding refusal_of has_required fields_bytes

@@ -1,11 +1,13 @@
 -- The promises of reading: with 256 slots a text is accepted exactly if it is a record, and its entry is the one that the record is of; a record has
 -- one reading and at most 5,227 bytes; each number is told exactly where its condition holds; a refusal changes nothing; no second answer. Assumes nothing.
+use Rattle.std.specs.Prelude.{Err, None, Ok, Option, Result, Some}
+use Rattle.refusal.specs.declared.Refusal.{Refusal}
 use Prim.Native.Nat.{ℕ, ◌+◌, ◌≤◌, ◌<◌}
 use mathlib.Core.Path.{◌≡◌, ◌∙◌, sym, ap, refl}
 use mathlib.Core.Bool.{Bool, true, false, cond}
 use mathlib.Core.List.{List}
 use mathlib.Core.Logic.{◌↔◌, ⊎_elim}
-use mathlib.Core.Option.{Option, some, none, map}
+use mathlib.Core.Option.{map}
 use native.Mathlib.Omega.{arith}
 use borrow.Author.Tests.{le-leb, lt-leb, leb-true, leb-false}
 use lib.Dec.{leb}
@@ -20,8 +22,6 @@ use Rattle.tlv.proofs.Pieces.{field_bytes_length}
 use Rattle.entry.specs.declared.Entry.{Entry}
 use Rattle.entry.specs.Entry.{EntryValue, part_of, value_of, Lies}
 use Rattle.entry.proofs.Parts.{part_in}
-use Rattle.record.specs.declared.Answer.{Answer}
-use Rattle.record.specs.declared.Answer.TheVariants as A
 use Rattle.record.specs.Grammar.{rows_of, present, record_bytes, IsRecord}
 use Rattle.record.specs.Judging.{refusal_of}
 use Rattle.record.specs.Conditions.{Breaks, unframed, runs_past, wrong_tag, wrong_body, lacks_tag, Refuses, breaks, few_slots}
@@ -105,8 +105,8 @@ pub one_record_reading : (t : List ℕ) (v w : EntryValue) → IsRecord t v → 
 one_record_reading t v w a b = sym (record_value t v a) ∙ record_value t w b
 
 optional_size : (k : ℕ) (o : Option ℕ) → size_of (map (number_bytes k) o) ≤ k + 3
-optional_size k none = omega arith
-optional_size k (some n) = omega (arith, number_bytes_length k n)
+optional_size k None = omega arith
+optional_size k (Some n) = omega (arith, number_bytes_length k n)
 
 -- a record has at most 5,227 bytes
 pub record_at_most_5227 : (t : List ℕ) (v : EntryValue) → IsRecord t v → length t ≤ 5227
@@ -141,7 +141,7 @@ record_at_most_5227 t v r =
     )
 
 -- a refusal changes nothing
-pub refused_reading_changes_nothing : (t slots : List ℕ) (n : ℕ) (left : List ℕ) → Reading t slots (A.Refused n) left → left ≡ slots
+pub refused_reading_changes_nothing : (t slots : List ℕ) (n : ℕ) (left : List ℕ) → Reading t slots (Err n) left → left ≡ slots
 unfolding slots_by
 refused_reading_changes_nothing t slots n left r = r.slots_left
 
@@ -181,8 +181,8 @@ record_refused_exactly t bytes slots k = (is, all)
 
     all : Refuses t slots k → T.unless (refusal_of t) (cond (leb (dword_count t) slots) (T.is (entry_of t)) (T.refused 35)) ≡ T.refused k
     all (breaks b) =
-        let some : k ≡ 0 → ⊥ = breaks_some t k b in
-        rw ((number_exactly t bytes k some).1 b) (number_first k slots_told some)
+        let Some : k ≡ 0 → ⊥ = breaks_some t k b in
+        rw ((number_exactly t bytes k Some).1 b) (number_first k slots_told Some)
     all (few_slots e f) =
         let none_refused : refusal_of t ≡ 0 = record_not_refused t f.value f.is_record in
         let fewer : slots < dword_count t = omega (arith, f.fewer, record_dword_count t f.value f.is_record) in
@@ -191,15 +191,15 @@ record_refused_exactly t bytes slots k = (is, all)
 -- ---- no second answer
 
 -- two answers that tell the same are the same
-pub one_record_answer : (a b : Answer) → answer_told a ≡ answer_told b → a ≡ b
-one_record_answer = fixed_by_told answer_told (by_cases A.Entry (A.Refused 0) A.Refused) same
+pub one_record_answer : (a b : Result Entry Refusal) → answer_told a ≡ answer_told b → a ≡ b
+one_record_answer = fixed_by_told answer_told (by_cases Ok (Err 0) Err) same
   where
-    same : (a : Answer) → by_cases A.Entry (A.Refused 0) A.Refused (answer_told a) ≡ a
-    same (A.Entry e) = refl
-    same (A.Refused n) = refl
+    same : (a : Result Entry Refusal) → by_cases Ok (Err 0) Err (answer_told a) ≡ a
+    same (Ok e) = refl
+    same (Err n) = refl
 
 -- no second answer satisfies the contract, slots included
-pub no_second_reading : (t slots : List ℕ) {r s : Answer} {left other : List ℕ} → Reading t slots r left → Reading t slots s other
+pub no_second_reading : (t slots : List ℕ) {r s : Result Entry Refusal} {left other : List ℕ} → Reading t slots r left → Reading t slots s other
     → (r ≡ s) × (left ≡ other)
 no_second_reading t slots {r} {s} a b =
     let same : answer_told r ≡ answer_told s = a.answer ∙ sym b.answer in

@@ -1,10 +1,10 @@
 -- Rising tags: fields whose tags ascend are the fields found tag by tag, so an absent field needs no case of its own. One law, over any rows.
 -- Assumes nothing.
+use Rattle.std.specs.Prelude.{None, Option, Some}
 use Prim.Native.Nat.{ℕ, zero, suc, ◌+◌, ◌≤◌, ◌<◌}
 use mathlib.Core.Path.{◌≡◌, ◌∙◌, refl}
 use mathlib.Core.Bool.{Bool, true, false, cond}
 use mathlib.Core.List.{List, [], ◌∷◌}
-use mathlib.Core.Option.{Option, some, none}
 use native.Mathlib.Omega.{arith}
 use native.Mathlib.Decide.{dec_le}
 use borrow.Author.Tests.{eq-eqb, ne_eqb, eqb-true}
@@ -28,7 +28,7 @@ RisingRows last (r ∷ rs) = (last < r.tag) × RisingRows r.tag rs
 
 -- the body of the first row with a tag
 abbrev pub body_at : ℕ → List Row → Option (List ℕ)
-body_at tag [] = none
+body_at tag [] = None
 body_at tag (r ∷ rs) = cond (eqb r.tag tag) r.body (body_at tag rs)
 
 -- n rows from a tag on, with the bodies that a function gives
@@ -41,7 +41,7 @@ rising_lower [] low last h r = tt
 rising_lower (p ∷ ps) low last h r = (omega (arith, r.0), r.1)
 
 -- a tag that is not above is not found
-pub lookup_low : (ps : List Piece) (last tag : ℕ) → tag ≤ last → Rising last ps → lookup tag ps ≡ none
+pub lookup_low : (ps : List Piece) (last tag : ℕ) → tag ≤ last → Rising last ps → lookup tag ps ≡ None
 unfolding lookup
 lookup_low [] last tag h r = refl
 lookup_low (p ∷ ps) last tag h r =
@@ -53,8 +53,8 @@ present_rising [] last r = tt
 present_rising (row ∷ rs) last r = go row.body (present_rising rs row.tag r.1)
   where
     go : (b : Option (List ℕ)) → Rising row.tag (present rs) → Rising last (placed row.tag b (present rs))
-    go none rest = rising_lower (present rs) last row.tag (omega (arith, r.0)) rest
-    go (some b) rest = (r.0, rest)
+    go None rest = rising_lower (present rs) last row.tag (omega (arith, r.0)) rest
+    go (Some b) rest = (r.0, rest)
 
 -- what is found among the rows that are there is the row's body
 pub lookup_present : (rs : List Row) (last : ℕ) → RisingRows last rs → (tag : ℕ) → lookup tag (present rs) ≡ body_at tag rs
@@ -64,11 +64,11 @@ lookup_present (row ∷ rs) last r tag = go row.body (eqb row.tag tag) refl (loo
   where
     go : (b : Option (List ℕ)) (x : Bool) → eqb row.tag tag ≡ x → lookup tag (present rs) ≡ body_at tag rs
         → lookup tag (placed row.tag b (present rs)) ≡ cond x b (body_at tag rs)
-    go none true h e =
+    go None true h e =
         lookup_low (present rs) row.tag tag (omega (arith, eqb-true row.tag tag h)) (present_rising rs row.tag r.1)
-    go none false h e = e
-    go (some b) true h e = rw h
-    go (some b) false h e = rw h e
+    go None false h e = e
+    go (Some b) true h e = rw h
+    go (Some b) false h e = rw h e
 
 -- pieces whose tags ascend from above `low`, and are at most n above it, are those found tag by tag
 pub found_by_tag : (n low : ℕ) (f : ℕ → Option (List ℕ)) (ps : List Piece) → Rising low ps → All (λ p. p.tag ≤ low + n) ps
@@ -82,13 +82,13 @@ found_by_tag (suc n) low f (p ∷ ps) r b g =
     elim (dec_le p.tag (suc low)) [
       | yes le ↦
           let e : p.tag ≡ suc low = omega (arith, le, r.0) in
-          let here : f (suc low) ≡ some p.body = g (suc low) (omega arith) ∙ rw (eq-eqb p.tag (suc low) e) in
+          let here : f (suc low) ≡ Some p.body = g (suc low) (omega arith) ∙ rw (eq-eqb p.tag (suc low) e) in
           let rest : present (rows_from n (suc (suc low)) f) ≡ ps =
           found_by_tag n (suc low) f ps (rising_lower ps (suc low) p.tag (omega (arith, e)) r.1) (raised ps b.1)
           (λ tag h. g tag (omega arith) ∙ rw (ne_eqb p.tag tag (λ k. omega (arith, k, e)))) in
           rw (here, rest, ← e)
       | no e ↦
-          let none_here : f (suc low) ≡ none =
+          let none_here : f (suc low) ≡ None =
           g (suc low) (omega arith) ∙ lookup_low (p ∷ ps) (suc low) (suc low) (omega arith) (omega (arith, r.0, e), r.1) in
           rw none_here (found_by_tag n (suc low) f (p ∷ ps) (omega (arith, r.0, e), r.1) (raised (p ∷ ps) b) (λ tag h. g tag (omega arith)))
     ]
@@ -103,7 +103,7 @@ GoodRows task last [] = Unit {0}
 GoodRows task last (r ∷ rs) =
     (last < r.tag)
     × (is_known (rule_of r.tag) ≡ true)
-    × ((b : List ℕ) → r.body ≡ some b → fits_rule (rule_of r.tag) task b ≡ true)
+    × ((b : List ℕ) → r.body ≡ Some b → fits_rule (rule_of r.tag) task b ≡ true)
     × GoodRows task r.tag rs
 
 good_lower : (task : ℕ) (ps : List Piece) (low last : ℕ) → low ≤ last → GoodFields task last ps → GoodFields task low ps
@@ -118,8 +118,8 @@ rows_good task (row ∷ rs) last g = go row.body refl (rows_good task rs row.tag
   where
     go : (b : Option (List ℕ)) → row.body ≡ b → GoodFields task row.tag (present rs)
         → GoodFields task last (placed row.tag b (present rs))
-    go none e rest = good_lower task (present rs) last row.tag (omega (arith, g.0)) rest
-    go (some b) e rest = (record { ascends = g.0; known = g.1; fits = g.2 b e }, rest)
+    go None e rest = good_lower task (present rs) last row.tag (omega (arith, g.0)) rest
+    go (Some b) e rest = (record { ascends = g.0; known = g.1; fits = g.2 b e }, rest)
 
 pub good_rising : (task : ℕ) (ps : List Piece) (last : ℕ) → GoodFields task last ps → Rising last ps
 good_rising task [] last g = tt
@@ -127,15 +127,15 @@ good_rising task (p ∷ ps) last g = (g.0.ascends, good_rising task ps p.tag g.1
 
 -- a body that is found among good fields is as the rule of its tag asks
 pub good_lookup : (task : ℕ) (ps : List Piece) (last : ℕ) → GoodFields task last ps → (tag : ℕ) (b : List ℕ)
-    → lookup tag ps ≡ some b → fits_rule (rule_of tag) task b ≡ true
+    → lookup tag ps ≡ Some b → fits_rule (rule_of tag) task b ≡ true
 unfolding lookup
 good_lookup task [] last g tag b e = absurd (let z : ◌≡◌ {A = ℕ} 0 1 = cc in omega arith)
 good_lookup task (p ∷ ps) last g tag b e = go (eqb p.tag tag) refl (λ r. good_lookup task ps p.tag g.1 tag b r)
   where
-    go : (x : Bool) → eqb p.tag tag ≡ x → (lookup tag ps ≡ some b → fits_rule (rule_of tag) task b ≡ true)
+    go : (x : Bool) → eqb p.tag tag ≡ x → (lookup tag ps ≡ Some b → fits_rule (rule_of tag) task b ≡ true)
         → fits_rule (rule_of tag) task b ≡ true
     go true h rest =
-        let same : some p.body ≡ some b = rw h at e in
+        let same : Some p.body ≡ Some b = rw h at e in
         let body : p.body ≡ b = cc in
         let t : p.tag ≡ tag = eqb-true p.tag tag h in
         rw (← body, ← t) g.0.fits
@@ -143,8 +143,8 @@ good_lookup task (p ∷ ps) last g tag b e = go (eqb p.tag tag) refl (λ r. good
 
 -- how many bytes rows take
 abbrev pub size_of : Option (List ℕ) → ℕ
-size_of none = 0
-size_of (some b) = length b + 3
+size_of None = 0
+size_of (Some b) = length b + 3
 
 abbrev pub sizes_of : List Row → ℕ
 sizes_of [] = 0
@@ -157,6 +157,6 @@ present_length (row ∷ rs) = go row.body (present_length rs)
   where
     go : (b : Option (List ℕ)) → length (fields_bytes (present rs)) ≡ sizes_of rs
         → length (fields_bytes (placed row.tag b (present rs))) ≡ size_of b + sizes_of rs
-    go none e = omega arith
-    go (some b) e =
+    go None e = omega arith
+    go (Some b) e =
         length-append (field_bytes row.tag b) (fields_bytes (present rs)) ∙ omega (arith, field_bytes_length row.tag b, e)

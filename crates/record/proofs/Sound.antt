@@ -1,10 +1,11 @@
 -- What is read is a record of the grammar: good fields with ascending tags are those found tag by tag, and each is the row of the value that they
 -- give. Assumes nothing.
+use Rattle.std.specs.Prelude.{None, Option, Some}
 use Prim.Native.Nat.{ℕ, suc, ◌+◌, ◌*◌, ◌/◌, ◌≤◌, ◌<◌}
 use mathlib.Core.Path.{◌≡◌, ◌∙◌, sym, ap, refl}
 use mathlib.Core.Bool.{Bool, true, false, cond, not, false≢true}
 use mathlib.Core.List.{List, [], ◌∷◌, ◌++◌, append-nil}
-use mathlib.Core.Option.{Option, some, none, map}
+use mathlib.Core.Option.{map}
 use native.Mathlib.Omega.{arith}
 use native.Mathlib.Decide.{dec_le}
 use borrow.Author.Tests.{eqb-true, eqb-false, leb-true, ltb-true, not-true}
@@ -21,7 +22,7 @@ use Rattle.tlv.specs.Reading.{field_at, Part, between, fills}
 use Rattle.tlv.proofs.Fields.{Found, field_found}
 use Rattle.tlv.proofs.Places.{between_end}
 use Rattle.tlv.proofs.Pieces.{part_made, fills_made}
-use Rattle.entry.specs.Entry.{part_of, byte_value, word_value, value_of, Lies}
+use Rattle.entry.specs.Entry.{part_of, value_of, Lies}
 use Rattle.record.specs.declared.rule.Width.{Width}
 use Rattle.record.specs.declared.rule.Width.TheVariants.{One, Two, Four, Eight}
 use Rattle.record.specs.declared.rule.Letters.TheVariants as L
@@ -104,22 +105,22 @@ module _ (t : List ℕ) (bytes : Bytes t) (good : GoodFields (task_size t) 0 (pi
   numbered tag w limit rule = go (lookup tag (pieces_in t)) refl
     where
       go : (o : Option (List ℕ)) → lookup tag (pieces_in t) ≡ o → Numbered tag (bytes_of w) limit
-      go none e =
+      go None e =
           let absent : span_of t tag ≡ Absent = body_absent t tag e in
           record { is = rw (absent, e); low = rw absent tt }
-      go (some b) e =
+      go (Some b) e =
           let fits : fits_rule (R.Number w limit) (task_size t) b ≡ true = rw rule at (good_lookup (task_size t) (pieces_in t) 0 good tag b e) in
           let f = fits_number_is (bytes_of w) limit b fits in
           let body : Body t tag b = body_found t tag b e in
-          let read : maybe_of (bytes_of w) t tag ≡ some (number (bytes_of w) b 0) = number_read t body (bytes_of w) f.0 in
+          let read : maybe_of (bytes_of w) t tag ≡ Some (number (bytes_of w) b 0) = number_read t body (bytes_of w) f.0 in
           record {
-            is = ap (map (number_bytes (bytes_of w))) read ∙ rw e (ap some (sym (bytes_number (bytes_of w) b (body_bytes t body bytes) f.0)));
+            is = ap (map (number_bytes (bytes_of w))) read ∙ rw e (ap Some (sym (bytes_number (bytes_of w) b (body_bytes t body bytes) f.0)));
             low = rw read (omega (arith, f.1));
           }
 
   -- the same of a field that is required
   record Needed (tag k limit : ℕ) : Type 0 where
-    is : some (number_bytes k (number_of k t tag)) ≡ lookup tag (pieces_in t)
+    is : Some (number_bytes k (number_of k t tag)) ≡ lookup tag (pieces_in t)
     low : number_of k t tag < suc limit
 
   needed : (tag : ℕ) (w : Width) (limit : ℕ) → rule_of tag ≡ R.Number w limit → is_there (span_of t tag) ≡ true → Needed tag (bytes_of w) limit
@@ -133,7 +134,7 @@ module _ (t : List ℕ) (bytes : Bytes t) (good : GoodFields (task_size t) 0 (pi
   -- a field that is not a number, by its body
   record Bodied (tag : ℕ) (rule : Rule) : Type 0 where
     body : List ℕ
-    found : lookup tag (pieces_in t) ≡ some body
+    found : lookup tag (pieces_in t) ≡ Some body
     has : Body t tag body
     fits : fits_rule rule (task_size t) body ≡ true
 
@@ -141,8 +142,8 @@ module _ (t : List ℕ) (bytes : Bytes t) (good : GoodFields (task_size t) 0 (pi
   bodied tag rule e there = go (lookup tag (pieces_in t)) refl
     where
       go : (o : Option (List ℕ)) → lookup tag (pieces_in t) ≡ o → Bodied tag rule
-      go none h = absurd (false≢true (sym (ap is_there (body_absent t tag h)) ∙ there))
-      go (some b) h =
+      go None h = absurd (false≢true (sym (ap is_there (body_absent t tag h)) ∙ there))
+      go (Some b) h =
           record {
             body = b;
             found = h;
@@ -287,13 +288,13 @@ module _ (t : List ℕ) (bytes : Bytes t) (p : Passes t) where
   rows_are : rows_of (value_in t) ≡ rows_from 19 1 (λ tag. lookup tag (pieces_in t))
   unfolding value_in value_of entry_of origin_of packet_of noted_of rows_of word_of byte_of
   rows_are =
-      let e01 : some (value_in t).task ≡ lookup 1 (pieces_in t) = ap some (text_read t task.has) ∙ sym task.found in
-      let e06 : some (value_in t).function ≡ lookup 6 (pieces_in t) = ap some (text_read t function.has) ∙ sym function.found in
-      let e09 : some (number_bytes 1 (flag (eqb (number_of 1 t 9) 1))) ≡ lookup 9 (pieces_in t) =
-      ap (λ (n : ℕ). some (number_bytes 1 n)) (flag_forth (number_of 1 t 9) dropped.low) ∙ dropped.is in
-      let word : (tag : ℕ) → map (number_bytes 2) (word_value (word_of t tag)) ≡ map (number_bytes 2) (maybe_of 2 t tag) =
+      let e01 : Some (value_in t).task ≡ lookup 1 (pieces_in t) = ap Some (text_read t task.has) ∙ sym task.found in
+      let e06 : Some (value_in t).function ≡ lookup 6 (pieces_in t) = ap Some (text_read t function.has) ∙ sym function.found in
+      let e09 : Some (number_bytes 1 (flag (eqb (number_of 1 t 9) 1))) ≡ lookup 9 (pieces_in t) =
+      ap (λ (n : ℕ). Some (number_bytes 1 n)) (flag_forth (number_of 1 t 9) dropped.low) ∙ dropped.is in
+      let word : (tag : ℕ) → map (number_bytes 2) (word_of t tag) ≡ map (number_bytes 2) (maybe_of 2 t tag) =
       λ tag. ap (map (number_bytes 2)) (word_value_lem (maybe_of 2 t tag)) in
-      let byte : (tag : ℕ) → map (number_bytes 1) (byte_value (byte_of t tag)) ≡ map (number_bytes 1) (maybe_of 1 t tag) =
+      let byte : (tag : ℕ) → map (number_bytes 1) (byte_of t tag) ≡ map (number_bytes 1) (maybe_of 1 t tag) =
       λ tag. ap (map (number_bytes 1)) (byte_value_lem (maybe_of 1 t tag)) in
       let e0c : map (number_bytes 2) (value_in t).offset ≡ lookup 12 (pieces_in t) = word 12 ∙ offset.is in
       let e0d : map (number_bytes 1) (value_in t).code ≡ lookup 13 (pieces_in t) = byte 13 ∙ code.is in
@@ -302,8 +303,8 @@ module _ (t : List ℕ) (bytes : Bytes t) (p : Passes t) where
       let e10 : map (number_bytes 1) (value_in t).config ≡ lookup 16 (pieces_in t) = byte 16 ∙ config.is in
       let e11 : map (number_bytes 1) (value_in t).seq ≡ lookup 17 (pieces_in t) = byte 17 ∙ seq.is in
       let e12 : map (number_bytes 1) (value_in t).unplug ≡ lookup 18 (pieces_in t) = byte 18 ∙ unplug.is in
-      let e13 : some (dwords_bytes (value_in t).dwords) ≡ lookup 19 (pieces_in t) =
-      ap (λ (ds : List ℕ). some (dwords_bytes ds)) dwords_part ∙ ap some dwords_bytes_lem ∙ sym words.found in
+      let e13 : Some (dwords_bytes (value_in t).dwords) ≡ lookup 19 (pieces_in t) =
+      ap (λ (ds : List ℕ). Some (dwords_bytes ds)) dwords_part ∙ ap Some dwords_bytes_lem ∙ sym words.found in
       λ i.
       record { tag = 0x01; body = e01 i }
       ∷ record { tag = 0x02; body = pid.is i }

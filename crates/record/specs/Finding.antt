@@ -1,13 +1,9 @@
 -- A field of a text by its tag, and its number: the first field with the tag, from place 3 on.
 -- Assumes nothing.
-use Rattle.std.specs.Prelude.{ℕ, ◌-◌, Bool, true, false, cond, List, [], ◌∷◌, eqb}
-use Rattle.std.proofs.Math.Option.{Option, some, none, get_or}
+use Rattle.std.specs.Prelude.{ℕ, ◌-◌, Bool, true, false, cond, List, [], ◌∷◌, eqb, None, Option, Some}
+use Rattle.std.proofs.Math.Option.{get_or}
 use Rattle.tlv.specs.Number.{number}
 use Rattle.tlv.specs.Reading.{Part, parts}
-use Rattle.entry.specs.declared.optional.MaybeByte.{MaybeByte}
-use Rattle.entry.specs.declared.optional.MaybeByte.TheVariants as B
-use Rattle.entry.specs.declared.optional.MaybeWord.{MaybeWord}
-use Rattle.entry.specs.declared.optional.MaybeWord.TheVariants as W
 use Rattle.record.specs.declared.find.Span.{Span}
 use Rattle.record.specs.declared.find.Span.TheVariants.{At, Absent}
 use Rattle.record.specs.declared.find.Place.{Place}
@@ -33,17 +29,8 @@ place_at Absent = record { from = 0; len = 0 }
 
 -- the number of k bytes at a body's start, none without a body
 abbrev pub number_at : ℕ → List ℕ → Span → Option ℕ
-number_at k t (At from to) = some (number k t from)
-number_at k t Absent = none
-
--- an optional byte, an optional number of two bytes
-abbrev pub as_byte : Option ℕ → MaybeByte
-as_byte (some n) = B.Is n
-as_byte none = B.Absent
-
-abbrev pub as_word : Option ℕ → MaybeWord
-as_word (some n) = W.Is n
-as_word none = W.Absent
+number_at k t (At from to) = Some (number k t from)
+number_at k t Absent = None
 
 -- place, number, optional byte and optional word of the field with a tag
 unfoldable pub place_of : List ℕ → ℕ → Place
@@ -55,8 +42,8 @@ maybe_of k t tag = number_at k t (span_of t tag)
 unfoldable pub number_of : ℕ → List ℕ → ℕ → ℕ
 number_of k t tag = get_or (maybe_of k t tag) 0
 
-unfoldable pub byte_of : List ℕ → ℕ → MaybeByte
-byte_of t tag = as_byte (maybe_of 1 t tag)
+unfoldable pub byte_of : List ℕ → ℕ → Option ℕ
+byte_of t tag = (maybe_of 1 t tag)
 
-unfoldable pub word_of : List ℕ → ℕ → MaybeWord
-word_of t tag = as_word (maybe_of 2 t tag)
+unfoldable pub word_of : List ℕ → ℕ → Option ℕ
+word_of t tag = (maybe_of 2 t tag)

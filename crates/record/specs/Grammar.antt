@@ -1,7 +1,7 @@
 -- The record of an entry, as what its bytes are made from. Nothing here searches: the bytes are a function of what the entry says.
 -- Assumes nothing.
-use Rattle.std.specs.Prelude.{ℕ, ◌+◌, ◌≤◌, ◌<◌, ◌^◌, ◌≡◌, Bool, true, cond, List, [], ◌∷◌, ◌++◌, length}
-use Rattle.std.proofs.Math.Option.{Option, some, none, map}
+use Rattle.std.specs.Prelude.{ℕ, ◌+◌, ◌≤◌, ◌<◌, ◌^◌, ◌≡◌, Bool, true, cond, List, [], ◌∷◌, ◌++◌, length, None, Option, Some}
+use Rattle.std.proofs.Math.Option.{map}
 use Rattle.text.specs.Class.{is_word}
 use Rattle.tlv.specs.Number.{number_bytes}
 use Rattle.tlv.specs.Grammar.{Piece, field_bytes, fields_bytes, All}
@@ -14,7 +14,7 @@ pub record Row : Type 0 where
 
 -- a field that every record has
 abbrev pub required : ℕ → List ℕ → Row
-required tag body = record { tag = tag; body = some body }
+required tag body = record { tag = tag; body = Some body }
 
 -- a number of k bytes that is there exactly when the entry has it
 abbrev pub optional : ℕ → ℕ → Option ℕ → Row
@@ -55,8 +55,8 @@ rows_of v =
 
 -- a field in front of others, where it is there
 abbrev pub placed : ℕ → Option (List ℕ) → List Piece → List Piece
-placed tag none ps = ps
-placed tag (some body) ps = record { tag = tag; body = body } ∷ ps
+placed tag None ps = ps
+placed tag (Some body) ps = record { tag = tag; body = body } ∷ ps
 
 -- the fields that are there
 unfoldable pub present : List Row → List Piece
@@ -69,8 +69,8 @@ record_bytes v = field_bytes 0xA1 (fields_bytes (present (rows_of v)))
 
 -- a value that may be absent is below a bound
 abbrev pub Below : ℕ → Option ℕ → Type 0
-Below bound none = Unit {0}
-Below bound (some n) = n < bound
+Below bound None = Unit {0}
+Below bound (Some n) = n < bound
 
 -- a task: one or more bytes below 128, none 32
 pub record TaskText (s : List ℕ) : Type 0 where

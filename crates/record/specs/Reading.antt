@@ -1,11 +1,10 @@
 -- What reading a record answers, and what it leaves in the slots.
 -- Assumes nothing.
-use Rattle.std.specs.Prelude.{ℕ, zero, suc, ◌+◌, ◌/◌, ◌≡◌, cond, List, [], ◌∷◌, ◌++◌, leb, length, drop}
+use Rattle.refusal.specs.declared.Refusal.{Refusal}
+use Rattle.std.specs.Prelude.{ℕ, zero, suc, ◌+◌, ◌/◌, ◌≡◌, cond, List, [], ◌∷◌, ◌++◌, leb, length, drop, Err, Ok, Result}
 use Rattle.text.specs.Told.{Told, is, absent, refused, unless}
 use Rattle.tlv.specs.Number.{number}
 use Rattle.entry.specs.declared.Entry.{Entry}
-use Rattle.record.specs.declared.Answer.{Answer}
-use Rattle.record.specs.declared.Answer.TheVariants as A
 use Rattle.record.specs.Judging.{refusal_of}
 use Rattle.record.specs.Finding.{place_of}
 use Rattle.record.specs.Gathering.{entry_of}
@@ -28,9 +27,9 @@ unfoldable pub dwords_of : List ℕ → List ℕ
 dwords_of t = dwords_at t (place_of t 0x13).from (dword_count t)
 
 -- what each case of an answer tells: the entry, or document 01's number
-abbrev pub answer_told : Answer → Told Entry
-answer_told (A.Entry e) = is e
-answer_told (A.Refused n) = refused n
+abbrev pub answer_told : Result Entry Refusal → Told Entry
+answer_told (Ok e) = is e
+answer_told (Err n) = refused n
 
 -- what is told of a text, with so many slots lent: 30 to 34, then 35, else the entry
 unfoldable pub read_of : List ℕ → ℕ → Told Entry
@@ -43,6 +42,6 @@ slots_by absent new slots = slots
 slots_by (refused n) new slots = slots
 
 -- what a call answers and leaves in the slots
-pub record Reading (t slots : List ℕ) (r : Answer) (left : List ℕ) : Type 0 where
+pub record Reading (t slots : List ℕ) (r : Result Entry Refusal) (left : List ℕ) : Type 0 where
   pub answer : answer_told r ≡ read_of t (length slots)
   pub slots_left : left ≡ slots_by (answer_told r) (dwords_of t) slots

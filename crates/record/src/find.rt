@@ -2,7 +2,6 @@
 ghost use Rattle.std.specs.Prelude.{◌≡◌, ◌≤◌, ◌+◌, length};
 ghost use Rattle.record.specs.Finding.{span_of, is_there, place_of, number_of, byte_of, word_of};
 
-use entry::optional::{MaybeByte, MaybeWord};
 use tlv::{Step, byte_at, eight_at, field_at, four_at, two_at};
 
 // Where a field's body lies.
@@ -113,23 +112,23 @@ pub fn eight_of(text: &[u8], tag: u8) -> u64
 }
 
 // An optional field of one byte.
-pub fn maybe_byte(text: &[u8], tag: u8) -> MaybeByte
+pub fn maybe_byte(text: &[u8], tag: u8) -> Option<u8>
     ensures { result ≡ byte_of text.now tag }
 {
     let span = span_of(text, tag);
     match span {
-        Span::At { from, to: _ } => MaybeByte::Is(byte_at(text, from)),
-        Span::Absent => MaybeByte::Absent,
+        Span::At { from, to: _ } => Some(byte_at(text, from)),
+        Span::Absent => None,
     }
 }
 
 // An optional field of two bytes.
-pub fn maybe_word(text: &[u8], tag: u8) -> MaybeWord
+pub fn maybe_word(text: &[u8], tag: u8) -> Option<u16>
     ensures { result ≡ word_of text.now tag }
 {
     let span = span_of(text, tag);
     match span {
-        Span::At { from, to: _ } => MaybeWord::Is(two_at(text, from)),
-        Span::Absent => MaybeWord::Absent,
+        Span::At { from, to: _ } => Some(two_at(text, from)),
+        Span::Absent => None,
     }
 }

@@ -4,7 +4,6 @@ ghost use Rattle.record.specs.Gathering.{entry_of, origin_of, packet_of, noted_o
 
 use crate::find::{eight_of, four_of, maybe_byte, maybe_word, one_of, place_of, two_of};
 use entry::Entry;
-use entry::optional::{MaybeByte, MaybeWord};
 
 // Who traced, and when.
 #[derive(Clone, Copy)]
@@ -28,13 +27,13 @@ pub struct Packet {
 // What a packet may have.
 #[derive(Clone, Copy)]
 pub struct Noted {
-    pub offset: MaybeWord,
-    pub code: MaybeByte,
-    pub len: MaybeWord,
-    pub port: MaybeByte,
-    pub config: MaybeByte,
-    pub seq: MaybeByte,
-    pub unplug: MaybeByte,
+    pub offset: Option<u16>,
+    pub code: Option<u8>,
+    pub len: Option<u16>,
+    pub port: Option<u8>,
+    pub config: Option<u8>,
+    pub seq: Option<u8>,
+    pub unplug: Option<u8>,
 }
 
 pub fn entry_of(text: &[u8]) -> Entry

@@ -5,7 +5,7 @@ ghost use Rattle.record.specs.Judging.{refusal_of, framed, judged, judge_field, 
 
 use crate::find::is_there;
 use crate::rule::{fits, is_known, rule_of};
-use refusal::{BAD_BODY, BAD_TAG, MISSING_TAG, NO_RECORD, OVERRUN};
+use refusal::Refusal;
 use tlv::{Step, field_at};
 
 // Tags 01 to 0B and 13 are required.

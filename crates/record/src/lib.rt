@@ -19,32 +19,25 @@ use crate::find::place_of;
 use crate::gather::entry_of;
 use crate::judge::refusal;
 use entry::Entry;
-use refusal::FEW_RECORD_SLOTS;
+use refusal::Refusal;
 use tlv::four_at;
-
-// An entry, or document 01's number.
-#[derive(Clone, Copy)]
-pub enum Answer {
-    Entry(Entry),
-    Refused(u8),
-}
 
 // The entry of a record. Its task and function are places of the record; its dwords go to the first slots, and no others change.
 // Refusals: 30; field by field 31, 32, 34; then 33; then 35. They leave the slots as found.
-pub fn read(text: &[u8], slots: &mut [u32]) -> Answer
+pub fn read(text: &[u8], slots: &mut [u32]) -> Result<Entry, Refusal>
     ensures { Reading text.now slots.old result slots.new }
 {
     let number = refusal(text);
     if number != 0 {
-        return Answer::Refused(number);
+        return Err(number);
     }
     let data = place_of(text, 0x13);
     let n = data.len / 4;
     if slots.len() < n {
-        return Answer::Refused(FEW_RECORD_SLOTS);
+        return Err(Refusal::FewRecordSlots);
     }
     copy_dwords(text, data.from, n, slots);
-    Answer::Entry(entry_of(text))
+    Ok(entry_of(text))
 }
 
 // The n dwords from a place on, into the first n slots.

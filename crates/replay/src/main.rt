@@ -18,12 +18,6 @@ struct Head {
     pieces: Pieces,
 }
 
-#[derive(Clone, Copy)]
-enum HeadAnswer {
-    Got(Head),
-    End,
-}
-
 // How much of the output waits to be written, and whether frames may follow.
 #[derive(Clone, Copy)]
 struct Step {
@@ -72,8 +66,8 @@ fn answer_next(
     ensures { result.at ≤ length out.old }
 {
     match read_head(streams.input) {
-        HeadAnswer::Got(head) => answer_frame(streams, line, slots, out, at, head),
-        HeadAnswer::End => Step {
+        Some(head) => answer_frame(streams, line, slots, out, at, head),
+        None => Step {
             at: at,
             more: false,
         },
@@ -126,15 +120,15 @@ fn read_full(mut from: Stdin, buf: &mut [u8]) -> usize
     }
 }
 
-fn read_head(from: Stdin) -> HeadAnswer {
+fn read_head(from: Stdin) -> Option<Head> {
     let mut bytes = [0u8; 9];
     let got = read_full(from, &mut bytes);
     if got < 9 {
-        return HeadAnswer::End;
+        return None;
     }
     let length = number(bytes[0], bytes[1], bytes[2], bytes[3]);
     let slots = number(bytes[4], bytes[5], bytes[6], bytes[7]);
-    HeadAnswer::Got(Head {
+    Some(Head {
         length: length,
         slots: slots,
         pieces: choice(bytes[8]),

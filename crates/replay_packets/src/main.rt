@@ -21,21 +21,9 @@ struct Group {
 }
 
 #[derive(Clone, Copy)]
-enum GroupAnswer {
-    Got(Group),
-    End,
-}
-
-#[derive(Clone, Copy)]
 struct Head {
     length: usize,
     places: usize,
-}
-
-#[derive(Clone, Copy)]
-enum HeadAnswer {
-    Got(Head),
-    End,
 }
 
 // How much of the output waits to be written, and whether more of the input may follow.
@@ -86,8 +74,8 @@ fn answer_next(
     ensures { result.at ≤ length out.old }
 {
     match read_group(streams.input) {
-        GroupAnswer::Got(group) => answer_group(streams, book, names, out, at, group),
-        GroupAnswer::End => ended(at),
+        Some(group) => answer_group(streams, book, names, out, at, group),
+        None => ended(at),
     }
 }
 
@@ -166,8 +154,8 @@ fn answer_packet(streams: Streams, book: &[u8], names: &[u8], out: &mut [u8], at
     ensures { result.at ≤ length out.old }
 {
     match read_head(streams.input) {
-        HeadAnswer::Got(head) => answer_body(streams, book, names, out, at, head),
-        HeadAnswer::End => ended(at),
+        Some(head) => answer_body(streams, book, names, out, at, head),
+        None => ended(at),
     }
 }
 
@@ -247,26 +235,26 @@ fn read_full(mut from: Stdin, buf: &mut [u8]) -> usize
     }
 }
 
-fn read_group(from: Stdin) -> GroupAnswer {
+fn read_group(from: Stdin) -> Option<Group> {
     let mut bytes = [0u8; 12];
     let got = read_full(from, &mut bytes);
     if got < 12 {
-        return GroupAnswer::End;
+        return None;
     }
-    GroupAnswer::Got(Group {
+    Some(Group {
         book: four_at(&bytes, 0) as usize,
         names: four_at(&bytes, 4) as usize,
         packets: four_at(&bytes, 8) as usize,
     })
 }
 
-fn read_head(from: Stdin) -> HeadAnswer {
+fn read_head(from: Stdin) -> Option<Head> {
     let mut bytes = [0u8; 8];
     let got = read_full(from, &mut bytes);
     if got < 8 {
-        return HeadAnswer::End;
+        return None;
     }
-    HeadAnswer::Got(Head {
+    Some(Head {
         length: four_at(&bytes, 0) as usize,
         places: four_at(&bytes, 4) as usize,
     })

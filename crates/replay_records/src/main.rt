@@ -21,12 +21,6 @@ struct Head {
     change: Change,
 }
 
-#[derive(Clone, Copy)]
-enum HeadAnswer {
-    Got(Head),
-    End,
-}
-
 // How much of the output waits to be written, and whether frames may follow.
 #[derive(Clone, Copy)]
 struct Step {
@@ -68,8 +62,8 @@ fn answer_next(streams: Streams, text: &mut [u8], out: &mut [u8], at: usize) -> 
     ensures { result.at ≤ length out.old }
 {
     match read_head(streams.input) {
-        HeadAnswer::Got(head) => answer_frame(streams, text, out, at, head),
-        HeadAnswer::End => Step {
+        Some(head) => answer_frame(streams, text, out, at, head),
+        None => Step {
             at: at,
             more: false,
         },
@@ -131,13 +125,13 @@ fn read_full(mut from: Stdin, buf: &mut [u8]) -> usize
     }
 }
 
-fn read_head(from: Stdin) -> HeadAnswer {
+fn read_head(from: Stdin) -> Option<Head> {
     let mut bytes = [0u8; 15];
     let got = read_full(from, &mut bytes);
     if got < 15 {
-        return HeadAnswer::End;
+        return None;
     }
-    HeadAnswer::Got(Head {
+    Some(Head {
         length: two_at(&bytes, 0) as usize,
         slots: two_at(&bytes, 2) as usize,
         room: two_at(&bytes, 4) as usize,

@@ -1,5 +1,9 @@
 -- No call answers 10: a line's number, a record's and a packet's each have a table of conditions, in which 10 applies to nothing, and every call that is given a text tells a number
 -- of these tables, or 36 or 37 of the writer, or 50 or 51 of the table of requests, or 53 to 55 of a stream. Assumes nothing.
+use Rattle.std.specs.Prelude.{Err, None, Ok, Option, Result, Some}
+use Rattle.refusal.specs.declared.Refusal.{Refusal}
+use Rattle.refusal.specs.declared.Refusal.TheVariants as Refusal
+use Rattle.book.specs.declared.Uuid.{Uuid}
 use Prim.Native.Nat.{ℕ}
 use mathlib.Core.Path.{◌≡◌, refl, sym, ap, ◌∙◌}
 use mathlib.Core.Bool.{Bool, true, false, cond}
@@ -26,8 +30,6 @@ use Rattle.reasons.specs.Reasons as Reasons
 use Rattle.reasons.specs.Reasons.{payload_from, payload_place, key_in, key_answer, piece_answer}
 use Rattle.reasons.proofs.Theorems.{key_exactly, piece_exactly}
 use Rattle.packet.specs.declared.Packet.{Packet}
-use Rattle.packet.specs.declared.MaybeUuid.{MaybeUuid}
-use Rattle.packet.specs.declared.MaybeUuid.TheVariants as U
 use Rattle.packet.specs.Conditions.{Condition}
 use Rattle.packet.specs.Packet as Packets
 use Rattle.packet.proofs.Theorems.{packet_number_exactly}
@@ -65,8 +67,6 @@ use Rattle.c_entry.specs.declared.Flat.{Flat}
 use Rattle.c_entry.specs.Flat.{entry_of, in_range, raise_of}
 use Rattle.capi.specs.declared.EntryAnswer.{EntryAnswer}
 use Rattle.capi.specs.declared.hexes.HexAnswer.{HexAnswer}
-use Rattle.capi.specs.declared.hexes.MaybeKey.{MaybeKey}
-use Rattle.capi.specs.declared.hexes.MaybeKey.TheVariants as M
 use Rattle.capi.specs.Calls.{answer_by, what_by, written_by, write_for}
 use Rattle.capi.specs.Packets as C
 use Rattle.capi.specs.declared.streams.StreamAnswer.{StreamAnswer}
@@ -75,8 +75,6 @@ use Rattle.units.specs.declared.Framing.TheVariants.{Both}
 use Rattle.units.specs.declared.State.{State}
 use Rattle.units.specs.Units.{stated}
 use Rattle.units.specs.Kept.{is_long, is_kept}
-use Rattle.stream.specs.declared.Answer as Stream
-use Rattle.stream.specs.declared.Answer.TheVariants as St
 use Rattle.stream.specs.declared.Fed.{Fed}
 use Rattle.stream.specs.declared.Finished.{Finished}
 use Rattle.stream.specs.Answers.{answer_of, answer_told as streamTold}
@@ -143,17 +141,17 @@ unit_never pieces t b room = by (starts_a1 t) (is_long t) (ltb (length t) (state
     by false y z = line_never pieces t room
 
 -- a stream's call tells a unit's number, or 53
-alien_never : {a : Stream.Answer} → a ≡ St.Refused 53 → a ≡ St.Refused 10 → ⊥
+alien_never : {a : Result (Option Entry) Refusal} → a ≡ Err Refusal.NoStream → a ≡ Err 10 → ⊥
 alien_never q e = let n : ◌≡◌ {A = ℕ} 53 10 = cc in omega (arith, n)
 
-fed_never : (pieces : Pieces) (part rest : List ℕ) → Bytes part → Bytes rest → (slots : List ℕ) (st : State) (rest' slots' : List ℕ) (r : Fed) → FeedDone pieces part rest slots st rest' slots' r → r.answer ≡ St.Refused 10 → ⊥
+fed_never : (pieces : Pieces) (part rest : List ℕ) → Bytes part → Bytes rest → (slots : List ℕ) (st : State) (rest' slots' : List ℕ) (r : Fed) → FeedDone pieces part rest slots st rest' slots' r → r.answer ≡ Err 10 → ⊥
 fed_never pieces part rest bp br slots st rest' slots' r x e = go (is_kept Both rest st.held st.passed) refl
   where
     go : (b : Bool) → is_kept Both rest st.held st.passed ≡ b → ⊥
     go false q = alien_never (ap (λ (y : Fed). y.answer) (x.alien q).0) e
     go true q = let u = feed_unit pieces part rest slots st rest' slots' r bp br x q e in unit_never pieces u.0 u.1.0 (length slots) u.1.1
 
-ended_never : (pieces : Pieces) (rest : List ℕ) → Bytes rest → (slots : List ℕ) (st : State) (slots' : List ℕ) (r : Finished) → FinishDone pieces rest slots st slots' r → r.answer ≡ St.Refused 10 → ⊥
+ended_never : (pieces : Pieces) (rest : List ℕ) → Bytes rest → (slots : List ℕ) (st : State) (slots' : List ℕ) (r : Finished) → FinishDone pieces rest slots st slots' r → r.answer ≡ Err 10 → ⊥
 ended_never pieces rest br slots st slots' r x e = go (is_kept Both rest st.held st.passed) refl
   where
     go : (b : Bool) → is_kept Both rest st.held st.passed ≡ b → ⊥
@@ -161,11 +159,11 @@ ended_never pieces rest br slots st slots' r x e = go (is_kept Both rest st.held
     go true q = let u = end_unit pieces rest slots st slots' r br x q e in unit_never pieces u.0 u.1.0 (length slots) u.1.1
 
 -- as a plain struct
-stream_number : (at : ℕ) (st : State) (a : Stream.Answer) → (a ≡ St.Refused 10 → ⊥) → {r : StreamAnswer} → r ≡ stream_by at st (streamTold a) → r.number ≡ 10 → ⊥
+stream_number : (at : ℕ) (st : State) (a : Result (Option Entry) Refusal) → (a ≡ Err 10 → ⊥) → {r : StreamAnswer} → r ≡ stream_by at st (streamTold a) → r.number ≡ 10 → ⊥
 unfolding stream_by
-stream_number at st (St.Entry e) n c h = let z : ◌≡◌ {A = ℕ} 0 10 = sym (ap (λ (y : StreamAnswer). y.number) c) ∙ h in omega (arith, z)
-stream_number at st (St.Refused k) n c h = let z : k ≡ 10 = sym (ap (λ (y : StreamAnswer). y.number) c) ∙ h in n (ap St.Refused z)
-stream_number at st St.Nothing n c h = let z : ◌≡◌ {A = ℕ} 0 10 = sym (ap (λ (y : StreamAnswer). y.number) c) ∙ h in omega (arith, z)
+stream_number at st (Ok (Some e)) n c h = let z : ◌≡◌ {A = ℕ} 0 10 = sym (ap (λ (y : StreamAnswer). y.number) c) ∙ h in omega (arith, z)
+stream_number at st (Err k) n c h = let z : k ≡ 10 = sym (ap (λ (y : StreamAnswer). y.number) c) ∙ h in n (ap Err z)
+stream_number at st (Ok None) n c h = let z : ◌≡◌ {A = ℕ} 0 10 = sym (ap (λ (y : StreamAnswer). y.number) c) ∙ h in omega (arith, z)
 
 packet_never : (kind : ℕ) (s : List ℕ) → Bytes s → (ds : List ℕ) (room : ℕ) → Never (Packets.parse_of kind s ds room)
 unfolding Packets.parse_of Condition
@@ -215,10 +213,10 @@ write_for_never : (text : List ℕ) (f : Flat) (dwords : List ℕ) (room : ℕ) 
 unfolding write_for
 write_for_never text f dwords room = then_never (raise_of f) (λ e. write_of text e dwords room) (raised_never f) (λ e. write_never text e dwords room)
 
-asked_never : (t : List ℕ) (key : MaybeKey) → Never (key_told t key)
+asked_never : (t : List ℕ) (key : Option Key) → Never (key_told t key)
 unfolding key_told other_key
-asked_never t (M.Is key) = key_never t key
-asked_never t M.Other = then_never (payload_place t) (λ p. T.absent) (payload_never t) (λ p. other T.absent (λ n. omega arith))
+asked_never t (Some key) = key_never t key
+asked_never t None = then_never (payload_place t) (λ p. T.absent) (payload_never t) (λ p. other T.absent (λ n. omega arith))
 
 -- a number that is told is that of a refusal
 number_never : {A : Type 0} (told : Told A) → Never told → number_in told ≡ 10 → ⊥
@@ -253,9 +251,9 @@ packet_number : (told : Told Packet) → (C.text_by told).packet.number ≡ numb
 unfolding C.text_by C.of_packet C.packet_by C.made_by
 packet_number (T.is p) = by p.uuid
   where
-    by : (u : MaybeUuid) → (C.uuid_by 0 p.start u).number ≡ 0
-    by (U.Is w) = refl
-    by U.Absent = refl
+    by : (u : Option Uuid) → (C.uuid_by 0 p.start u).number ≡ 0
+    by (Some w) = refl
+    by None = refl
 packet_number T.absent = refl
 packet_number (T.refused k) = refl
 

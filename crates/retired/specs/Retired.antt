@@ -2,30 +2,19 @@
 -- answer: of each call of the crates that is given a line, a record or an entry's text and answers a number, of each call for C that is, and of what the programs' rows are made
 -- from. Calls that are given a part of a line, its header or its payload, hand their numbers to `parse`.
 -- How to read it: `a ≡ b` is "a equals b"; `P → Q` "if P then Q"; `P → ⊥` "P never holds"; `(x : A) → P` "for every x, P".
-use Rattle.std.specs.Prelude.{ℕ, ◌≡◌, List, length}
+use Rattle.refusal.specs.declared.Refusal.{Refusal}
+use Rattle.packet.specs.declared.Packet.{Packet}
+use Rattle.reasons.specs.declared.HexText.{HexText}
+use Rattle.std.specs.Prelude.{ℕ, ◌≡◌, List, length, Err, None, Ok, Option, Result, Some}
 use Rattle.tlv.specs.Number.{Bytes}
 use Rattle.entry.specs.declared.Entry.{Entry}
 use Rattle.scan.specs.declared.Pieces.{Pieces}
-use Rattle.scan.specs.declared.Answer as Line
-use Rattle.scan.specs.declared.Answer.TheVariants as L
-use Rattle.scan.specs.declared.frame.FrameAnswer as Frame
-use Rattle.scan.specs.declared.frame.FrameAnswer.TheVariants as F
 use Rattle.scan.specs.Frame.{frame_told, frame_of}
 use Rattle.scan.specs.Parse as Parse
 use Rattle.reasons.specs.declared.Key.{Key}
-use Rattle.reasons.specs.declared.Answer as Hex
-use Rattle.reasons.specs.declared.Answer.TheVariants as H
-use Rattle.reasons.specs.declared.payload.Payload as Payload
-use Rattle.reasons.specs.declared.payload.Payload.TheVariants as Of
 use Rattle.reasons.specs.Reasons.{answer_told, key_answer, piece_answer, PayloadAt}
-use Rattle.packet.specs.declared.Answer as Packet
-use Rattle.packet.specs.declared.Answer.TheVariants as P
-use Rattle.record.specs.declared.Answer as Record
-use Rattle.record.specs.declared.Answer.TheVariants as R
 use Rattle.record.specs.Judging.{refusal_of}
 use Rattle.record.specs.Reading.{Reading, read_of, dwords_of}
-use Rattle.writer.specs.declared.Written.{Written}
-use Rattle.writer.specs.declared.Written.TheVariants as W
 use Rattle.writer.specs.Writing.{Writing}
 use Rattle.intake.specs.declared.What.{What}
 use Rattle.intake.specs.declared.What.TheVariants as Is
@@ -50,7 +39,6 @@ use Rattle.capi.specs.Calls.{Read, LineRead, EitherRead, what_by, Wrote}
 use Rattle.capi.specs.Packets.{TextRead}
 use Rattle.capi.specs.Hexes.{hex_by, key_numbered, key_told}
 use Rattle.units.specs.declared.State.{State}
-use Rattle.stream.specs.declared.Answer.TheVariants as St
 use Rattle.stream.specs.declared.Fed.{Fed}
 use Rattle.stream.specs.declared.Finished.{Finished}
 use Rattle.stream.specs.Feeding.{FeedDone, FinishDone}
@@ -60,34 +48,34 @@ use Rattle.capi.specs.Streams.{StreamFed, StreamEnded}
 -- The calls of the crates.
 pub record CallsNever : Type 0 where
   -- `parse` of `scan`, strict and lenient.
-  pub parse : (pieces : Pieces) (text slots left : List ℕ) (answer : Line.Answer) → Parse.Parsed pieces text slots left answer → answer ≡ L.Refused 10 → ⊥
+  pub parse : (pieces : Pieces) (text slots left : List ℕ) (answer : Result Entry Refusal) → Parse.Parsed pieces text slots left answer → answer ≡ Err 10 → ⊥
   -- `read_frame` of `scan`, which parts a line.
-  pub read_frame : (text : List ℕ) (answer : Frame.FrameAnswer) → frame_told answer ≡ frame_of text → answer ≡ F.Refused 10 → ⊥
+  pub read_frame : (text : List ℕ) (answer : Result ℕ Refusal) → frame_told answer ≡ frame_of text → answer ≡ Err 10 → ⊥
   -- `ask_key` of `reasons`.
-  pub ask_key : (text : List ℕ) (key : Key) (answer : Hex.Answer) → answer_told answer ≡ key_answer text key → answer ≡ H.Refused 10 → ⊥
+  pub ask_key : (text : List ℕ) (key : Key) (answer : Result (Option HexText) Refusal) → answer_told answer ≡ key_answer text key → answer ≡ Err 10 → ⊥
   -- `ask_piece` of `reasons`.
-  pub ask_piece : (text : List ℕ) (i : ℕ) (answer : Hex.Answer) → answer_told answer ≡ piece_answer text i → answer ≡ H.Refused 10 → ⊥
+  pub ask_piece : (text : List ℕ) (i : ℕ) (answer : Result (Option HexText) Refusal) → answer_told answer ≡ piece_answer text i → answer ≡ Err 10 → ⊥
   -- `payload_of` of `reasons`.
-  pub payload_of : (text : List ℕ) (answer : Payload.Payload) → PayloadAt text answer → answer ≡ Of.Refused 10 → ⊥
+  pub payload_of : (text : List ℕ) (answer : Result Place Refusal) → PayloadAt text answer → answer ≡ Err 10 → ⊥
   -- `read` of `record`; the text is bytes, as every lent text is.
-  pub record_read : (text : List ℕ) → Bytes text → (slots left : List ℕ) (answer : Record.Answer) → Reading text slots answer left → answer ≡ R.Refused 10 → ⊥
+  pub record_read : (text : List ℕ) → Bytes text → (slots left : List ℕ) (answer : Result Entry Refusal) → Reading text slots answer left → answer ≡ Err 10 → ⊥
   -- `refusal` of `record`, whose answer is a bare number.
   pub refusal : (text : List ℕ) → Bytes text → (answer : ℕ) → answer ≡ refusal_of text → answer ≡ 10 → ⊥
   -- `write` of `writer`, whatever the entry.
-  pub write : (text : List ℕ) (e : Entry) (dwords buffer left : List ℕ) (answer : Written) → Writing text e dwords buffer answer left → answer ≡ W.Refused 10 → ⊥
+  pub write : (text : List ℕ) (e : Entry) (dwords buffer left : List ℕ) (answer : Result ℕ Refusal) → Writing text e dwords buffer answer left → answer ≡ Err 10 → ⊥
   -- `read` of `intake`, strict and lenient.
-  pub read : (pieces : Pieces) (text : List ℕ) → Bytes text → (slots left : List ℕ) (answer : Line.Answer) → Taken pieces text slots left answer → answer ≡ L.Refused 10 → ⊥
+  pub read : (pieces : Pieces) (text : List ℕ) → Bytes text → (slots left : List ℕ) (answer : Result Entry Refusal) → Taken pieces text slots left answer → answer ≡ Err 10 → ⊥
   -- `packet` of `intake`, strict and lenient, over any book; the book is bytes, as every lent book is.
-  pub packet : (pieces : Pieces) (text : List ℕ) → Bytes text → (book : List ℕ) → Bytes book → (slots slots_left places places_left : List ℕ) (answer : Packet.Answer)
-      → PacketTaken pieces text book slots slots_left places places_left answer → answer ≡ P.Refused 10 → ⊥
+  pub packet : (pieces : Pieces) (text : List ℕ) → Bytes text → (book : List ℕ) → Bytes book → (slots slots_left places places_left : List ℕ) (answer : Result Packet Refusal)
+      → PacketTaken pieces text book slots slots_left places places_left answer → answer ≡ Err 10 → ⊥
   -- `what_is` of `intake`, strict and lenient.
   pub what_is : (pieces : Pieces) (text : List ℕ) → Bytes text → (answer : What) → what_told answer ≡ what_of pieces text → answer ≡ Is.Neither 10 → ⊥
   -- `feed` of `stream`, whatever is kept; part and buffer are bytes, as all that is lent.
   pub stream_feed : (pieces : Pieces) (part rest : List ℕ) → Bytes part → Bytes rest → (slots : List ℕ) (state : State) (rest_left slots_left : List ℕ) (answer : Fed)
-      → FeedDone pieces part rest slots state rest_left slots_left answer → answer.answer ≡ St.Refused 10 → ⊥
+      → FeedDone pieces part rest slots state rest_left slots_left answer → answer.answer ≡ Err 10 → ⊥
   -- `finish` of `stream`.
   pub stream_finish : (pieces : Pieces) (rest : List ℕ) → Bytes rest → (slots : List ℕ) (state : State) (slots_left : List ℕ) (answer : Finished)
-      → FinishDone pieces rest slots state slots_left answer → answer.answer ≡ St.Refused 10 → ⊥
+      → FinishDone pieces rest slots state slots_left answer → answer.answer ≡ Err 10 → ⊥
 
 -- The calls for C. Their strict forms and their lenient ones are told apart by the choice.
 pub record CallsForCNever : Type 0 where

@@ -1,9 +1,8 @@
 -- Texts that were said, one behind the other.
-use Rattle.std.specs.Prelude.{ℕ, ◌+◌, ◌≤◌, ◌<◌, ◌≡◌, List, [], ◌∷◌, ◌++◌, length}
+use Rattle.entry.specs.declared.events.Event.{Event}
+use Rattle.std.specs.Prelude.{ℕ, ◌+◌, ◌≤◌, ◌<◌, ◌≡◌, List, [], ◌∷◌, ◌++◌, length, None, Option, Some}
 use Rattle.channel.specs.declared.sink.Sink.{Sink}
 use Rattle.channel.specs.Sink.{Waits}
-use Rattle.entry.specs.declared.optional.MaybeEvent.{MaybeEvent}
-use Rattle.entry.specs.declared.optional.MaybeEvent.TheVariants as E
 use Rattle.entry.specs.Event.{name_of}
 use Rattle.escape.specs.Escape.{escaped}
 
@@ -18,6 +17,6 @@ name_text word [] = []
 name_text word (b ∷ s) = word ++ escaped (b ∷ s)
 
 -- a word and then the name that an event prints; nothing for no event
-unfoldable pub event_text : List ℕ → MaybeEvent → List ℕ
-event_text word (E.Is e) = word ++ name_of e
-event_text word E.Absent = []
+unfoldable pub event_text : List ℕ → Option Event → List ℕ
+event_text word (Some e) = word ++ name_of e
+event_text word None = []

@@ -15,7 +15,6 @@ ghost use Rattle.saying.specs.Telling.{Told, name_text, event_text};
 
 use channel::sink::{Sink, say};
 use entry::events::name_of;
-use entry::optional::MaybeEvent;
 use escape::put_escaped;
 use print::hex::put_dword;
 use print::put::put_decimal;
@@ -75,18 +74,18 @@ pub fn say_number(output: Stdout, out: &mut [u8], sink: Sink, word: &[u8], n: u6
 }
 
 // A word and then the name that an event prints; nothing for no event.
-pub fn say_event(output: Stdout, out: &mut [u8], sink: Sink, word: &[u8], what: MaybeEvent) -> Sink
+pub fn say_event(output: Stdout, out: &mut [u8], sink: Sink, word: &[u8], what: Option<Event>) -> Sink
     ensures { Told out.old sink (event_text word.now what) out.new result }
 {
     match what {
-        MaybeEvent::Is(e) => {
+        Some(e) => {
             let name = name_of(e);
             let bytes = name.bytes;
             let end = name.len;
             let worded = say(output, out, sink, word);
             say(output, out, worded, &bytes[..end])
         }
-        MaybeEvent::Absent => sink,
+        None => sink,
     }
 }
 

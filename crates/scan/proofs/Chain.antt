@@ -1,10 +1,10 @@
 -- The chain of numbers: an answer is the number of the first check whose condition holds, or an entry where none does. Each stage hands on that no
 -- earlier check's number applies, and two laws carry every number: one for a test, one for something that must be there. Assumes nothing.
+use Rattle.std.specs.Prelude.{None, Option, Some}
 use Prim.Native.Nat.{ℕ, suc, ◌+◌, ◌≤◌, ◌<◌}
 use mathlib.Core.Path.{◌≡◌, refl}
 use mathlib.Core.Bool.{Bool, true, false, cond}
 use mathlib.Core.List.{List}
-use mathlib.Core.Option.{Option, some, none}
 use native.Mathlib.Omega.{arith}
 use lib.Dec.{ltb, eqb}
 use borrow.Author.Tests.{eqb-true, eqb-false, ltb-true, ltb-false}
@@ -82,12 +82,12 @@ module _ (pieces : Pieces) (t : List ℕ) (room : ℕ) where
 
   pub clear_starts : Clear 1
   unfolding Condition
-  clear_starts j h c = let e : j ≡ 0 = none (placed j) h in rw e at c
+  clear_starts j h c = let e : j ≡ 0 = None (placed j) h in rw e at c
     where
       none : {a : ℕ} → Placed j a → a < 1 → j ≡ 0
-      none (early x p) l = omega arith
-      none (between x p) l = omega arith
-      none (late x n p) l = omega arith
+      None (early x p) l = omega arith
+      None (between x p) l = omega arith
+      None (late x n p) l = omega arith
 
   pub clear_next : (k : ℕ) → Clear (order_of k) → (Condition pieces t room k → ⊥) → Clear (suc (order_of k))
   clear_next k f n j h c =
@@ -105,6 +105,6 @@ module _ (pieces : Pieces) (t : List ℕ) (room : ℕ) where
     refuse g k false x y e c p q = (q refl).1 (clear_next k c (q refl).0)
 
     -- something that must be there: without it the number applies, with it the rest is judged
-    pub check : {X B : Type 0} (g : B → T.Told Entry) (k : ℕ) (o : Option X) (x : B) (f : X → B) → g x ≡ T.refused k → Clear (order_of k) → (o ≡ none → Condition pieces t room k) → ((a : X) → o ≡ some a → (Condition pieces t room k → ⊥) × (Clear (suc (order_of k)) → Answered (g (f a)))) → Answered (g (need x o f))
-    check g k none x f e c p q = rw e (refused k (record { holds = p refl; first = c }))
-    check g k (some a) x f e c p q = (q a refl).1 (clear_next k c (q a refl).0)
+    pub check : {X B : Type 0} (g : B → T.Told Entry) (k : ℕ) (o : Option X) (x : B) (f : X → B) → g x ≡ T.refused k → Clear (order_of k) → (o ≡ None → Condition pieces t room k) → ((a : X) → o ≡ Some a → (Condition pieces t room k → ⊥) × (Clear (suc (order_of k)) → Answered (g (f a)))) → Answered (g (need x o f))
+    check g k None x f e c p q = rw e (refused k (record { holds = p refl; first = c }))
+    check g k (Some a) x f e c p q = (q a refl).1 (clear_next k c (q a refl).0)

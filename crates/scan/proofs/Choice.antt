@@ -1,11 +1,13 @@
 -- Strict and lenient: every condition but that of 18 is the same in both, so the two chains of checks part only there; and where no piece is bad the
 -- two readings are one term. Assumes nothing.
+use Rattle.std.specs.Prelude.{Err, None, Ok, Option, Result, Some}
+use Rattle.refusal.specs.declared.Refusal.{Refusal}
+use Rattle.refusal.specs.declared.Refusal.TheVariants as Refusal
 use Prim.Native.Nat.{ℕ, ◌≤◌, ◌<◌}
 use mathlib.Core.Path.{◌≡◌, refl, sym, ap, ◌∙◌}
 use mathlib.Core.Bool.{Bool, true, false}
 use mathlib.Core.List.{List, []}
 use mathlib.Core.Logic.{◌↔◌}
-use mathlib.Core.Option.{Option, some, none}
 use native.Mathlib.Omega.{arith}
 use lib.ListN.{length}
 use borrow.Author.Tests.{ne_eqb}
@@ -21,8 +23,6 @@ use Rattle.pairs.specs.Data.{Cut, BadAmong, inside_of, data_in, data_of, bad_in,
 use Rattle.pairs.specs.Data as Data
 use Rattle.scan.specs.declared.Pieces.{Pieces}
 use Rattle.scan.specs.declared.Pieces.TheVariants.{Strict, Lenient}
-use Rattle.scan.specs.declared.Answer.{Answer}
-use Rattle.scan.specs.declared.Answer.TheVariants as A
 use Rattle.scan.specs.Need.{need}
 use Rattle.scan.specs.Frame.{frame_of}
 use Rattle.scan.specs.Body.{text_at}
@@ -39,17 +39,17 @@ use Rattle.scan.proofs.Theorems.{same_payload, past_table, line_entry_is, line_n
 -- ---- where no piece is bad
 
 -- a bad piece stands in brackets
-bad_in_data : (p : List ℕ) → payload_bad p ≡ true → (ds : List ℕ) × (payload_data p ≡ some ds)
+bad_in_data : (p : List ℕ) → payload_bad p ≡ true → (ds : List ℕ) × (payload_data p ≡ Some ds)
 unfolding payload_bad payload_data bad_data bad_in data_of data_in
 bad_in_data p b = by_text (text_at p (last_pair p (bytes "data"))) b
   where
-    by_inside : (value : List ℕ) (s : Span) → bad_in value s ≡ true → (ds : List ℕ) × (data_in value s ≡ some ds)
+    by_inside : (value : List ℕ) (s : Span) → bad_in value s ≡ true → (ds : List ℕ) × (data_in value s ≡ Some ds)
     by_inside value (At x y) e = (_, refl)
     by_inside value Nothing e = absurd (clash e refl)
 
-    by_text : (o : Option (List ℕ)) → need false o bad_data ≡ true → (ds : List ℕ) × (need none o data_of ≡ some ds)
-    by_text (some value) e = by_inside value (inside_of value) e
-    by_text none e = absurd (clash e refl)
+    by_text : (o : Option (List ℕ)) → need false o bad_data ≡ true → (ds : List ℕ) × (need None o data_of ≡ Some ds)
+    by_text (Some value) e = by_inside value (inside_of value) e
+    by_text None e = absurd (clash e refl)
 
 module _ (t : List ℕ) {k : ℕ} (framed : frame_of t ≡ T.is k) where
   has_bad : payload_bad (payload_of t k) ≡ true → Has t BadPiece
@@ -100,10 +100,10 @@ module _ (t : List ℕ) (room : ℕ) where
       }
 
   -- a number of lenient behind 15
-  late_number : (k : ℕ) → Condition Lenient t room k → (order_of k < 16 → ⊥) → Behind15 (A.Refused k)
+  late_number : (k : ℕ) → Condition Lenient t room k → (order_of k < 16 → ⊥) → Behind15 (Err k)
   late_number k c l = go (λ e. lenient_no_18 (rw e at c)) (λ h. past_table Lenient t room k h c)
     where
-      go : (k ≡ 18 → ⊥) → (19 ≤ k → ⊥) → Behind15 (A.Refused k)
+      go : (k ≡ 18 → ⊥) → (19 ≤ k → ⊥) → Behind15 (Err k)
       go n m =
           let low : 16 ≤ k = late_order k l n in
           by_order k 17 (λ h. let e : k ≡ 16 = omega arith in rw e Behind15.many_dwords) (λ e. rw e Behind15.few_slots) (λ h. absurd (m (omega (arith, n))))
@@ -119,49 +119,49 @@ module _ (t : List ℕ) (room : ℕ) where
 -- ---- two calls
 
 -- the number that a call answers
-call_number : (pieces : Pieces) (t out : List ℕ) {answer : Answer} {left : List ℕ} → Parsed pieces t out left answer → (k : ℕ) → (answer ≡ A.Refused k) ↔ Applies pieces t (length out) k
+call_number : (pieces : Pieces) (t out : List ℕ) {answer : Result Entry Refusal} {left : List ℕ} → Parsed pieces t out left answer → (k : ℕ) → (answer ≡ Err k) ↔ Applies pieces t (length out) k
 call_number pieces t out {answer} p k =
     let exactly = line_number_exactly pieces t (length out) k in
-    ((λ e. exactly.0 (sym p.answer ∙ ap answer_told e)), (λ a. one_line_answer answer (A.Refused k) (p.answer ∙ exactly.1 a)))
+    ((λ e. exactly.0 (sym p.answer ∙ ap answer_told e)), (λ a. one_line_answer answer (Err k) (p.answer ∙ exactly.1 a)))
 
-module _ {t out : List ℕ} {strict : Answer} {left : List ℕ} {lenient : Answer} {left' : List ℕ} (both : BothCalls t out strict left lenient left') where
+module _ {t out : List ℕ} {strict : Result Entry Refusal} {left : List ℕ} {lenient : Result Entry Refusal} {left' : List ℕ} (both : BothCalls t out strict left lenient left') where
   calls_same : (Has t BadPiece → ⊥) → (strict ≡ lenient) × (left ≡ left')
   calls_same n =
       let e : answer_told strict ≡ answer_told lenient = both.strict_call.answer ∙ same_reading t (length out) n ∙ sym both.lenient_call.answer in
       (one_line_answer strict lenient e, both.strict_call.slots ∙ rw e (sym both.lenient_call.slots))
 
-  strict_number : (k : ℕ) → (strict ≡ A.Refused k) ↔ Applies Strict t (length out) k
+  strict_number : (k : ℕ) → (strict ≡ Err k) ↔ Applies Strict t (length out) k
   strict_number = call_number Strict t out both.strict_call
 
-  lenient_number : (k : ℕ) → (lenient ≡ A.Refused k) ↔ Applies Lenient t (length out) k
+  lenient_number : (k : ℕ) → (lenient ≡ Err k) ↔ Applies Lenient t (length out) k
   lenient_number = call_number Lenient t out both.lenient_call
 
   -- behind 18 of strict stands what lenient says
-  behind_18 : Applies Strict t (length out) 18 → (r : Answer) → lenient ≡ r → Behind15 r
+  behind_18 : Applies Strict t (length out) 18 → (r : Result Entry Refusal) → lenient ≡ r → Behind15 r
   unfolding order_of
-  behind_18 a (A.Entry e) q = Behind15.accepted e
-  behind_18 a (A.Refused k) q =
+  behind_18 a (Ok e) q = Behind15.accepted e
+  behind_18 a (Err k) q =
       let b = (lenient_number k).0 q in
       late_number t (length out) k b.holds (λ l. a.first k l (condition_either t (length out) Lenient Strict k (λ e. lenient_no_18 t (length out) (rw e at b.holds)) b.holds))
 
   -- and before it nothing that lenient would refuse
-  clear_18 : (r : Answer) → lenient ≡ r → Behind15 r → Clear Lenient t (length out) 16
+  clear_18 : (r : Result Entry Refusal) → lenient ≡ r → Behind15 r → Clear Lenient t (length out) 16
   unfolding order_of
   clear_18 r q (Behind15.accepted e) j l = accepted_clears t (length out) Lenient (sym both.lenient_call.answer ∙ ap answer_told q) j (omega arith)
   clear_18 r q Behind15.many_dwords j l = ((lenient_number 16).0 q).first j (omega arith)
   clear_18 r q Behind15.few_slots j l = ((lenient_number 17).0 q).first j (omega arith)
 
-  eighteen : (strict ≡ A.Refused 18) ↔ (Has t BadPiece × Behind15 lenient)
+  eighteen : (strict ≡ Err Refusal.BadPiece) ↔ (Has t BadPiece × Behind15 lenient)
   unfolding Condition order_of
   eighteen = (mp, mpr)
     where
-      mp : strict ≡ A.Refused 18 → Has t BadPiece × Behind15 lenient
+      mp : strict ≡ Err Refusal.BadPiece → Has t BadPiece × Behind15 lenient
       mp e = let a = (strict_number 18).0 e in (bad a.holds, behind_18 a lenient refl)
         where
           bad : Has t (BadFor Strict) → Has t BadPiece
           bad h = record { header = h.header; payload = h.payload; split = h.split; there = h.there }
 
-      mpr : Has t BadPiece × Behind15 lenient → strict ≡ A.Refused 18
+      mpr : Has t BadPiece × Behind15 lenient → strict ≡ Err Refusal.BadPiece
       mpr x =
           (strict_number 18).1
           (record {
@@ -172,7 +172,7 @@ module _ {t out : List ℕ} {strict : Answer} {left : List ℕ} {lenient : Answe
           not_itself : (j : ℕ) → order_of j < 16 → j ≡ 18 → ⊥
           not_itself j l e = let m : 16 < 16 = rw e at l in omega arith
 
-  both_accept : (e : Entry) → strict ≡ A.Entry e → (lenient ≡ A.Entry e) × (left ≡ left')
+  both_accept : (e : Entry) → strict ≡ Ok e → (lenient ≡ Ok e) × (left ≡ left')
   both_accept e q =
       let l = line_entry_is Strict t (length out) (sym both.strict_call.answer ∙ ap answer_told q) in
       let w = calls_same (λ h. l.good (rw (same_payload t h.split l.split) at h.there)) in

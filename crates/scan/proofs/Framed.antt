@@ -1,4 +1,5 @@
 -- The frame by itself: it gives the colon, and then none of the numbers 1 to 4 applies, or one of them, and then that one does. Assumes nothing.
+use Rattle.std.specs.Prelude.{None, Option, Some}
 use Prim.Native.Nat.{ℕ, ◌≤◌}
 use mathlib.Core.Path.{◌≡◌}
 use mathlib.Core.Bool.{Bool, true, false, cond}
@@ -7,8 +8,6 @@ use native.Mathlib.Omega.{arith}
 use lib.Dec.{ltb}
 use lib.ListN.{length}
 use Rattle.text.specs.Told as T
-use Rattle.text.specs.declared.place.Found.{Found}
-use Rattle.text.specs.declared.place.Found.TheVariants as P
 use Rattle.text.specs.Place.{last_byte}
 use Rattle.text.proofs.Places.{clash}
 use Rattle.scan.specs.declared.Pieces.{Pieces}
@@ -46,13 +45,13 @@ pub framed : (t : List ℕ) → Framed (frame_of t)
 unfolding frame_of frame_ascii frame_colon
 framed t = by_idle (idle t)
   where
-    by_colon : (x : Found) → Framed (frame_colon x)
-    by_colon (P.At j) = colon j
-    by_colon P.Nothing = number 4 (omega arith)
+    by_colon : (x : Option ℕ) → Framed (frame_colon x)
+    by_colon (Some j) = colon j
+    by_colon None = number 4 (omega arith)
 
-    by_high : (x : Found) → Framed (frame_ascii t x)
-    by_high (P.At j) = number 3 (omega arith)
-    by_high P.Nothing = by_colon (last_byte 58 t)
+    by_high : (x : Option ℕ) → Framed (frame_ascii t x)
+    by_high (Some j) = number 3 (omega arith)
+    by_high None = by_colon (last_byte 58 t)
 
     by_length : (b : Bool) → Framed (cond b (T.refused 2) (frame_ascii t (first_high t)))
     by_length true = number 2 (omega arith)

@@ -1,4 +1,5 @@
 -- Numbers 1 to 4: each test of the reading is its sentence, and the place of the last colon gives the one split. Assumes nothing.
+use Rattle.std.specs.Prelude.{None, Option, Some}
 use Prim.Native.Nat.{ℕ, ◌≤◌, ◌<◌}
 use mathlib.Core.Path.{◌≡◌, refl}
 use mathlib.Core.Bool.{Bool, true, false, cond}
@@ -7,8 +8,6 @@ use native.Mathlib.Omega.{arith}
 use lib.Dec.{ltb, eqb}
 use lib.ListN.{length, get_or}
 use borrow.Author.Tests.{lt-ltb, le-ltb, eq-eqb, ne_eqb, ltb-false}
-use Rattle.text.specs.declared.place.Found.TheVariants.{At, Nothing}
-use Rattle.text.specs.declared.place.Found.{Found}
 use Rattle.text.specs.Place.{last_byte, is_at}
 use Rattle.text.proofs.Places.{last_is}
 use Rattle.text.specs.Told.{is, refused}
@@ -43,35 +42,35 @@ module _ (t : List ℕ) where
     frame_long l = rw (busy, lt-ltb 4096 (length t) l)
 
     module _ (short : length t ≤ 4096) where
-      pub frame-high : {k : ℕ} → first_high t ≡ At k → frame_of t ≡ refused 3
+      pub frame-high : {k : ℕ} → first_high t ≡ Some k → frame_of t ≡ refused 3
       unfolding frame_of frame_ascii
       frame-high e = rw (busy, le-ltb 4096 (length t) short, e)
 
-      pub frame-colon : {k : ℕ} → first_high t ≡ Nothing → last_byte 58 t ≡ At k → frame_of t ≡ is k
+      pub frame-colon : {k : ℕ} → first_high t ≡ None → last_byte 58 t ≡ Some k → frame_of t ≡ is k
       unfolding frame_of frame_ascii frame_colon
       frame-colon e f = rw (busy, le-ltb 4096 (length t) short, e, f)
 
-      pub frame-none : first_high t ≡ Nothing → last_byte 58 t ≡ Nothing → frame_of t ≡ refused 4
+      pub frame-none : first_high t ≡ None → last_byte 58 t ≡ None → frame_of t ≡ refused 4
       unfolding frame_of frame_ascii frame_colon
       frame-none e f = rw (busy, le-ltb 4096 (length t) short, e, f)
 
   -- the colon lies within the line
-  colon_of : (f : Found) {k : ℕ} → frame_colon f ≡ is k → f ≡ At k
+  colon_of : (f : Option ℕ) {k : ℕ} → frame_colon f ≡ is k → f ≡ Some k
   unfolding frame_colon
-  colon_of (At j) e = cc
-  colon_of Nothing e = absurd (let z : ◌≡◌ {A = ℕ} 0 1 = cc in omega arith)
+  colon_of (Some j) e = cc
+  colon_of None e = absurd (let z : ◌≡◌ {A = ℕ} 0 1 = cc in omega arith)
 
-  ascii_of : (f : Found) {k : ℕ} → frame_ascii t f ≡ is k → (f ≡ Nothing) × (last_byte 58 t ≡ At k)
+  ascii_of : (f : Option ℕ) {k : ℕ} → frame_ascii t f ≡ is k → (f ≡ None) × (last_byte 58 t ≡ Some k)
   unfolding frame_ascii
-  ascii_of (At j) e = absurd (let z : ◌≡◌ {A = ℕ} 0 1 = cc in omega arith)
-  ascii_of Nothing e = (refl, colon_of (last_byte 58 t) e)
+  ascii_of (Some j) e = absurd (let z : ◌≡◌ {A = ℕ} 0 1 = cc in omega arith)
+  ascii_of None e = (refl, colon_of (last_byte 58 t) e)
 
   -- a frame that gives a colon has passed every check
-  pub frame_passed : {k : ℕ} → frame_of t ≡ is k → (idle t ≡ false) × (length t ≤ 4096) × (first_high t ≡ Nothing) × (last_byte 58 t ≡ At k)
+  pub frame_passed : {k : ℕ} → frame_of t ≡ is k → (idle t ≡ false) × (length t ≤ 4096) × (first_high t ≡ None) × (last_byte 58 t ≡ Some k)
   unfolding frame_of
   frame_passed {k} e = go (idle t) refl (ltb 4096 (length t)) refl e
     where
-      go : (a : Bool) → idle t ≡ a → (b : Bool) → ltb 4096 (length t) ≡ b → cond a (refused 1) (cond b (refused 2) (frame_ascii t (first_high t))) ≡ is k → (idle t ≡ false) × (length t ≤ 4096) × (first_high t ≡ Nothing) × (last_byte 58 t ≡ At k)
+      go : (a : Bool) → idle t ≡ a → (b : Bool) → ltb 4096 (length t) ≡ b → cond a (refused 1) (cond b (refused 2) (frame_ascii t (first_high t))) ≡ is k → (idle t ≡ false) × (length t ≤ 4096) × (first_high t ≡ None) × (last_byte 58 t ≡ Some k)
       go true p b q n = absurd (let z : ◌≡◌ {A = ℕ} 0 1 = cc in omega arith)
       go false p true q n = absurd (let z : ◌≡◌ {A = ℕ} 0 1 = cc in omega arith)
       go false p false q n = let w = ascii_of (first_high t) n in (p, ltb-false 4096 (length t) q, w.0, w.1)

@@ -1,21 +1,16 @@
 -- The reading is the grammar's: each number is answered exactly where its condition holds and no earlier one does, and an entry exactly
 -- where none does, with what the line says. Each check's presence and absence come from that field's own soundness and completeness;
 -- the chain puts them in the order of the checks. Assumes nothing.
+use Rattle.std.specs.Prelude.{None, Option, Some}
 use Prim.Native.Nat.{ℕ, ◌-◌, ◌^◌, ◌≤◌, ◌<◌}
 use mathlib.Core.Path.{◌≡◌, refl, sym, ap, ◌∙◌}
 use mathlib.Core.Bool.{Bool, true, false, cond}
 use mathlib.Core.List.{List, [], ◌∷◌}
-use mathlib.Core.Option.{Option, some, none}
 use native.Mathlib.Omega.{arith}
 use lib.Dec.{ltb, leb, eqb}
 use lib.ListN.{length, get_or, take, drop}
 use borrow.Author.Tests.{ltb-true, ltb-false, leb-true, le-leb, eqb-true, eq-eqb}
-use Rattle.text.specs.declared.number.Number.{Number}
-use Rattle.text.specs.declared.number.Number.TheVariants as N
-use Rattle.text.specs.declared.place.Found.{Found}
-use Rattle.text.specs.declared.place.Found.TheVariants as P
 use Rattle.text.specs.Told as T
-use Rattle.text.specs.Number.{number_value}
 use Rattle.text.specs.Place.{last_byte}
 use Rattle.text.specs.Quote.{bytes}
 use Rattle.text.proofs.Places.{clash, first_is, first_free}
@@ -40,7 +35,7 @@ use Rattle.scan.specs.declared.Pieces.{Pieces}
 use Rattle.scan.specs.declared.Pieces.TheVariants.{Strict, Lenient}
 use Rattle.scan.specs.declared.head.Head.{Head}
 use Rattle.scan.specs.declared.body.Body.{Body}
-use Rattle.scan.specs.Need.{place_value, Moment, stamp_value}
+use Rattle.scan.specs.Need.{Moment, stamp_value}
 use Rattle.scan.specs.Frame.{Idle, High, Split, idle, first_high, frame_colon, frame_ascii, frame_of}
 use Rattle.scan.specs.Head.{head_of, head6, head7, head8, head9, head_got}
 use Rattle.scan.specs.Body.{text_at, hex_byte, hex_word, decimal_byte, decimal_word, dropped_of, optionals_of, body12, body13, body14, body_of}
@@ -55,46 +50,42 @@ use Rattle.scan.proofs.Values.{task_part, function_part, dwords_whole, byte_read
 use Rattle.scan.proofs.Chain.{Clear, clear_starts, clear_next, Answered, refuse, check}
 
 -- what stands behind an answer, as a value
-pub number_tells : (n : Number) {v : ℕ} → number_value n ≡ some v → n ≡ N.Value v
-unfolding number_value
-number_tells (N.Value w) e = cc
-number_tells N.Unreadable e = absurd (let z : ◌≡◌ {A = ℕ} 0 1 = cc in omega arith)
+pub number_tells : (n : Option ℕ) {v : ℕ} → n ≡ Some v → n ≡ Some v
+number_tells (Some w) e = cc
+number_tells None e = absurd (let z : ◌≡◌ {A = ℕ} 0 1 = cc in omega arith)
 
-place_tells : (f : Found) {k : ℕ} → place_value f ≡ some k → f ≡ P.At k
-unfolding place_value
-place_tells (P.At j) e = cc
-place_tells P.Nothing e = absurd (let z : ◌≡◌ {A = ℕ} 0 1 = cc in omega arith)
+place_tells : (f : Option ℕ) {k : ℕ} → f ≡ Some k → f ≡ Some k
+place_tells (Some j) e = cc
+place_tells None e = absurd (let z : ◌≡◌ {A = ℕ} 0 1 = cc in omega arith)
 
-stamp_tells : (s : Stamp) {m : Moment} → stamp_value s ≡ some m → s ≡ S.At m.seconds m.microseconds
+stamp_tells : (s : Stamp) {m : Moment} → stamp_value s ≡ Some m → s ≡ S.At m.seconds m.microseconds
 unfolding stamp_value
 stamp_tells (S.At a b) {m} e = let q : record { seconds = a; microseconds = b } ≡ m = cc in rw (← q)
 stamp_tells S.Unreadable e = absurd (let z : ◌≡◌ {A = ℕ} 0 1 = cc in omega arith)
 
 -- what is there is something
-decimal_there : (v : ℕ) → number_value (N.Value v) ≡ some v
-unfolding number_value
+decimal_there : (v : ℕ) → (Some v) ≡ Some v
 decimal_there v = refl
 
-place_there : (k : ℕ) → place_value (P.At k) ≡ some k
-unfolding place_value
+place_there : (k : ℕ) → (Some k) ≡ Some k
 place_there k = refl
 
-stamp_there : (s u : ℕ) → stamp_value (S.At s u) ≡ some (record { seconds = s; microseconds = u })
+stamp_there : (s u : ℕ) → stamp_value (S.At s u) ≡ Some (record { seconds = s; microseconds = u })
 unfolding stamp_value
 stamp_there s u = refl
 
 -- nothing is not something
-nothing : {X : Type 0} {o : Option X} {a : X} → o ≡ none → o ≡ some a → ⊥
+nothing : {X : Type 0} {o : Option X} {a : X} → o ≡ None → o ≡ Some a → ⊥
 nothing e q = let z : ◌≡◌ {A = ℕ} 0 1 = cc in omega arith
 
 -- the dwords of a payload
-pub dwords_are : (p : List ℕ) {ds : List ℕ} → payload_data p ≡ some ds → Dwords p ds
+pub dwords_are : (p : List ℕ) {ds : List ℕ} → payload_data p ≡ Some ds → Dwords p ds
 unfolding payload_data
 dwords_are p {ds} e =
-    let w = need_goes_on (text_at p (last_pair p (bytes "data"))) none data_of e (λ q. nothing refl q) in
+    let w = need_goes_on (text_at p (last_pair p (bytes "data"))) None data_of e (λ q. nothing refl q) in
     record { value = w.0; found = key_text_is p (bytes "data") w.1; brackets = data_is w.2 }
 
-dwords_all : (p : List ℕ) {ds : List ℕ} → Dwords p ds → payload_data p ≡ some ds
+dwords_all : (p : List ℕ) {ds : List ℕ} → Dwords p ds → payload_data p ≡ Some ds
 unfolding payload_data
 dwords_all p r = rw (key_text_all p (bytes "data") r.found) (data_all r.brackets)
 
@@ -115,7 +106,7 @@ bad_for_all Strict p r = payload_bad_is p r.are ∙ any_bad_all r.piece
 bad_for_all Lenient p r = absurd r
 
 -- a line parted at its last colon
-module _ (t : List ℕ) (room : ℕ) {k : ℕ} (colon : last_byte 58 t ≡ P.At k) where
+module _ (t : List ℕ) (room : ℕ) {k : ℕ} (colon : last_byte 58 t ≡ Some k) where
   split : Split t (header_of t k) (payload_of t k)
   split = split_is t colon
 
@@ -160,13 +151,13 @@ idle_is (x ∷ l) e = go (eqb x 35) refl
     go true q = Idle.comment l (ap (λ (y : ℕ). y ∷ l) (eqb-true x 35 q))
     go false q = longer (eqb (length (x ∷ l)) 1) refl (λ z. clash (eq-eqb x 35 z) q)
 
-pub high_none : (t : List ℕ) → first_high t ≡ P.Nothing → High t → ⊥
+pub high_none : (t : List ℕ) → first_high t ≡ None → High t → ⊥
 unfolding first_high
 high_none t e h =
     clash (le-leb 128 (get_or t h.place 0) h.high)
     (first_free (λ (k : ℕ). leb 128 (get_or t k 0)) e (omega arith) h.place (omega arith) h.within)
 
-high_some : (t : List ℕ) {k : ℕ} → first_high t ≡ P.At k → High t
+high_some : (t : List ℕ) {k : ℕ} → first_high t ≡ Some k → High t
 unfolding first_high
 high_some t {k} e =
     let r = first_is (λ (k : ℕ). leb 128 (get_or t k 0)) e in
@@ -178,22 +169,22 @@ pub record Says (pieces : Pieces) (t : List ℕ) (e : Entry) : Type 0 where
   pub line : Line pieces t (value_of e t (line_dwords t))
 
 module _ (pieces : Pieces) (t : List ℕ) {k : ℕ} (framed : frame_of t ≡ T.is k) where
-  line_dwords_lem : {ds : List ℕ} → payload_data (payload_of t k) ≡ some ds → line_dwords t ≡ ds
+  line_dwords_lem : {ds : List ℕ} → payload_data (payload_of t k) ≡ Some ds → line_dwords t ≡ ds
   unfolding line_dwords dwords_by
   line_dwords_lem e = rw (framed, e)
 
   -- with every part there, the entry says what the line says
   says : (task pid cpu : ℕ) (moment : Moment) (function : ℕ) (name : List ℕ) (size domain route : ℕ) (ds : List ℕ)
-      → task_of (header_of t k) ≡ P.At task
-      → pid_of (header_of t k) ≡ N.Value pid
-      → cpu_of (header_of t k) ≡ N.Value cpu
+      → task_of (header_of t k) ≡ Some task
+      → pid_of (header_of t k) ≡ Some pid
+      → cpu_of (header_of t k) ≡ Some cpu
       → stamp_of (header_of t k) ≡ S.At moment.seconds moment.microseconds
-      → function_of (header_of t k) ≡ P.At function
-      → text_at (payload_of t k) (last_pair (payload_of t k) (bytes "type")) ≡ some name
-      → decimal_of (payload_of t k) (bytes "size") (2 ^ 16 - 1) ≡ N.Value size
-      → decimal_of (payload_of t k) (bytes "domain") (2 ^ 32 - 1) ≡ N.Value domain
-      → hex_at (payload_of t k) (bytes "route") (2 ^ 64 - 1) ≡ N.Value route
-      → payload_data (payload_of t k) ≡ some ds
+      → function_of (header_of t k) ≡ Some function
+      → text_at (payload_of t k) (last_pair (payload_of t k) (bytes "type")) ≡ Some name
+      → decimal_of (payload_of t k) (bytes "size") (2 ^ 16 - 1) ≡ Some size
+      → decimal_of (payload_of t k) (bytes "domain") (2 ^ 32 - 1) ≡ Some domain
+      → hex_at (payload_of t k) (bytes "route") (2 ^ 64 - 1) ≡ Some route
+      → payload_data (payload_of t k) ≡ Some ds
       → refuses pieces (payload_bad (payload_of t k)) ≡ false
       → length ds ≤ 256
       → Says pieces t
@@ -246,11 +237,11 @@ module _ (pieces : Pieces) (t : List ℕ) (room : ℕ) where
   Ok = Answered pieces t room (Says pieces t)
 
   module _ {k : ℕ} (framed : frame_of t ≡ T.is k) where
-    colon : last_byte 58 t ≡ P.At k
+    colon : last_byte 58 t ≡ Some k
     colon = (frame_passed t framed).3
 
     -- 15, 18, 16 and 17
-    judge_data : (head : Head) (body : Body) → Clear pieces t room 15 → ((ds : List ℕ) → payload_data (payload_of t k) ≡ some ds → refuses pieces (payload_bad (payload_of t k)) ≡ false → length ds ≤ 256 → Says pieces t (entry_of (start_of t k) (length (header_of t k)) head body (length ds))) → Ok (with_data (header_of t k) (start_of t k) head body (data_answer pieces (payload_of t k) room))
+    judge_data : (head : Head) (body : Body) → Clear pieces t room 15 → ((ds : List ℕ) → payload_data (payload_of t k) ≡ Some ds → refuses pieces (payload_bad (payload_of t k)) ≡ false → length ds ≤ 256 → Says pieces t (entry_of (start_of t k) (length (header_of t k)) head body (length ds))) → Ok (with_data (header_of t k) (start_of t k) head body (data_answer pieces (payload_of t k) room))
     unfolding Condition order_of data_answer with_data
     judge_data head body clear done =
         check pieces t room (Says pieces t) (with_data (header_of t k) (start_of t k) head body) 15 (payload_data (payload_of t k)) (T.refused 15) (data18 (refuses pieces (payload_bad (payload_of t k))) room) refl clear
@@ -279,7 +270,7 @@ module _ (pieces : Pieces) (t : List ℕ) (room : ℕ) where
               )),
         ))
       where
-        more-than : {ds : List ℕ} {n : ℕ} → payload_data (payload_of t k) ≡ some ds → length ds ≤ n → MoreThan n (payload_of t k) → ⊥
+        more-than : {ds : List ℕ} {n : ℕ} → payload_data (payload_of t k) ≡ Some ds → length ds ≤ n → MoreThan n (payload_of t k) → ⊥
         more-than {ds} {n} e l r =
             let q = dwords_all (payload_of t k) r.are in
             let same : ds ≡ r.dwords = cc in
@@ -288,11 +279,11 @@ module _ (pieces : Pieces) (t : List ℕ) (room : ℕ) where
     -- 11 to 14
     judge_body : (head : Head) → Clear pieces t room 11
         → ((name : List ℕ) (size domain route : ℕ) (ds : List ℕ)
-        → text_at (payload_of t k) (last_pair (payload_of t k) (bytes "type")) ≡ some name
-        → decimal_of (payload_of t k) (bytes "size") (2 ^ 16 - 1) ≡ N.Value size
-        → decimal_of (payload_of t k) (bytes "domain") (2 ^ 32 - 1) ≡ N.Value domain
-        → hex_at (payload_of t k) (bytes "route") (2 ^ 64 - 1) ≡ N.Value route
-        → payload_data (payload_of t k) ≡ some ds
+        → text_at (payload_of t k) (last_pair (payload_of t k) (bytes "type")) ≡ Some name
+        → decimal_of (payload_of t k) (bytes "size") (2 ^ 16 - 1) ≡ Some size
+        → decimal_of (payload_of t k) (bytes "domain") (2 ^ 32 - 1) ≡ Some domain
+        → hex_at (payload_of t k) (bytes "route") (2 ^ 64 - 1) ≡ Some route
+        → payload_data (payload_of t k) ≡ Some ds
         → refuses pieces (payload_bad (payload_of t k)) ≡ false
         → length ds ≤ 256
         → Says pieces t
@@ -307,17 +298,17 @@ module _ (pieces : Pieces) (t : List ℕ) (room : ℕ) where
         (λ name n. (
           having t room colon (λ (x y name : List ℕ). KeyText y (bytes "type") name) name (key_text_is (payload_of t k) (bytes "type") n),
           λ c12.
-              check pieces t room (Says pieces t) (with_body pieces (header_of t k) (start_of t k) head (payload_of t k) room) 12 (number_value (decimal_of (payload_of t k) (bytes "size") (2 ^ 16 - 1))) (T.refused 12) (body13 (payload_of t k) (kind_of name (drop head.function (header_of t k)))) refl c12
+              check pieces t room (Says pieces t) (with_body pieces (header_of t k) (start_of t k) head (payload_of t k) room) 12 ((decimal_of (payload_of t k) (bytes "size") (2 ^ 16 - 1))) (T.refused 12) (body13 (payload_of t k) (kind_of name (drop head.function (header_of t k)))) refl c12
               (λ s. lacking t room colon (λ (x y : List ℕ) (v : ℕ). KeyDecimal y (bytes "size") (2 ^ 16 - 1) v) (λ v r. no_decimal (bytes "size") (2 ^ 16 - 1) s r))
               (λ size s. (
                 having t room colon (λ (x y : List ℕ) (v : ℕ). KeyDecimal y (bytes "size") (2 ^ 16 - 1) v) size (key_decimal_is (payload_of t k) (bytes "size") (2 ^ 16 - 1) (number_tells _ s)),
                 λ c13.
-                    check pieces t room (Says pieces t) (with_body pieces (header_of t k) (start_of t k) head (payload_of t k) room) 13 (number_value (decimal_of (payload_of t k) (bytes "domain") (2 ^ 32 - 1))) (T.refused 13) (body14 (payload_of t k) (kind_of name (drop head.function (header_of t k))) size) refl c13
+                    check pieces t room (Says pieces t) (with_body pieces (header_of t k) (start_of t k) head (payload_of t k) room) 13 ((decimal_of (payload_of t k) (bytes "domain") (2 ^ 32 - 1))) (T.refused 13) (body14 (payload_of t k) (kind_of name (drop head.function (header_of t k))) size) refl c13
                     (λ o. lacking t room colon (λ (x y : List ℕ) (v : ℕ). KeyDecimal y (bytes "domain") (2 ^ 32 - 1) v) (λ v r. no_decimal (bytes "domain") (2 ^ 32 - 1) o r))
                     (λ domain o. (
                       having t room colon (λ (x y : List ℕ) (v : ℕ). KeyDecimal y (bytes "domain") (2 ^ 32 - 1) v) domain (key_decimal_is (payload_of t k) (bytes "domain") (2 ^ 32 - 1) (number_tells _ o)),
                       λ c14.
-                          check pieces t room (Says pieces t) (with_body pieces (header_of t k) (start_of t k) head (payload_of t k) room) 14 (number_value (hex_at (payload_of t k) (bytes "route") (2 ^ 64 - 1))) (T.refused 14)
+                          check pieces t room (Says pieces t) (with_body pieces (header_of t k) (start_of t k) head (payload_of t k) room) 14 ((hex_at (payload_of t k) (bytes "route") (2 ^ 64 - 1))) (T.refused 14)
                           (λ route. T.is (record { kind = kind_of name (drop head.function (header_of t k)); size = size; dropped = dropped_of (payload_of t k); domain = domain; route = route; optionals = optionals_of (payload_of t k) })) refl c14
                           (λ r. lacking t room colon (λ (x y : List ℕ) (v : ℕ). KeyHex y (bytes "route") (2 ^ 64 - 1) v) (λ v q. no-hex (bytes "route") (2 ^ 64 - 1) r q))
                           (λ route r. (
@@ -330,28 +321,28 @@ module _ (pieces : Pieces) (t : List ℕ) (room : ℕ) where
               )),
         ))
       where
-        no_decimal : (key : List ℕ) (limit : ℕ) → number_value (decimal_of (payload_of t k) key limit) ≡ none → {v : ℕ} → KeyDecimal (payload_of t k) key limit v → ⊥
-        no_decimal key limit e {v} r = nothing e (ap number_value (key_decimal_all (payload_of t k) key limit r) ∙ decimal_there v)
+        no_decimal : (key : List ℕ) (limit : ℕ) → (decimal_of (payload_of t k) key limit) ≡ None → {v : ℕ} → KeyDecimal (payload_of t k) key limit v → ⊥
+        no_decimal key limit e {v} r = nothing e (ap (key_decimal_all (payload_of t k) key limit r) ∙ decimal_there v)
 
-        no-hex : (key : List ℕ) (limit : ℕ) → number_value (hex_at (payload_of t k) key limit) ≡ none → {v : ℕ} → KeyHex (payload_of t k) key limit v → ⊥
-        no-hex key limit e {v} r = nothing e (ap number_value (key_hex_all (payload_of t k) key limit r) ∙ decimal_there v)
+        no-hex : (key : List ℕ) (limit : ℕ) → (hex_at (payload_of t k) key limit) ≡ None → {v : ℕ} → KeyHex (payload_of t k) key limit v → ⊥
+        no-hex key limit e {v} r = nothing e (ap (key_hex_all (payload_of t k) key limit r) ∙ decimal_there v)
 
     -- 5 to 9
     judge_head : Clear pieces t room 5 → Ok (parted_answer pieces t k room)
     unfolding Condition order_of parted_answer head_of with_head
     judge_head clear =
-        check pieces t room (Says pieces t) (with_head pieces t k room) 5 (place_value (task_of (header_of t k))) (T.refused 5) (head6 (header_of t k)) refl clear
-        (λ a. lacking t room colon (λ (x y task : List ℕ). Task x task) (λ task r. nothing a (ap place_value (task_all (header_of t k) r) ∙ place_there _)))
+        check pieces t room (Says pieces t) (with_head pieces t k room) 5 (task_of (header_of t k)) (T.refused 5) (head6 (header_of t k)) refl clear
+        (λ a. lacking t room colon (λ (x y task : List ℕ). Task x task) (λ task r. nothing a (ap (task_all (header_of t k) r) ∙ place_there _)))
         (λ task a. (
           having t room colon (λ (x y task : List ℕ). Task x task) (take task (header_of t k)) (task_is (header_of t k) (place_tells _ a)),
           λ c6.
-              check pieces t room (Says pieces t) (with_head pieces t k room) 6 (number_value (pid_of (header_of t k))) (T.refused 6) (head7 (header_of t k) task) refl c6
-              (λ b. lacking t room colon (λ (x y : List ℕ) (pid : ℕ). Pid x pid) (λ pid r. nothing b (ap number_value (pid_all (header_of t k) r) ∙ decimal_there _)))
+              check pieces t room (Says pieces t) (with_head pieces t k room) 6 (pid_of (header_of t k)) (T.refused 6) (head7 (header_of t k) task) refl c6
+              (λ b. lacking t room colon (λ (x y : List ℕ) (pid : ℕ). Pid x pid) (λ pid r. nothing b (ap (pid_all (header_of t k) r) ∙ decimal_there _)))
               (λ pid b. (
                 having t room colon (λ (x y : List ℕ) (pid : ℕ). Pid x pid) pid (pid_is (header_of t k) (number_tells _ b)),
                 λ c7.
-                    check pieces t room (Says pieces t) (with_head pieces t k room) 7 (number_value (cpu_of (header_of t k))) (T.refused 7) (head8 (header_of t k) task pid) refl c7
-                    (λ c. lacking t room colon (λ (x y : List ℕ) (cpu : ℕ). Cpu x cpu) (λ cpu r. nothing c (ap number_value (cpu_all (header_of t k) r) ∙ decimal_there _)))
+                    check pieces t room (Says pieces t) (with_head pieces t k room) 7 (cpu_of (header_of t k)) (T.refused 7) (head8 (header_of t k) task pid) refl c7
+                    (λ c. lacking t room colon (λ (x y : List ℕ) (cpu : ℕ). Cpu x cpu) (λ cpu r. nothing c (ap (cpu_all (header_of t k) r) ∙ decimal_there _)))
                     (λ cpu c. (
                       having t room colon (λ (x y : List ℕ) (cpu : ℕ). Cpu x cpu) cpu (cpu_is (header_of t k) (number_tells _ c)),
                       λ c8.
@@ -360,8 +351,8 @@ module _ (pieces : Pieces) (t : List ℕ) (room : ℕ) where
                           (λ moment d. (
                             (λ m. m (header_of t k) (payload_of t k) (split t room colon) (record { seconds = moment.seconds; microseconds = moment.microseconds; timestamp = timestamp_is (header_of t k) (stamp_tells _ d) })),
                             λ c9.
-                                check pieces t room (Says pieces t) (with_head pieces t k room) 9 (place_value (function_of (header_of t k))) (T.refused 9) (head_got task pid cpu moment) refl c9
-                                (λ f. lacking t room colon (λ (x y function : List ℕ). Function x function) (λ function r. nothing f (ap place_value (function_all (header_of t k) r) ∙ place_there _)))
+                                check pieces t room (Says pieces t) (with_head pieces t k room) 9 (function_of (header_of t k)) (T.refused 9) (head_got task pid cpu moment) refl c9
+                                (λ f. lacking t room colon (λ (x y function : List ℕ). Function x function) (λ function r. nothing f (ap (function_all (header_of t k) r) ∙ place_there _)))
                                 (λ function f. (
                                   having t room colon (λ (x y function : List ℕ). Function x function) (drop function (header_of t k)) (function_is (header_of t k) (place_tells _ f)),
                                   λ c10.
@@ -378,7 +369,7 @@ module _ (pieces : Pieces) (t : List ℕ) (room : ℕ) where
         no-ten : Clear pieces t room 10 → Clear pieces t room 11
         no-ten c10 = clear_next pieces t room 10 c10 (λ row. row)
 
-        no-stamp : stamp_value (stamp_of (header_of t k)) ≡ none → (header payload : List ℕ) → Split t header payload → Stamped header → ⊥
+        no-stamp : stamp_value (stamp_of (header_of t k)) ≡ None → (header payload : List ℕ) → Split t header payload → Stamped header → ⊥
         no-stamp d header payload s r =
             let w : Timestamp (header_of t k) r.seconds r.microseconds = rw (← one_header t colon s) r.timestamp in
             nothing d (ap stamp_value (timestamp_all (header_of t k) w) ∙ stamp_there _ _)
@@ -400,12 +391,12 @@ module _ (pieces : Pieces) (t : List ℕ) (room : ℕ) where
             )),
       ))
     where
-      last_colon : (f : Found) → last_byte 58 t ≡ f → first_high t ≡ P.Nothing → Clear pieces t room 4 → idle t ≡ false → length t ≤ 4096 → Ok (with_frame pieces t room (frame_colon f))
-      last_colon (P.At k) q n c4 e l =
+      last_colon : (f : Option ℕ) → last_byte 58 t ≡ f → first_high t ≡ None → Clear pieces t room 4 → idle t ≡ false → length t ≤ 4096 → Ok (with_frame pieces t room (frame_colon f))
+      last_colon (Some k) q n c4 e l =
           judge_head (frame-colon t e l n q) (clear_next pieces t room 4 c4 (λ m. m (header_of t k) (payload_of t k) (split_is t q)))
-      last_colon P.Nothing q n c4 e l =
+      last_colon None q n c4 e l =
           Answered.refused 4 (record { holds = λ header payload s. let w = split_colon t header payload s in absurd (let z : ◌≡◌ {A = ℕ} 0 1 = cc in omega arith); first = c4 })
 
-      ascii : (f : Found) → first_high t ≡ f → Clear pieces t room 3 → idle t ≡ false → length t ≤ 4096 → Ok (with_frame pieces t room (frame_ascii t f))
-      ascii (P.At k) q c3 e l = Answered.refused 3 (record { holds = high_some t q; first = c3 })
-      ascii P.Nothing q c3 e l = last_colon (last_byte 58 t) refl q (clear_next pieces t room 3 c3 (high_none t q)) e l
+      ascii : (f : Option ℕ) → first_high t ≡ f → Clear pieces t room 3 → idle t ≡ false → length t ≤ 4096 → Ok (with_frame pieces t room (frame_ascii t f))
+      ascii (Some k) q c3 e l = Answered.refused 3 (record { holds = high_some t q; first = c3 })
+      ascii None q c3 e l = last_colon (last_byte 58 t) refl q (clear_next pieces t room 3 c3 (high_none t q)) e l

@@ -1,10 +1,9 @@
 -- Keys: what the last pair of a key says is what the reading finds there, as text, decimal or hex of any width. Assumes nothing.
+use Rattle.std.specs.Prelude.{None, Some}
 use Prim.Native.Nat.{ℕ}
 use mathlib.Core.Path.{◌≡◌, refl, sym, ap, ◌∙◌}
 use mathlib.Core.List.{List}
-use mathlib.Core.Option.{some}
 use native.Mathlib.Omega.{arith}
-use Rattle.text.specs.declared.number.Number.TheVariants as N
 use Rattle.text.proofs.Numbers.{number_is, number_all}
 use Rattle.text.proofs.Hexes.{hex_is, hex_all}
 use Rattle.pairs.specs.declared.pair.Span.{Span}
@@ -15,24 +14,24 @@ use Rattle.scan.specs.Body.{text_at}
 use Rattle.scan.specs.Line.{KeyText, KeyDecimal, KeyHex}
 
 module _ (p key : List ℕ) where
-  pub key_text_is : {text : List ℕ} → text_at p (last_pair p key) ≡ some text → KeyText p key text
+  pub key_text_is : {text : List ℕ} → text_at p (last_pair p key) ≡ Some text → KeyText p key text
   unfolding text_at
   key_text_is {text} e = go (last_pair p key) refl e
     where
-      go : (s : Span) → last_pair p key ≡ s → text_at p s ≡ some text → KeyText p key text
+      go : (s : Span) → last_pair p key ≡ s → text_at p s ≡ Some text → KeyText p key text
       go (At a b) q n = record { from = a; to = b; last = last_pair_is p key q; is = cc }
       go Nothing q n = absurd (let z : ◌≡◌ {A = ℕ} 0 1 = cc in omega arith)
 
-  pub key_text_all : {text : List ℕ} → KeyText p key text → text_at p (last_pair p key) ≡ some text
+  pub key_text_all : {text : List ℕ} → KeyText p key text → text_at p (last_pair p key) ≡ Some text
   unfolding text_at
-  key_text_all r = rw (last_pair_all p key r.last) (ap some (sym r.is))
+  key_text_all r = rw (last_pair_all p key r.last) (ap Some (sym r.is))
 
   module _ (limit : ℕ) where
-    pub key_decimal_is : {v : ℕ} → decimal_of p key limit ≡ N.Value v → KeyDecimal p key limit v
+    pub key_decimal_is : {v : ℕ} → decimal_of p key limit ≡ Some v → KeyDecimal p key limit v
     unfolding decimal_of decimal_in
     key_decimal_is {v} e = go (last_pair p key) refl e
       where
-        go : (s : Span) → last_pair p key ≡ s → decimal_in p limit s ≡ N.Value v → KeyDecimal p key limit v
+        go : (s : Span) → last_pair p key ≡ s → decimal_in p limit s ≡ Some v → KeyDecimal p key limit v
         go (At a b) q n =
             record {
               text = part p a b;
@@ -41,12 +40,12 @@ module _ (p key : List ℕ) where
             }
         go Nothing q n = absurd (let z : ◌≡◌ {A = ℕ} 0 1 = cc in omega arith)
 
-    pub key_decimal_all : {v : ℕ} → KeyDecimal p key limit v → decimal_of p key limit ≡ N.Value v
+    pub key_decimal_all : {v : ℕ} → KeyDecimal p key limit v → decimal_of p key limit ≡ Some v
     key_decimal_all {v} r =
         sym (decimal_some p key limit (last_pair_all p key r.found.last))
         ∙ number_all 10 limit _ (rw (← r.found.is) r.reads)
 
-    pub key_hex_is : {v : ℕ} → hex_at p key limit ≡ N.Value v → KeyHex p key limit v
+    pub key_hex_is : {v : ℕ} → hex_at p key limit ≡ Some v → KeyHex p key limit v
     key_hex_is {v} e = go (last_pair p key) refl
       where
         go : (s : Span) → last_pair p key ≡ s → KeyHex p key limit v
@@ -57,10 +56,10 @@ module _ (p key : List ℕ) where
               reads = hex_is limit (hex_some p key limit q ∙ e);
             }
         go Nothing q =
-            let none : N.Unreadable ≡ N.Value v = hex_none p key limit q ∙ e in
+            let none : None ≡ Some v = hex_none p key limit q ∙ e in
             absurd (let z : ◌≡◌ {A = ℕ} 0 1 = cc in omega arith)
 
-    pub key_hex_all : {v : ℕ} → KeyHex p key limit v → hex_at p key limit ≡ N.Value v
+    pub key_hex_all : {v : ℕ} → KeyHex p key limit v → hex_at p key limit ≡ Some v
     key_hex_all {v} r =
         sym (hex_some p key limit (last_pair_all p key r.found.last))
         ∙ hex_all limit (rw (← r.found.is) r.reads)

@@ -1,4 +1,5 @@
 -- The largest byte is below 128 exactly where every byte is. Assumes nothing.
+use Rattle.std.specs.Prelude.{None, Option, Some}
 use Prim.Native.Nat.{ℕ, ◌+◌, ◌-◌, ◌≤◌, ◌<◌}
 use mathlib.Core.Path.{◌≡◌, refl, sym, ◌∙◌}
 use mathlib.Core.Bool.{true, false}
@@ -12,8 +13,6 @@ use borrow.Author.Tests.{le-leb, lt-leb, lt-ltb, le-ltb}
 use Rattle.scan.specs.High.{high_at, is_nothing, Level}
 use Rattle.scan.specs.Frame.{first_high}
 use Rattle.text.specs.Place.{Free, first_place}
-use Rattle.text.specs.declared.place.Found.{Found}
-use Rattle.text.specs.declared.place.Found.TheVariants.{At, Nothing}
 use Rattle.text.proofs.Places.{by_order, clash, first_none, first_free}
 
 module _ (s : List ℕ) where
@@ -46,9 +45,9 @@ module _ (s : List ℕ) where
   unfolding first_high is_nothing
   some_is k h t = go (first_place (high_at s) (length s) 0) refl
     where
-      go : (f : Found) → first_place (high_at s) (length s) 0 ≡ f → false ≡ is_nothing f
-      go (At j) e = refl
-      go Nothing e = absurd (clash t (first_free (high_at s) {i = 0} {n = length s} e (omega arith) k (omega arith) h))
+      go : (f : Option ℕ) → first_place (high_at s) (length s) 0 ≡ f → false ≡ is_nothing f
+      go (Some j) e = refl
+      go None e = absurd (clash t (first_free (high_at s) {i = 0} {n = length s} e (omega arith) k (omega arith) h))
 
   pub level_tells : {m : ℕ} → Level s (length s) m → ltb m 128 ≡ is_nothing (first_high s)
   level_tells {m} r =
@@ -95,18 +94,18 @@ module _ (s : List ℕ) where
 
 -- what a caller is told: no byte is high, or one is
 module _ (t : List ℕ) where
-  pub none_told : is_nothing (first_high t) ≡ true → first_high t ≡ Nothing
+  pub none_told : is_nothing (first_high t) ≡ true → first_high t ≡ None
   unfolding is_nothing
   none_told e = go (first_high t) e
     where
-      go : (f : Found) → is_nothing f ≡ true → f ≡ Nothing
-      go (At k) q = absurd (let z : ◌≡◌ {A = ℕ} 0 1 = cc in omega arith)
-      go Nothing q = refl
+      go : (f : Option ℕ) → is_nothing f ≡ true → f ≡ None
+      go (Some k) q = absurd (let z : ◌≡◌ {A = ℕ} 0 1 = cc in omega arith)
+      go None q = refl
 
-  pub some_told : is_nothing (first_high t) ≡ false → (k : ℕ) × (first_high t ≡ At k)
+  pub some_told : is_nothing (first_high t) ≡ false → (k : ℕ) × (first_high t ≡ Some k)
   unfolding is_nothing
   some_told e = go (first_high t) refl e
     where
-      go : (f : Found) → first_high t ≡ f → is_nothing f ≡ false → (k : ℕ) × (first_high t ≡ At k)
-      go (At k) q r = (k, q)
-      go Nothing q r = absurd (let z : ◌≡◌ {A = ℕ} 0 1 = cc in omega arith)
+      go : (f : Option ℕ) → first_high t ≡ f → is_nothing f ≡ false → (k : ℕ) × (first_high t ≡ Some k)
+      go (Some k) q r = (k, q)
+      go None q r = absurd (let z : ◌≡◌ {A = ℕ} 0 1 = cc in omega arith)

@@ -1,4 +1,5 @@
 -- The split: the last colon has one place, and what is left on its sides is stripped to one header and one payload. Assumes nothing.
+use Rattle.std.specs.Prelude.{Some}
 use Prim.Native.Nat.{ℕ, suc, ◌+◌, ◌-◌, ◌≤◌}
 use mathlib.Core.Path.{◌≡◌, refl, sym, ap, ◌∙◌}
 use mathlib.Core.List.{List, [], ◌∷◌, ◌++◌}
@@ -7,7 +8,6 @@ use native.Mathlib.Omega.{arith}
 use lib.ListN.{length, get_or, take, drop, length-append, length-drop}
 use lib.Seq.{split_at, get_or-drop, get_or-append_seam, get_or-append-add, take_at}
 use borrow.Author.Tests.{eq-eqb, ne_eqb, eqb-true}
-use Rattle.text.specs.declared.place.Found.TheVariants.{At}
 use Rattle.text.specs.Place.{Last, last_byte, is_at}
 use Rattle.text.specs.Run.{stripped}
 use Rattle.text.proofs.Places.{clash, last_is, last_all}
@@ -15,7 +15,7 @@ use Rattle.text.proofs.Stripping.{strip_is, strip_all}
 use Rattle.scan.specs.Frame.{Split}
 
 -- header and payload behind the last colon are a split
-pub split_is : (t : List ℕ) {k : ℕ} → last_byte 58 t ≡ At k → Split t (stripped (take k t)) (stripped (drop (k + 1) t))
+pub split_is : (t : List ℕ) {k : ℕ} → last_byte 58 t ≡ Some k → Split t (stripped (take k t)) (stripped (drop (k + 1) t))
 unfolding last_byte
 split_is t {k} e =
     let r : Last (is_at 58 t) (length t) k = last_is (is_at 58 t) e in
@@ -34,7 +34,7 @@ module _ (t h p : List ℕ) (s : Split t h p) where
   size : length t ≡ length s.before + suc (length s.after)
   size = ap length s.whole ∙ length-append s.before (58 ∷ s.after)
 
-  pub split_colon : last_byte 58 t ≡ At (length s.before)
+  pub split_colon : last_byte 58 t ≡ Some (length s.before)
   unfolding last_byte
   split_colon =
       last_all (is_at 58 t) (length t)
@@ -68,7 +68,7 @@ module _ (t h p : List ℕ) (s : Split t h p) where
       drop-behind (x ∷ a) b = drop-behind a b
 
 -- so there is one
-module _ (t : List ℕ) {k : ℕ} (colon : last_byte 58 t ≡ At k) {h p : List ℕ} (s : Split t h p) where
+module _ (t : List ℕ) {k : ℕ} (colon : last_byte 58 t ≡ Some k) {h p : List ℕ} (s : Split t h p) where
   pub one_header : h ≡ stripped (take k t)
   one_header =
       let e = split_colon t h p s in

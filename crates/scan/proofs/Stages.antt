@@ -1,18 +1,18 @@
 -- The stages of the reading: at each way out the answer is the definition's, and the slots hold the dwords or are as found.
 -- Assumes nothing.
+use Rattle.std.specs.Prelude.{Err, None, Ok, Option, Result, Some}
+use Rattle.refusal.specs.declared.Refusal.{Refusal}
+use Rattle.refusal.specs.declared.Refusal.TheVariants as Refusal
+use Rattle.entry.specs.declared.Entry.{Entry}
 use Prim.Native.Nat.{ℕ, ◌+◌, ◌^◌, ◌≤◌, ◌<◌}
 use mathlib.Core.Path.{◌≡◌, refl, sym, ap, ◌∙◌}
 use mathlib.Core.Bool.{Bool, true, false}
 use mathlib.Core.List.{List}
-use mathlib.Core.Option.{Option, some, none}
 use native.Mathlib.Omega.{arith}
 use lib.ListN.{length, take, drop, length-take}
 use borrow.Author.Tests.{lt-ltb, le-ltb}
 use Rattle.text.specs.Told as T
 use Rattle.text.proofs.Told.{by_cases, fixed_by_told}
-use Rattle.text.specs.declared.place.Found.{Found}
-use Rattle.text.specs.declared.place.Found.TheVariants as P
-use Rattle.text.specs.Number.{number_value}
 use Rattle.header.specs.Dash.{task_of, pid_of}
 use Rattle.header.specs.Cpu.{cpu_of}
 use Rattle.header.specs.Stamp.{stamp_of}
@@ -23,20 +23,10 @@ use Rattle.pairs.specs.Pair.{part, last_pair}
 use Rattle.pairs.specs.Data.{inside_of, data_in, data_of, dwords_of, bad_of, bad_in, bad_data, filled}
 use Rattle.text.proofs.Stripping.{strip_size}
 use Rattle.header.proofs.Functions.{function_within}
-use Rattle.scan.specs.declared.frame.FrameAnswer.{FrameAnswer}
-use Rattle.scan.specs.declared.frame.FrameAnswer.TheVariants as F
-use Rattle.scan.specs.declared.head.HeadAnswer.{HeadAnswer}
-use Rattle.scan.specs.declared.head.HeadAnswer.TheVariants as H
-use Rattle.scan.specs.declared.body.BodyAnswer.{BodyAnswer}
-use Rattle.scan.specs.declared.body.BodyAnswer.TheVariants as B
 use Rattle.scan.specs.declared.head.Head.{Head}
 use Rattle.scan.specs.declared.body.Body.{Body}
-use Rattle.scan.specs.declared.dwords.DataAnswer.{DataAnswer}
-use Rattle.scan.specs.declared.dwords.DataAnswer.TheVariants as D
 use Rattle.scan.specs.declared.Pieces.{Pieces}
-use Rattle.scan.specs.declared.Answer.{Answer}
-use Rattle.scan.specs.declared.Answer.TheVariants as A
-use Rattle.scan.specs.Need.{need, place_value, stamp_value}
+use Rattle.scan.specs.Need.{need, stamp_value}
 use Rattle.scan.specs.Frame.{frame_told, frame_of}
 use Rattle.scan.specs.Head.{head_told, head_of, head6, head7, head8, head9, head_got}
 use Rattle.scan.specs.Body.{text_at, body_told, body_of}
@@ -45,16 +35,16 @@ use Rattle.scan.specs.Parse.{header_of, payload_of, start_of, entry_of, with_dat
 
 -- the dwords of a payload, as code finds them
 module _ (pieces : Pieces) (p out : List ℕ) where
-  pub data_missing : last_pair p (bytes "data") ≡ Nothing → DataRead pieces p out out (D.Refused 15)
+  pub data_missing : last_pair p (bytes "data") ≡ Nothing → DataRead pieces p out out (Err Refusal.NoData)
   unfolding data_answer payload_data text_at data_slots
   data_missing e = record { answer = rw e; slots = refl }
 
   module _ {a b : ℕ} (found : last_pair p (bytes "data") ≡ At a b) where
-    pub data_unbracketed : inside_of (part p a b) ≡ Nothing → DataRead pieces p out out (D.Refused 15)
+    pub data_unbracketed : inside_of (part p a b) ≡ Nothing → DataRead pieces p out out (Err Refusal.NoData)
     unfolding data_answer payload_data text_at data_slots data_of data_in
     data_unbracketed e = record { answer = rw (found, e); slots = refl }
 
-    pub data_there : {x y : ℕ} → inside_of (part p a b) ≡ At x y → payload_data p ≡ some (dwords_of (part (part p a b) x y))
+    pub data_there : {x y : ℕ} → inside_of (part p a b) ≡ At x y → payload_data p ≡ Some (dwords_of (part (part p a b) x y))
     unfolding payload_data text_at data_of data_in
     data_there e = rw (found, e)
 
@@ -63,39 +53,39 @@ module _ (pieces : Pieces) (p out : List ℕ) where
     unfolding payload_bad text_at bad_data bad_in
     bad_there e q h = rw (found, e, ← q) (sym h)
 
-  module _ (ds : List ℕ) (there : payload_data p ≡ some ds) where
-    pub data_bad : refuses pieces (payload_bad p) ≡ true → DataRead pieces p out out (D.Refused 18)
+  module _ (ds : List ℕ) (there : payload_data p ≡ Some ds) where
+    pub data_bad : refuses pieces (payload_bad p) ≡ true → DataRead pieces p out out (Err Refusal.BadPiece)
     unfolding data_answer data_slots
     data_bad b = record { answer = rw (there, b); slots = refl }
 
     module _ (good : refuses pieces (payload_bad p) ≡ false) where
-      pub data-many : 256 < length ds → DataRead pieces p out out (D.Refused 16)
+      pub data-many : 256 < length ds → DataRead pieces p out out (Err Refusal.ManyDwords)
       unfolding data_answer data_slots
       data-many h = record { answer = rw (there, good, lt-ltb 256 (length ds) h); slots = refl }
 
-      pub data-crowded : length ds ≤ 256 → length out < length ds → DataRead pieces p out out (D.Refused 17)
+      pub data-crowded : length ds ≤ 256 → length out < length ds → DataRead pieces p out out (Err Refusal.FewSlots)
       unfolding data_answer data_slots
       data-crowded h l = record { answer = rw (there, good, le-ltb 256 (length ds) h, lt-ltb (length out) (length ds) l); slots = refl }
 
-      pub data-got : (exit : List ℕ) (n : ℕ) → n ≡ length ds → length ds ≤ 256 → length ds ≤ length out → exit ≡ filled ds out → DataRead pieces p out exit (D.Got n)
+      pub data-got : (exit : List ℕ) (n : ℕ) → n ≡ length ds → length ds ≤ 256 → length ds ≤ length out → exit ≡ filled ds out → DataRead pieces p out exit (Ok n)
       unfolding data_answer data_slots
       data-got exit n q h l e =
           record { answer = rw (there, good, le-ltb 256 (length ds) h, le-ltb (length out) (length ds) l, q); slots = rw there e }
 
 -- header and payload together
 module _ (pieces : Pieces) (header : List ℕ) (start : ℕ) (head : Head) (payload out : List ℕ) where
-  pub payload_refused : {k : ℕ} → body_of payload (drop head.function header) ≡ T.refused k → PayloadRead pieces header start head payload out out (A.Refused k)
+  pub payload_refused : {k : ℕ} → body_of payload (drop head.function header) ≡ T.refused k → PayloadRead pieces header start head payload out out (Err k)
   unfolding payload_answer with_body slots_by
   payload_refused e = record { answer = rw e; slots = refl }
 
-  module _ {body : Body} (got : body_of payload (drop head.function header) ≡ T.is body) {exit : List ℕ} {r : DataAnswer} (read : DataRead pieces payload out exit r) where
-    pub data_refused : {k : ℕ} → r ≡ D.Refused k → PayloadRead pieces header start head payload out exit (A.Refused k)
+  module _ {body : Body} (got : body_of payload (drop head.function header) ≡ T.is body) {exit : List ℕ} {r : Result ℕ Refusal} (read : DataRead pieces payload out exit r) where
+    pub data_refused : {k : ℕ} → r ≡ Err k → PayloadRead pieces header start head payload out exit (Err k)
     unfolding payload_answer with_body with_data slots_by data_slots
     data_refused e =
         let a : data_answer pieces payload (length out) ≡ T.refused _ = sym read.answer ∙ ap data_told e in
         record { answer = rw (got, a); slots = read.slots ∙ rw e }
 
-    pub payload_read : {n : ℕ} {x : _} → r ≡ D.Got n → x ≡ entry_of start (length header) head body n → PayloadRead pieces header start head payload out exit (A.Entry x)
+    pub payload_read : {n : ℕ} {x : _} → r ≡ Ok n → x ≡ entry_of start (length header) head body n → PayloadRead pieces header start head payload out exit (Ok x)
     unfolding payload_answer with_body with_data slots_by data_slots
     payload_read e q =
         let a : data_answer pieces payload (length out) ≡ T.is _ = sym read.answer ∙ ap data_told e in
@@ -103,33 +93,32 @@ module _ (pieces : Pieces) (header : List ℕ) (start : ℕ) (head : Head) (payl
 
 -- a line parted at a colon
 module _ (pieces : Pieces) (t : List ℕ) (colon : ℕ) (out : List ℕ) where
-  pub parted_refused : {k : ℕ} → head_of (header_of t colon) ≡ T.refused k → PartedRead pieces t colon out out (A.Refused k)
+  pub parted_refused : {k : ℕ} → head_of (header_of t colon) ≡ T.refused k → PartedRead pieces t colon out out (Err k)
   unfolding parted_answer with_head slots_by
   parted_refused e = record { answer = rw e; slots = refl }
 
-  pub parted_read : {head : Head} {exit : List ℕ} {r : Answer} → head_of (header_of t colon) ≡ T.is head → PayloadRead pieces (header_of t colon) (start_of t colon) head (payload_of t colon) out exit r → PartedRead pieces t colon out exit r
+  pub parted_read : {head : Head} {exit : List ℕ} {r : Result Entry Refusal} → head_of (header_of t colon) ≡ T.is head → PayloadRead pieces (header_of t colon) (start_of t colon) head (payload_of t colon) out exit r → PartedRead pieces t colon out exit r
   unfolding parted_answer with_head
   parted_read e p = record { answer = p.answer ∙ rw e; slots = p.slots }
 
 -- a line
 module _ (pieces : Pieces) (t out : List ℕ) where
-  pub line_refused : {k : ℕ} → frame_of t ≡ T.refused k → Parsed pieces t out out (A.Refused k)
+  pub line_refused : {k : ℕ} → frame_of t ≡ T.refused k → Parsed pieces t out out (Err k)
   unfolding parse_of with_frame slots_by
   line_refused e = record { answer = rw e; slots = refl }
 
-  pub line_read : {k : ℕ} {exit : List ℕ} {r : Answer} → frame_of t ≡ T.is k → PartedRead pieces t k out exit r → Parsed pieces t out exit r
+  pub line_read : {k : ℕ} {exit : List ℕ} {r : Result Entry Refusal} → frame_of t ≡ T.is k → PartedRead pieces t k out exit r → Parsed pieces t out exit r
   unfolding parse_of with_frame line_dwords dwords_by
   line_read e p = record { answer = p.answer ∙ rw e; slots = p.slots ∙ rw e }
 
 -- what a need went on with
-pub need_goes_on : {X B : Type 0} (o : Option X) (x : B) (f : X → B) {y : B} → need x o f ≡ y → (x ≡ y → ⊥) → (a : X) × (o ≡ some a) × (f a ≡ y)
-need_goes_on none x f e n = absurd (n e)
-need_goes_on (some a) x f e n = (a, refl, e)
+pub need_goes_on : {X B : Type 0} (o : Option X) (x : B) (f : X → B) {y : B} → need x o f ≡ y → (x ≡ y → ⊥) → (a : X) × (o ≡ Some a) × (f a ≡ y)
+need_goes_on None x f e n = absurd (n e)
+need_goes_on (Some a) x f e n = (a, refl, e)
 
-place_tells : (f : Found) {k : ℕ} → place_value f ≡ some k → f ≡ P.At k
-unfolding place_value
-place_tells (P.At j) e = cc
-place_tells P.Nothing e = absurd (let z : ◌≡◌ {A = ℕ} 0 1 = cc in omega arith)
+place_tells : (f : Option ℕ) {k : ℕ} → f ≡ Some k → f ≡ Some k
+place_tells (Some j) e = cc
+place_tells None e = absurd (let z : ◌≡◌ {A = ℕ} 0 1 = cc in omega arith)
 
 unlike : {k : ℕ} {head : Head} → T.refused k ≡ T.is head → ⊥
 unlike e = let z : ◌≡◌ {A = ℕ} 0 1 = cc in omega arith
@@ -138,18 +127,18 @@ same_function : {x y : Head} → T.is x ≡ T.is y → x.function ≡ y.function
 same_function {x} {y} q = let e : x ≡ y = cc in ap (λ (z : Head). z.function) e
 
 -- a header that was read has its function where it says
-pub head_function : (h : List ℕ) {head : Head} → head_of h ≡ T.is head → function_of h ≡ P.At head.function
+pub head_function : (h : List ℕ) {head : Head} → head_of h ≡ T.is head → function_of h ≡ Some head.function
 unfolding head_of
 head_function h {head} e =
-    let a = need_goes_on (place_value (task_of h)) (T.refused 5) (head6 h) e unlike in
-    let b = need_goes_on (number_value (pid_of h)) (T.refused 6) (head7 h a.0) a.2 unlike in
-    let c = need_goes_on (number_value (cpu_of h)) (T.refused 7) (head8 h a.0 b.0) b.2 unlike in
+    let a = need_goes_on (task_of h) (T.refused 5) (head6 h) e unlike in
+    let b = need_goes_on (pid_of h) (T.refused 6) (head7 h a.0) a.2 unlike in
+    let c = need_goes_on (cpu_of h) (T.refused 7) (head8 h a.0 b.0) b.2 unlike in
     let d = need_goes_on (stamp_value (stamp_of h)) (T.refused 8) (head9 h a.0 b.0 c.0) c.2 unlike in
-    let f = need_goes_on (place_value (function_of h)) (T.refused 9) (head_got a.0 b.0 c.0 d.0) d.2 unlike in
-    place_tells (function_of h) (f.1 ∙ ap some (same_function f.2))
+    let f = need_goes_on (function_of h) (T.refused 9) (head_got a.0 b.0 c.0 d.0) d.2 unlike in
+    place_tells (function_of h) (f.1 ∙ ap Some (same_function f.2))
 
 -- the same header, start and payload under other names
-pub payload_same : {pieces : Pieces} {h h' p p' out exit : List ℕ} {s s' : ℕ} {head : Head} {r : Answer} → h ≡ h' → s ≡ s' → p ≡ p' → PayloadRead pieces h s head p out exit r → PayloadRead pieces h' s' head p' out exit r
+pub payload_same : {pieces : Pieces} {h h' p p' out exit : List ℕ} {s s' : ℕ} {head : Head} {r : Result Entry Refusal} → h ≡ h' → s ≡ s' → p ≡ p' → PayloadRead pieces h s head p out exit r → PayloadRead pieces h' s' head p' out exit r
 payload_same a b c q = rw (← a, ← b, ← c) q
 
 -- what a header that was read allows: its function lies in it, and the line has its places
@@ -161,30 +150,30 @@ parted_allows t colon {head} {h} {s} a b fits e =
 
 -- ---- no second answer of a stage: two that tell the same are the same
 
-pub one_frame_answer : (a b : FrameAnswer) → frame_told a ≡ frame_told b → a ≡ b
-one_frame_answer = fixed_by_told frame_told (by_cases F.Colon (F.Refused 0) F.Refused) same
+pub one_frame_answer : (a b : Result ℕ Refusal) → frame_told a ≡ frame_told b → a ≡ b
+one_frame_answer = fixed_by_told frame_told (by_cases Ok (Err 0) Err) same
   where
-    same : (a : FrameAnswer) → by_cases F.Colon (F.Refused 0) F.Refused (frame_told a) ≡ a
-    same (F.Colon k) = refl
-    same (F.Refused k) = refl
+    same : (a : Result ℕ Refusal) → by_cases Ok (Err 0) Err (frame_told a) ≡ a
+    same (Ok k) = refl
+    same (Err k) = refl
 
-pub one_head_answer : (a b : HeadAnswer) → head_told a ≡ head_told b → a ≡ b
-one_head_answer = fixed_by_told head_told (by_cases H.Got (H.Refused 0) H.Refused) same
+pub one_head_answer : (a b : Result Head Refusal) → head_told a ≡ head_told b → a ≡ b
+one_head_answer = fixed_by_told head_told (by_cases Ok (Err 0) Err) same
   where
-    same : (a : HeadAnswer) → by_cases H.Got (H.Refused 0) H.Refused (head_told a) ≡ a
-    same (H.Got head) = refl
-    same (H.Refused k) = refl
+    same : (a : Result Head Refusal) → by_cases Ok (Err 0) Err (head_told a) ≡ a
+    same (Ok head) = refl
+    same (Err k) = refl
 
-pub one_body_answer : (a b : BodyAnswer) → body_told a ≡ body_told b → a ≡ b
-one_body_answer = fixed_by_told body_told (by_cases B.Got (B.Refused 0) B.Refused) same
+pub one_body_answer : (a b : Result Body Refusal) → body_told a ≡ body_told b → a ≡ b
+one_body_answer = fixed_by_told body_told (by_cases Ok (Err 0) Err) same
   where
-    same : (a : BodyAnswer) → by_cases B.Got (B.Refused 0) B.Refused (body_told a) ≡ a
-    same (B.Got body) = refl
-    same (B.Refused k) = refl
+    same : (a : Result Body Refusal) → by_cases Ok (Err 0) Err (body_told a) ≡ a
+    same (Ok body) = refl
+    same (Err k) = refl
 
-pub one_data_answer : (a b : DataAnswer) → data_told a ≡ data_told b → a ≡ b
-one_data_answer = fixed_by_told data_told (by_cases D.Got (D.Refused 0) D.Refused) same
+pub one_data_answer : (a b : Result ℕ Refusal) → data_told a ≡ data_told b → a ≡ b
+one_data_answer = fixed_by_told data_told (by_cases Ok (Err 0) Err) same
   where
-    same : (a : DataAnswer) → by_cases D.Got (D.Refused 0) D.Refused (data_told a) ≡ a
-    same (D.Got n) = refl
-    same (D.Refused k) = refl
+    same : (a : Result ℕ Refusal) → by_cases Ok (Err 0) Err (data_told a) ≡ a
+    same (Ok n) = refl
+    same (Err k) = refl

@@ -1,11 +1,12 @@
 -- The promises of the line, as an auditor looks for them: given 256 slots, accepted exactly when it belongs to the grammar; each number exactly when it
 -- applies first, one reading, no second answer. All follow from `judge` and from each field having one value. Assumes nothing.
+use Rattle.std.specs.Prelude.{Err, None, Ok, Option, Result, Some}
+use Rattle.refusal.specs.declared.Refusal.{Refusal}
 use Prim.Native.Nat.{ℕ, ◌-◌, ◌^◌, ◌≤◌, ◌<◌}
 use mathlib.Core.Path.{◌≡◌, refl, sym, ap, ◌∙◌}
 use mathlib.Core.Bool.{Bool, true, false, cond}
 use mathlib.Core.List.{List, ◌++◌}
 use mathlib.Core.Logic.{◌↔◌}
-use mathlib.Core.Option.{Option, some, none}
 use native.Mathlib.Omega.{arith}
 use lib.Dec.{eqb}
 use lib.ListN.{length, drop}
@@ -25,8 +26,6 @@ use Rattle.header.proofs.Functions.{one_function}
 use Rattle.pairs.proofs.LastPairs.{one_last_pair}
 use Rattle.pairs.proofs.Slots.{one_data}
 use Rattle.scan.specs.declared.Pieces.{Pieces}
-use Rattle.scan.specs.declared.Answer.{Answer}
-use Rattle.scan.specs.declared.Answer.TheVariants as A
 use Rattle.scan.specs.Frame.{Split}
 use Rattle.scan.specs.Parse.{parse_of, line_dwords, answer_told, slots_by, Parsed}
 use Rattle.scan.specs.Line.{KeyText, KeyDecimal, KeyHex, Optional, Dropped, Dwords, Line, Has, MoreThan, Condition, order_of, Applies}
@@ -64,10 +63,10 @@ one_key_hex p key limit a b =
 
 -- an optional field of one value is one
 pub one_optional : (Reads : ℕ → Type 0) → ((v w : ℕ) → Reads v → Reads w → v ≡ w) → (a b : Option ℕ) → Optional Reads a → Optional Reads b → a ≡ b
-one_optional R one (some v) (some w) x y = ap some (one v w x y)
-one_optional R one (some v) none x y = absurd (y v x)
-one_optional R one none (some w) x y = absurd (x w y)
-one_optional R one none none x y = refl
+one_optional R one (Some v) (Some w) x y = ap Some (one v w x y)
+one_optional R one (Some v) None x y = absurd (y v x)
+one_optional R one None (Some w) x y = absurd (x w y)
+one_optional R one None None x y = refl
 
 one_dropped : (p : List ℕ) (a b : Bool) → Dropped p a → Dropped p b → a ≡ b
 one_dropped p true true x y = refl
@@ -228,7 +227,7 @@ pub record Handed (pieces : Pieces) (t out exit : List ℕ) (e : Entry) : Type 0
   pub count : e.dwords ≡ length (value_of e t exit).dwords
   pub slots : exit ≡ (value_of e t exit).dwords ++ drop e.dwords out
 
-pub parsed_entry : (pieces : Pieces) (t out : List ℕ) {exit : List ℕ} {e : Entry} → Parsed pieces t out exit (A.Entry e) → Handed pieces t out exit e
+pub parsed_entry : (pieces : Pieces) (t out : List ℕ) {exit : List ℕ} {e : Entry} → Parsed pieces t out exit (Ok e) → Handed pieces t out exit e
 unfolding slots_by value_of
 parsed_entry pieces t out {exit} {e} p =
     let s : Says pieces t e = entry_says pieces t (length out) (sym p.answer) in
@@ -241,20 +240,20 @@ parsed_entry pieces t out {exit} {e} p =
     }
 
 -- a refusal is the first number that applies, and no slot is touched
-pub parsed_refused : (pieces : Pieces) (t out : List ℕ) {exit : List ℕ} {k : ℕ} → Parsed pieces t out exit (A.Refused k) → Applies pieces t (length out) k × (exit ≡ out)
+pub parsed_refused : (pieces : Pieces) (t out : List ℕ) {exit : List ℕ} {k : ℕ} → Parsed pieces t out exit (Err k) → Applies pieces t (length out) k × (exit ≡ out)
 unfolding slots_by
 parsed_refused pieces t out p = ((line_number_exactly pieces t (length out) _).0 (sym p.answer), p.slots)
 
 -- two answers that tell the same are the same
-pub one_line_answer : (a b : Answer) → answer_told a ≡ answer_told b → a ≡ b
-one_line_answer = fixed_by_told answer_told (by_cases A.Entry (A.Refused 0) A.Refused) same
+pub one_line_answer : (a b : Result Entry Refusal) → answer_told a ≡ answer_told b → a ≡ b
+one_line_answer = fixed_by_told answer_told (by_cases Ok (Err 0) Err) same
   where
-    same : (a : Answer) → by_cases A.Entry (A.Refused 0) A.Refused (answer_told a) ≡ a
-    same (A.Entry e) = refl
-    same (A.Refused k) = refl
+    same : (a : Result Entry Refusal) → by_cases Ok (Err 0) Err (answer_told a) ≡ a
+    same (Ok e) = refl
+    same (Err k) = refl
 
 -- no second answer satisfies the contract, slots included
-pub no_second_answer : (pieces : Pieces) (t out : List ℕ) {exit exit' : List ℕ} {r r' : Answer} → Parsed pieces t out exit r → Parsed pieces t out exit' r' → (r ≡ r') × (exit ≡ exit')
+pub no_second_answer : (pieces : Pieces) (t out : List ℕ) {exit exit' : List ℕ} {r r' : Result Entry Refusal} → Parsed pieces t out exit r → Parsed pieces t out exit' r' → (r ≡ r') × (exit ≡ exit')
 no_second_answer pieces t out {exit} {exit'} {r} {r'} a b =
     let same : answer_told r ≡ answer_told r' = a.answer ∙ sym b.answer in
     (one_line_answer r r' same, a.slots ∙ rw same (sym b.slots))

@@ -1,27 +1,24 @@
 -- What an entry says: its task and function are parts of the stripped header wherever that lies in the line, and its optional fields are
 -- what the keys' last pairs read as. Assumes nothing.
+use Rattle.std.specs.Prelude.{None, Option, Some}
 use Prim.Native.Nat.{ℕ, ◌+◌, ◌-◌, ◌^◌, ◌≤◌}
 use mathlib.Core.Path.{◌≡◌, refl, sym, ap, ◌∙◌}
 use mathlib.Core.Bool.{Bool, true, false}
 use mathlib.Core.List.{List, ◌++◌, append_assoc}
-use mathlib.Core.Option.{Option, some, none}
 use native.Mathlib.Omega.{arith}
 use lib.Dec.{eqb}
 use lib.ListN.{length, take, drop, length-append, length-take, length-drop, take-append-drop}
 use lib.Seq.{drop-drop, drop-append-le, take-append-le, take_all, take_at}
 use borrow.Author.Tests.{eqb-true, eqb-false}
-use Rattle.text.specs.declared.number.Number.{Number}
-use Rattle.text.specs.declared.number.Number.TheVariants as N
 use Rattle.text.specs.Class.{is_blank}
-use Rattle.text.specs.Number.{number_value}
 use Rattle.text.specs.Run.{run_end, run_start, stripped}
 use Rattle.text.proofs.Runs.{run_within}
 use Rattle.text.proofs.Stripping.{rest_is, strip_size}
-use Rattle.entry.specs.Entry.{part_of, byte_value, word_value}
+use Rattle.entry.specs.Entry.{part_of}
 use Rattle.entry.proofs.Parts.{part_in}
 use Rattle.pairs.specs.Pair.{decimal_of, hex_at}
 use Rattle.pairs.specs.Data.{filled}
-use Rattle.scan.specs.Body.{as_byte, as_word, is_one}
+use Rattle.scan.specs.Body.{is_one}
 use Rattle.scan.specs.Line.{KeyDecimal, KeyHex, Optional, Dropped}
 use Rattle.scan.proofs.Keys.{key_decimal_is, key_decimal_all, key_hex_is, key_hex_all}
 use Rattle.text.specs.Quote.{bytes}
@@ -71,43 +68,39 @@ pub dwords_whole : (ds : List ℕ) → part_of ds 0 (length ds) ≡ ds
 dwords_whole ds = sym (part_in ds 0 (length ds) (omega arith)) ∙ take_all (length ds) ds (omega arith)
 
 -- a byte or word that was read, as a value
-pub byte_read : (o : Option ℕ) → byte_value (as_byte o) ≡ o
-unfolding byte_value as_byte
-byte_read (some v) = refl
-byte_read none = refl
+pub byte_read : (o : Option ℕ) → o ≡ o
+byte_read (Some v) = refl
+byte_read None = refl
 
-pub word_read : (o : Option ℕ) → word_value (as_word o) ≡ o
-unfolding word_value as_word
-word_read (some v) = refl
-word_read none = refl
+pub word_read : (o : Option ℕ) → o ≡ o
+word_read (Some v) = refl
+word_read None = refl
 
 -- an optional field is what its key reads as, or the key reads as nothing
 module _ (p key : List ℕ) (limit : ℕ) where
-  pub optional_decimal : Optional (KeyDecimal p key limit) (number_value (decimal_of p key limit))
-  unfolding number_value
+  pub optional_decimal : Optional (KeyDecimal p key limit) (decimal_of p key limit)
   optional_decimal = go (decimal_of p key limit) refl
     where
-      go : (n : Number) → decimal_of p key limit ≡ n → Optional (KeyDecimal p key limit) (number_value n)
-      go (N.Value v) e = key_decimal_is p key limit e
-      go N.Unreadable e = λ v r. let q = key_decimal_all p key limit r in absurd (let z : ◌≡◌ {A = ℕ} 0 1 = cc in omega arith)
+      go : (n : Option ℕ) → decimal_of p key limit ≡ n → Optional (KeyDecimal p key limit) (n)
+      go (Some v) e = key_decimal_is p key limit e
+      go None e = λ v r. let q = key_decimal_all p key limit r in absurd (let z : ◌≡◌ {A = ℕ} 0 1 = cc in omega arith)
 
-  pub optional_hex : Optional (KeyHex p key limit) (number_value (hex_at p key limit))
-  unfolding number_value
+  pub optional_hex : Optional (KeyHex p key limit) (hex_at p key limit)
   optional_hex = go (hex_at p key limit) refl
     where
-      go : (n : Number) → hex_at p key limit ≡ n → Optional (KeyHex p key limit) (number_value n)
-      go (N.Value v) e = key_hex_is p key limit e
-      go N.Unreadable e = λ v r. let q = key_hex_all p key limit r in absurd (let z : ◌≡◌ {A = ℕ} 0 1 = cc in omega arith)
+      go : (n : Option ℕ) → hex_at p key limit ≡ n → Optional (KeyHex p key limit) (n)
+      go (Some v) e = key_hex_is p key limit e
+      go None e = λ v r. let q = key_hex_all p key limit r in absurd (let z : ◌≡◌ {A = ℕ} 0 1 = cc in omega arith)
 
 -- dropped, as it is read
 pub dropped_is : (p : List ℕ) → Dropped p (is_one (decimal_of p (bytes "dropped") (2 ^ 8 - 1)))
 unfolding is_one
 dropped_is p = go (decimal_of p (bytes "dropped") (2 ^ 8 - 1)) refl
   where
-    by_value : (v : ℕ) → decimal_of p (bytes "dropped") (2 ^ 8 - 1) ≡ N.Value v → (b : Bool) → eqb v 1 ≡ b → Dropped p b
-    by_value v e true q = let w : v ≡ 1 = eqb-true v 1 q in key_decimal_is p (bytes "dropped") (2 ^ 8 - 1) (e ∙ ap N.Value w)
+    by_value : (v : ℕ) → decimal_of p (bytes "dropped") (2 ^ 8 - 1) ≡ Some v → (b : Bool) → eqb v 1 ≡ b → Dropped p b
+    by_value v e true q = let w : v ≡ 1 = eqb-true v 1 q in key_decimal_is p (bytes "dropped") (2 ^ 8 - 1) (e ∙ ap Some w)
     by_value v e false q = λ r. let w = key_decimal_all p (bytes "dropped") (2 ^ 8 - 1) r in eqb-false v 1 q (let z : v ≡ 1 = cc in z)
 
-    go : (n : Number) → decimal_of p (bytes "dropped") (2 ^ 8 - 1) ≡ n → Dropped p (is_one n)
-    go (N.Value v) e = by_value v e (eqb v 1) refl
-    go N.Unreadable e = λ r. let w = key_decimal_all p (bytes "dropped") (2 ^ 8 - 1) r in absurd (let z : ◌≡◌ {A = ℕ} 0 1 = cc in omega arith)
+    go : (n : Option ℕ) → decimal_of p (bytes "dropped") (2 ^ 8 - 1) ≡ n → Dropped p (is_one n)
+    go (Some v) e = by_value v e (eqb v 1) refl
+    go None e = λ r. let w = key_decimal_all p (bytes "dropped") (2 ^ 8 - 1) r in absurd (let z : ◌≡◌ {A = ℕ} 0 1 = cc in omega arith)

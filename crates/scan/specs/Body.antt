@@ -1,60 +1,41 @@
 -- Numbers 11 to 14: what a payload says but for its dwords, in the order of the numbers.
-use Rattle.std.specs.Prelude.{ℕ, ◌-◌, ◌^◌, Bool, false, List, eqb}
-use Rattle.std.proofs.Math.Option.{Option, some, none}
+use Rattle.refusal.specs.declared.Refusal.{Refusal}
+use Rattle.std.specs.Prelude.{ℕ, ◌-◌, ◌^◌, Bool, false, List, eqb, Err, None, Ok, Option, Result, Some}
 use Rattle.text.specs.Told.{Told, is, refused}
-use Rattle.text.specs.declared.number.Number.{Number}
-use Rattle.text.specs.declared.number.Number.TheVariants as N
-use Rattle.text.specs.Number.{number_value}
 use Rattle.text.specs.Quote.{bytes}
-use Rattle.entry.specs.declared.optional.MaybeByte.{MaybeByte}
-use Rattle.entry.specs.declared.optional.MaybeByte.TheVariants as B
-use Rattle.entry.specs.declared.optional.MaybeWord.{MaybeWord}
-use Rattle.entry.specs.declared.optional.MaybeWord.TheVariants as W
 use Rattle.entry.specs.Kind.{kind_of}
 use Rattle.pairs.specs.declared.pair.Span.{Span}
 use Rattle.pairs.specs.declared.pair.Span.TheVariants.{At, Nothing}
 use Rattle.pairs.specs.Pair.{part, last_pair, decimal_of, hex_at}
 use Rattle.scan.specs.declared.body.Optionals.{Optionals}
 use Rattle.scan.specs.declared.body.Body.{Body}
-use Rattle.scan.specs.declared.body.BodyAnswer.{BodyAnswer}
-use Rattle.scan.specs.declared.body.BodyAnswer.TheVariants.{Got, Refused}
 use Rattle.scan.specs.Need.{need}
 
 -- the text at a span, if there is one
 unfoldable pub text_at : List ℕ → Span → Option (List ℕ)
-text_at p (At a b) = some (part p a b)
-text_at p Nothing = none
-
--- a value of 8 bits, absent where there is none
-unfoldable pub as_byte : Option ℕ → MaybeByte
-as_byte (some v) = B.Is v
-as_byte none = B.Absent
-
--- a value of 16 bits, absent where there is none
-unfoldable pub as_word : Option ℕ → MaybeWord
-as_word (some v) = W.Is v
-as_word none = W.Absent
+text_at p (At a b) = Some (part p a b)
+text_at p Nothing = None
 
 -- the key's last pair as hex of 8 bits
-unfoldable pub hex_byte : List ℕ → List ℕ → MaybeByte
-hex_byte p key = as_byte (number_value (hex_at p key (2 ^ 8 - 1)))
+unfoldable pub hex_byte : List ℕ → List ℕ → Option ℕ
+hex_byte p key = (hex_at p key (2 ^ 8 - 1))
 
 -- the key's last pair as hex of 16 bits
-unfoldable pub hex_word : List ℕ → List ℕ → MaybeWord
-hex_word p key = as_word (number_value (hex_at p key (2 ^ 16 - 1)))
+unfoldable pub hex_word : List ℕ → List ℕ → Option ℕ
+hex_word p key = (hex_at p key (2 ^ 16 - 1))
 
 -- the key's last pair as decimal of 8 bits
-unfoldable pub decimal_byte : List ℕ → List ℕ → MaybeByte
-decimal_byte p key = as_byte (number_value (decimal_of p key (2 ^ 8 - 1)))
+unfoldable pub decimal_byte : List ℕ → List ℕ → Option ℕ
+decimal_byte p key = (decimal_of p key (2 ^ 8 - 1))
 
 -- the key's last pair as decimal of 16 bits
-unfoldable pub decimal_word : List ℕ → List ℕ → MaybeWord
-decimal_word p key = as_word (number_value (decimal_of p key (2 ^ 16 - 1)))
+unfoldable pub decimal_word : List ℕ → List ℕ → Option ℕ
+decimal_word p key = (decimal_of p key (2 ^ 16 - 1))
 
 -- a number that reads as 1
-unfoldable pub is_one : Number → Bool
-is_one (N.Value v) = eqb v 1
-is_one N.Unreadable = false
+unfoldable pub is_one : Option ℕ → Bool
+is_one (Some v) = eqb v 1
+is_one None = false
 
 -- `dropped` is true if it reads as 1 in decimal 8 bits, else false
 unfoldable pub dropped_of : List ℕ → Bool
@@ -74,21 +55,21 @@ optionals_of p =
     }
 
 -- what each case of the payload's answer tells: what it says but for its dwords, or the number
-abbrev pub body_told : BodyAnswer → Told Body
-body_told (Got body) = is body
-body_told (Refused k) = refused k
+abbrev pub body_told : Result Body Refusal → Told Body
+body_told (Ok body) = is body
+body_told (Err k) = refused k
 
 -- from each number on
 abbrev pub body14 : List ℕ → ℕ → ℕ → ℕ → Told Body
 body14 p kind size domain =
-    need (refused 14) (number_value (hex_at p (bytes "route") (2 ^ 64 - 1)))
+    need (refused 14) ((hex_at p (bytes "route") (2 ^ 64 - 1)))
     (λ route. is (record { kind = kind; size = size; dropped = dropped_of p; domain = domain; route = route; optionals = optionals_of p }))
 
 abbrev pub body13 : List ℕ → ℕ → ℕ → Told Body
-body13 p kind size = need (refused 13) (number_value (decimal_of p (bytes "domain") (2 ^ 32 - 1))) (body14 p kind size)
+body13 p kind size = need (refused 13) ((decimal_of p (bytes "domain") (2 ^ 32 - 1))) (body14 p kind size)
 
 abbrev pub body12 : List ℕ → ℕ → Told Body
-body12 p kind = need (refused 12) (number_value (decimal_of p (bytes "size") (2 ^ 16 - 1))) (body13 p kind)
+body12 p kind = need (refused 12) ((decimal_of p (bytes "size") (2 ^ 16 - 1))) (body13 p kind)
 
 -- what a payload says, given the function
 unfoldable pub body_of : List ℕ → List ℕ → Told Body

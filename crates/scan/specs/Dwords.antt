@@ -1,20 +1,18 @@
 -- Numbers 15, 18, 16 and 17, in this order: the dwords of a payload, and the slots they go into.
-use Rattle.std.specs.Prelude.{ℕ, ◌≡◌, Bool, false, cond, List, [], ltb, length}
-use Rattle.std.proofs.Math.Option.{Option, some, none}
+use Rattle.refusal.specs.declared.Refusal.{Refusal}
+use Rattle.std.specs.Prelude.{ℕ, ◌≡◌, Bool, false, cond, List, [], ltb, length, Err, None, Ok, Option, Result, Some}
 use Rattle.text.specs.Told.{Told, is, absent, refused}
 use Rattle.text.specs.Quote.{bytes}
 use Rattle.pairs.specs.Pair.{last_pair}
 use Rattle.pairs.specs.Data.{data_of, bad_data, filled}
 use Rattle.scan.specs.declared.Pieces.{Pieces}
 use Rattle.scan.specs.declared.Pieces.TheVariants.{Strict, Lenient}
-use Rattle.scan.specs.declared.dwords.DataAnswer.{DataAnswer}
-use Rattle.scan.specs.declared.dwords.DataAnswer.TheVariants.{Got, Refused}
 use Rattle.scan.specs.Need.{need}
 use Rattle.scan.specs.Body.{text_at}
 
 -- the dwords of the last pair of `data`
 unfoldable pub payload_data : List ℕ → Option (List ℕ)
-payload_data p = need none (text_at p (last_pair p (bytes "data"))) data_of
+payload_data p = need None (text_at p (last_pair p (bytes "data"))) data_of
 
 -- is a piece of the last pair of `data` bad?
 unfoldable pub payload_bad : List ℕ → Bool
@@ -26,9 +24,9 @@ refuses Strict bad = bad
 refuses Lenient bad = false
 
 -- what each case of the data's answer tells: how many dwords, or the number
-abbrev pub data_told : DataAnswer → Told ℕ
-data_told (Got n) = is n
-data_told (Refused k) = refused k
+abbrev pub data_told : Result ℕ Refusal → Told ℕ
+data_told (Ok n) = is n
+data_told (Err k) = refused k
 
 -- 16 counts dwords, then 17 the slots
 abbrev pub data16 : ℕ → List ℕ → Told ℕ
@@ -44,8 +42,8 @@ data_answer pieces p room = need (refused 15) (payload_data p) (data18 (refuses 
 
 -- the dwords, none where there is no data
 abbrev pub or_empty : Option (List ℕ) → List ℕ
-or_empty (some ds) = ds
-or_empty none = []
+or_empty (Some ds) = ds
+or_empty None = []
 
 -- the slots by what is told: success writes the dwords from the first and no others, a refusal none
 unfoldable pub data_slots : Told ℕ → List ℕ → List ℕ → List ℕ
@@ -54,6 +52,6 @@ data_slots absent ds out = out
 data_slots (refused k) ds out = out
 
 -- the answer, and each slot
-pub record DataRead (pieces : Pieces) (p out exit : List ℕ) (r : DataAnswer) : Type 0 where
+pub record DataRead (pieces : Pieces) (p out exit : List ℕ) (r : Result ℕ Refusal) : Type 0 where
   pub answer : data_told r ≡ data_answer pieces p (length out)
   pub slots : exit ≡ data_slots (data_told r) (or_empty (payload_data p)) out

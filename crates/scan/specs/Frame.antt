@@ -1,12 +1,9 @@
 -- Numbers 1 to 4: what a line must be before its parts are looked at.
-use Rattle.std.specs.Prelude.{ℕ, ◌<◌, ◌≤◌, ◌≡◌, Bool, cond, ◌&&◌, ◌||◌, List, [], ◌∷◌, ◌++◌, ltb, leb, eqb, length, get_or}
+use Rattle.refusal.specs.declared.Refusal.{Refusal}
+use Rattle.std.specs.Prelude.{ℕ, ◌<◌, ◌≤◌, ◌≡◌, Bool, cond, ◌&&◌, ◌||◌, List, [], ◌∷◌, ◌++◌, ltb, leb, eqb, length, get_or, Err, None, Ok, Option, Result, Some}
 use Rattle.text.specs.Told.{Told, is, refused}
-use Rattle.text.specs.declared.place.Found.{Found}
-use Rattle.text.specs.declared.place.Found.TheVariants.{At, Nothing}
 use Rattle.text.specs.Place.{first_place, last_byte, is_at}
 use Rattle.text.specs.Run.{Stripped}
-use Rattle.scan.specs.declared.frame.FrameAnswer.{FrameAnswer}
-use Rattle.scan.specs.declared.frame.FrameAnswer.TheVariants.{Colon, Refused}
 
 -- 1: the line is empty, or a newline alone, or starts with `#`
 pub data Idle (t : List ℕ) : Type 0 where
@@ -30,27 +27,27 @@ pub record Split (t header payload : List ℕ) : Type 0 where
   pub payload_stripped : Stripped after payload
 
 -- what each case of the frame's answer tells: the place of the last colon, or the number
-abbrev pub frame_told : FrameAnswer → Told ℕ
-frame_told (Colon k) = is k
-frame_told (Refused k) = refused k
+abbrev pub frame_told : Result ℕ Refusal → Told ℕ
+frame_told (Ok k) = is k
+frame_told (Err k) = refused k
 
 -- is the line empty, a newline alone, or a comment?
 unfoldable pub idle : List ℕ → Bool
 idle t = eqb (length t) 0 || is_at 35 t 0 || eqb (length t) 1 && is_at 10 t 0
 
 -- the first byte of 128 or more
-unfoldable pub first_high : List ℕ → Found
+unfoldable pub first_high : List ℕ → Option ℕ
 first_high t = first_place (λ (k : ℕ). leb 128 (get_or t k 0)) (length t) 0
 
 -- the colon, or 4
-unfoldable pub frame_colon : Found → Told ℕ
-frame_colon (At k) = is k
-frame_colon Nothing = refused 4
+unfoldable pub frame_colon : Option ℕ → Told ℕ
+frame_colon (Some k) = is k
+frame_colon None = refused 4
 
 -- 3 where a high byte was found, else on to the colon
-unfoldable pub frame_ascii : List ℕ → Found → Told ℕ
-frame_ascii t (At k) = refused 3
-frame_ascii t Nothing = frame_colon (last_byte 58 t)
+unfoldable pub frame_ascii : List ℕ → Option ℕ → Told ℕ
+frame_ascii t (Some k) = refused 3
+frame_ascii t None = frame_colon (last_byte 58 t)
 
 -- numbers 1 to 4 in their order, or the place of the last colon
 unfoldable pub frame_of : List ℕ → Told ℕ

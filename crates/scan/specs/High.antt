@@ -1,17 +1,15 @@
 -- Bytes of 128 or more, by the largest byte.
-use Rattle.std.specs.Prelude.{ℕ, ◌≤◌, ◌<◌, ◌≡◌, Bool, true, false, List, leb, get_or}
+use Rattle.std.specs.Prelude.{ℕ, ◌≤◌, ◌<◌, ◌≡◌, Bool, true, false, List, leb, get_or, None, Option, Some}
 use Rattle.text.specs.Place.{Free}
-use Rattle.text.specs.declared.place.Found.{Found}
-use Rattle.text.specs.declared.place.Found.TheVariants.{At, Nothing}
 
 -- a byte of 128 or more stands at place k
 abbrev pub high_at : List ℕ → ℕ → Bool
 high_at s k = leb 128 (get_or s k 0)
 
 -- nothing was found
-unfoldable pub is_nothing : Found → Bool
-is_nothing (At k) = false
-is_nothing Nothing = true
+unfoldable pub is_nothing : Option ℕ → Bool
+is_nothing (Some k) = false
+is_nothing None = true
 
 -- m is below 128 exactly where the first n bytes of s all are
 pub record Level (s : List ℕ) (n m : ℕ) : Type 0 where

@@ -1,7 +1,6 @@
 -- The line grammar, in document 01's order: a text belongs to it with the entry that it says. No search stands here: where the document
 -- says "first" or "last", the record says that nothing fits before or after. It is one grammar over document 02's choice: `Line Strict`, `Line Lenient`.
-use Rattle.std.specs.Prelude.{ℕ, ◌+◌, ◌-◌, ◌^◌, ◌≤◌, ◌<◌, ◌≡◌, Bool, true, false, cond, List, ltb, eqb, length}
-use Rattle.std.proofs.Math.Option.{Option, some, none}
+use Rattle.std.specs.Prelude.{ℕ, ◌+◌, ◌-◌, ◌^◌, ◌≤◌, ◌<◌, ◌≡◌, Bool, true, false, cond, List, ltb, eqb, length, None, Option, Some}
 use Rattle.text.specs.Number.{Decimal, HexNumber}
 use Rattle.text.specs.Quote.{bytes}
 use Rattle.entry.specs.Entry.{EntryValue}
@@ -37,8 +36,8 @@ pub record KeyHex (p key : List ℕ) (limit v : ℕ) : Type 0 where
 
 -- an optional field: its value, or none if missing or unreadable
 abbrev pub Optional : (ℕ → Type 0) → Option ℕ → Type 0
-Optional Reads (some v) = Reads v
-Optional Reads none = (v : ℕ) → Reads v → ⊥
+Optional Reads (Some v) = Reads v
+Optional Reads None = (v : ℕ) → Reads v → ⊥
 
 -- `dropped` is true if it reads as 1 in decimal 8 bits, else false
 abbrev pub Dropped : List ℕ → Bool → Type 0

@@ -1,20 +1,12 @@
 -- Going on with what is there, and one number where it is not.
-use Rattle.std.specs.Prelude.{ℕ}
-use Rattle.std.proofs.Math.Option.{Option, some, none}
-use Rattle.text.specs.declared.place.Found.{Found}
-use Rattle.text.specs.declared.place.Found.TheVariants.{At, Nothing}
+use Rattle.std.specs.Prelude.{ℕ, None, Option, Some}
 use Rattle.header.specs.declared.stamp.Stamp.{Stamp}
 use Rattle.header.specs.declared.stamp.Stamp.TheVariants as S
 
 -- with a value go on, else the answer is as given
 abbrev pub need : {A B : Type 0} → B → Option A → (A → B) → B
-need otherwise none f = otherwise
-need otherwise (some a) f = f a
-
--- a place that may be missing, as a value
-unfoldable pub place_value : Found → Option ℕ
-place_value (At k) = some k
-place_value Nothing = none
+need otherwise None f = otherwise
+need otherwise (Some a) f = f a
 
 -- seconds and microseconds
 pub record Moment : Type 0 where
@@ -23,5 +15,5 @@ pub record Moment : Type 0 where
 
 -- a timestamp that may be unreadable, as a value
 unfoldable pub stamp_value : Stamp → Option Moment
-stamp_value (S.At s u) = some (record { seconds = s; microseconds = u })
-stamp_value S.Unreadable = none
+stamp_value (S.At s u) = Some (record { seconds = s; microseconds = u })
+stamp_value S.Unreadable = None

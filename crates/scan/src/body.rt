@@ -1,25 +1,23 @@
 // What a payload says but for its dwords: numbers 11 to 14.
 ghost use Rattle.std.specs.Prelude.{◌≡◌, ℕ, ◌^◌, ◌-◌, ◌≤◌, ◌<◌, List};
-ghost use Rattle.text.specs.Number.{number_value};
 ghost use Rattle.walk.specs.Kept.{LastKept, said_by};
-ghost use Rattle.scan.specs.Body.{as_byte, as_word, is_one, optionals_of, body_told, body_of};
+ghost use Rattle.scan.specs.Body.{is_one, optionals_of, body_told, body_of};
 
 use entry::kind::kind_of;
-use entry::optional::{MaybeByte, MaybeWord};
 use pairs::keys::{
     CONFIG, DOMAIN, DROPPED, ERROR, LEN, OFFSET, PORT, ROUTE, ROWS, SEQ, SIZE, TYPE, UNPLUG,
 };
-use refusal::{NO_DOMAIN, NO_ROUTE, NO_SIZE, NO_TYPE};
+use refusal::Refusal;
 
 #[derive(Clone, Copy)]
 pub struct Optionals {
-    pub offset: MaybeWord,
-    pub code: MaybeByte,
-    pub len: MaybeWord,
-    pub port: MaybeByte,
-    pub config: MaybeByte,
-    pub seq: MaybeByte,
-    pub unplug: MaybeByte,
+    pub offset: Option<u16>,
+    pub code: Option<u8>,
+    pub len: Option<u16>,
+    pub port: Option<u8>,
+    pub config: Option<u8>,
+    pub seq: Option<u8>,
+    pub unplug: Option<u8>,
 }
 
 #[derive(Clone, Copy)]
@@ -32,12 +30,6 @@ pub struct Body {
     pub optionals: Optionals,
 }
 
-#[derive(Clone, Copy)]
-pub enum BodyAnswer {
-    Got(Body),
-    Refused(u8),
-}
-
 // The kind goes by the type and the header's function. The kind is read after the four checks, so that a line refused here does not pay for it. Asked for:
 // what the walk keeps of each key.
 pub fn read_body(
@@ -45,23 +37,23 @@ pub fn read_body(
     function: &[u8],
     values: &[u64; ROWS],
     ends: &[usize; ROWS],
-) -> BodyAnswer
+) -> Result<Body, Refusal>
     requires { LastKept p.now values.now ends.now }
     ensures { body_told result ≡ body_of p.now function.now }
 {
     if ends[TYPE] == 0 {
-        return BodyAnswer::Refused(NO_TYPE);
+        return Err(Refusal::NoType);
     }
     if ends[SIZE] == 0 {
-        return BodyAnswer::Refused(NO_SIZE);
+        return Err(Refusal::NoSize);
     }
     let size = values[SIZE];
     if ends[DOMAIN] == 0 {
-        return BodyAnswer::Refused(NO_DOMAIN);
+        return Err(Refusal::NoDomain);
     }
     let domain = values[DOMAIN];
     if ends[ROUTE] == 0 {
-        return BodyAnswer::Refused(NO_ROUTE);
+        return Err(Refusal::NoRoute);
     }
     let route = values[ROUTE];
     let from = values[TYPE] as usize;
@@ -69,7 +61,7 @@ pub fn read_body(
     let kind = kind_of(&p[from..to], function);
     let dropped = is_one(values[DROPPED], ends[DROPPED]);
     let optionals = read_optionals(values, ends);
-    BodyAnswer::Got(Body {
+    Ok(Body {
         kind: kind,
         size: size as u16,
         dropped: dropped,
@@ -112,22 +104,22 @@ fn read_optionals(values: &[u64; ROWS], ends: &[usize; ROWS]) -> Optionals
 }
 
 // Asked for by this and the next: no wider number.
-fn byte_in(value: u64, end: usize) -> MaybeByte
+fn byte_in(value: u64, end: usize) -> Option<u8>
     requires { 0 < end → value ≤ 2 ^ 8 - 1 }
-    ensures { result ≡ as_byte (number_value (said_by value end)) }
+    ensures { result ≡ (said_by value end) }
 {
     if end == 0 {
-        return MaybeByte::Absent;
+        return None;
     }
-    MaybeByte::Is(value as u8)
+    Some(value as u8)
 }
 
-fn word_in(value: u64, end: usize) -> MaybeWord
+fn word_in(value: u64, end: usize) -> Option<u16>
     requires { 0 < end → value ≤ 2 ^ 16 - 1 }
-    ensures { result ≡ as_word (number_value (said_by value end)) }
+    ensures { result ≡ (said_by value end) }
 {
     if end == 0 {
-        return MaybeWord::Absent;
+        return None;
     }
-    MaybeWord::Is(value as u16)
+    Some(value as u16)
 }

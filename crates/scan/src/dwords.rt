@@ -9,13 +9,7 @@ ghost use Rattle.scan.specs.Dwords.{refuses, DataRead};
 
 use crate::Pieces;
 use pairs::dwords::take_dwords;
-use refusal::{BAD_PIECE, FEW_SLOTS, MANY_DWORDS, NO_DATA};
-
-#[derive(Clone, Copy)]
-pub enum DataAnswer {
-    Got(usize),
-    Refused(u8),
-}
+use refusal::Refusal;
 
 // The dwords wait in an array of its own, and all is judged before the first slot is written. Asked for: the places of the last pair of `data`, with an
 // end of 0 where there is none.
@@ -26,32 +20,32 @@ pub fn read_data(
     end: usize,
     pieces: Pieces,
     slots: &mut [u32],
-) -> DataAnswer
+) -> Result<usize, Refusal>
     requires { (t.now ≡ table)
         × (end ≡ 0 → last_pair p.now (bytes "data") ≡ Nothing)
         × (0 < end → last_pair p.now (bytes "data") ≡ At from end) }
     ensures { DataRead pieces p.now slots.old slots.new result }
 {
     if end == 0 {
-        return DataAnswer::Refused(NO_DATA);
+        return Err(Refusal::NoData);
     }
     if p[from] != b'[' {
-        return DataAnswer::Refused(NO_DATA);
+        return Err(Refusal::NoData);
     }
     let mut own = [0u32; 256];
     let tally = take_dwords(&p[from + 1..end - 1], t, &mut own);
     if refuse_bad(pieces, tally.bad) {
-        return DataAnswer::Refused(BAD_PIECE);
+        return Err(Refusal::BadPiece);
     }
     let n = tally.dwords;
     if 256 < n {
-        return DataAnswer::Refused(MANY_DWORDS);
+        return Err(Refusal::ManyDwords);
     }
     if slots.len() < n {
-        return DataAnswer::Refused(FEW_SLOTS);
+        return Err(Refusal::FewSlots);
     }
     copy(&own[..n], slots);
-    DataAnswer::Got(n)
+    Ok(n)
 }
 
 // Dwords into the first slots, the rest as found. Asked for: a slot for each.

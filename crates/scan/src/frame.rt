@@ -3,8 +3,8 @@ ghost use Rattle.std.specs.Prelude.{◌≡◌, length};
 ghost use Rattle.scan.specs.High.{is_nothing, Level};
 ghost use Rattle.scan.specs.Frame.{idle, first_high, frame_told, frame_of};
 
-use refusal::{IDLE, LONG_LINE, NO_COLON, NOT_ASCII};
-use text::place::{Found, byte_at, last};
+use refusal::Refusal;
+use text::place::{byte_at, last};
 
 // So many bytes a line may have.
 const LONGEST: usize = 4096;
@@ -15,28 +15,22 @@ const HIGH: u8 = 128;
 // So many bytes at a time are looked at for a high one.
 const STRIDE: usize = 32;
 
-#[derive(Clone, Copy)]
-pub enum FrameAnswer {
-    Colon(usize),
-    Refused(u8),
-}
-
 // The last colon, which parts header from payload. Handed on as `&line[..]` for speed alone (C55).
-pub fn read_frame(line: &[u8]) -> FrameAnswer
+pub fn read_frame(line: &[u8]) -> Result<usize, Refusal>
     ensures { frame_told result ≡ frame_of line.now }
 {
     if is_idle(line) {
-        return FrameAnswer::Refused(IDLE);
+        return Err(Refusal::Idle);
     }
     if LONGEST < line.len() {
-        return FrameAnswer::Refused(LONG_LINE);
+        return Err(Refusal::LongLine);
     }
     if !none_high(line) {
-        return FrameAnswer::Refused(NOT_ASCII);
+        return Err(Refusal::NotAscii);
     }
     match last(&line[..], b':') {
-        Found::At(k) => FrameAnswer::Colon(k),
-        Found::Nothing => FrameAnswer::Refused(NO_COLON),
+        Some(k) => Ok(k),
+        None => Err(Refusal::NoColon),
     }
 }
 

@@ -6,9 +6,7 @@ use header::cpu::parse_cpu;
 use header::dash::{parse_pid, parse_task};
 use header::function::parse_function;
 use header::stamp::{Stamp, parse_timestamp};
-use refusal::{NO_CPU, NO_FUNCTION, NO_PID, NO_TASK, NO_TIMESTAMP};
-use text::number::Number;
-use text::place::Found;
+use refusal::Refusal;
 
 // Task and function by their places in the header: the task starts it, the function ends it.
 #[derive(Clone, Copy)]
@@ -21,35 +19,29 @@ pub struct Head {
     pub function: usize,
 }
 
-#[derive(Clone, Copy)]
-pub enum HeadAnswer {
-    Got(Head),
-    Refused(u8),
-}
-
-pub fn read_head(h: &[u8]) -> HeadAnswer
+pub fn read_head(h: &[u8]) -> Result<Head, Refusal>
     ensures { head_told result ≡ head_of h.now }
 {
-    let Found::At(task) = parse_task(h) else {
-        return HeadAnswer::Refused(NO_TASK);
+    let Some(task) = parse_task(h) else {
+        return Err(Refusal::NoTask);
     };
-    let Number::Value(pid) = parse_pid(h, task) else {
-        return HeadAnswer::Refused(NO_PID);
+    let Some(pid) = parse_pid(h, task) else {
+        return Err(Refusal::NoPid);
     };
-    let Number::Value(cpu) = parse_cpu(h) else {
-        return HeadAnswer::Refused(NO_CPU);
+    let Some(cpu) = parse_cpu(h) else {
+        return Err(Refusal::NoCpu);
     };
     let Stamp::At {
         seconds,
         microseconds,
     } = parse_timestamp(h)
     else {
-        return HeadAnswer::Refused(NO_TIMESTAMP);
+        return Err(Refusal::NoTimestamp);
     };
-    let Found::At(function) = parse_function(h) else {
-        return HeadAnswer::Refused(NO_FUNCTION);
+    let Some(function) = parse_function(h) else {
+        return Err(Refusal::NoFunction);
     };
-    HeadAnswer::Got(Head {
+    Ok(Head {
         task: task,
         pid: pid as u32,
         cpu: cpu as u16,

@@ -10,21 +10,16 @@ ghost use Rattle.std.specs.Prelude.{◌≡◌, ◌+◌, ◌^◌, ◌≤◌, ◌<
 ghost use Rattle.text.specs.Table.{table};
 ghost use Rattle.scan.specs.Parse.{Parsed, PartedRead, PayloadRead, entry_of};
 
-use crate::body::{Body, BodyAnswer, read_body};
-use crate::dwords::{DataAnswer, read_data};
-use crate::frame::{FrameAnswer, read_frame};
-use crate::head::{Head, HeadAnswer, read_head};
+use crate::body::{Body, read_body};
+use crate::dwords::read_data;
+use crate::frame::read_frame;
+use crate::head::{Head, read_head};
 use entry::Entry;
 use pairs::keys::{DATA, ROWS};
 use text::class::Class;
 use text::run::{run_end, run_start, strip};
 use walk::last::last_pairs;
-
-#[derive(Clone, Copy)]
-pub enum Answer {
-    Entry(Entry),
-    Refused(u8),
-}
+use refusal::Refusal;
 
 // What becomes of a line with a piece of `data` that is not 32-bit hex: strict refuses it (18), lenient leaves the piece out.
 #[derive(Clone, Copy)]
@@ -35,18 +30,18 @@ pub enum Pieces {
 
 // The entry of a line, its dwords in the first slots; or the first number that applies, with no slot touched. The entry's task and
 // function are places in this line. The line is handed on as `&line[..]` for speed alone (C55).
-pub fn parse(line: &[u8], pieces: Pieces, slots: &mut [u32]) -> Answer
+pub fn parse(line: &[u8], pieces: Pieces, slots: &mut [u32]) -> Result<Entry, Refusal>
     ensures { Parsed pieces line.now slots.old slots.new result }
 {
     match read_frame(&line[..]) {
-        FrameAnswer::Colon(colon) => parse_parted(line, colon, pieces, slots),
-        FrameAnswer::Refused(number) => Answer::Refused(number),
+        Ok(colon) => parse_parted(line, colon, pieces, slots),
+        Err(number) => Err(number),
     }
 }
 
 // The line parted at its last colon: the header first, stripped here because where it starts is asked for too, and a second look at its blanks took 7 %
 // of a line's time.
-fn parse_parted(line: &[u8], colon: usize, pieces: Pieces, slots: &mut [u32]) -> Answer
+fn parse_parted(line: &[u8], colon: usize, pieces: Pieces, slots: &mut [u32]) -> Result<Entry, Refusal>
     requires { colon < length line.now }
     ensures { PartedRead pieces line.now colon slots.old slots.new result }
 {
@@ -56,12 +51,12 @@ fn parse_parted(line: &[u8], colon: usize, pieces: Pieces, slots: &mut [u32]) ->
     let size = run_start(rest, Class::Blank);
     let header = &rest[..size];
     match read_head(header) {
-        HeadAnswer::Got(head) => {
+        Ok(head) => {
             let behind = colon + 1;
             let payload = strip(&line[behind..]);
             parse_payload(header, start, head, payload, pieces, slots)
         }
-        HeadAnswer::Refused(number) => Answer::Refused(number),
+        Err(number) => Err(number),
     }
 }
 
@@ -74,7 +69,7 @@ fn parse_payload(
     payload: &[u8],
     pieces: Pieces,
     slots: &mut [u32],
-) -> Answer
+) -> Result<Entry, Refusal>
     requires { (head.function ≤ length header.now) × (start + length header.now < 2 ^ 64) }
     ensures { PayloadRead pieces header.now start head payload.now slots.old slots.new result }
 {
@@ -92,7 +87,7 @@ fn read_payload(
     t: &[u8; 256],
     pieces: Pieces,
     slots: &mut [u32],
-) -> Answer
+) -> Result<Entry, Refusal>
     requires { (head.function ≤ length header.now) × (start + length header.now < 2 ^ 64) × (t.now ≡ table) }
     ensures { PayloadRead pieces header.now start head payload.now slots.old slots.new result }
 {
@@ -101,20 +96,20 @@ fn read_payload(
     let mut ends = [0usize; ROWS];
     last_pairs(payload, t, &mut values, &mut ends);
     match read_body(payload, &header[from..], &values, &ends) {
-        BodyAnswer::Got(body) => {
+        Ok(body) => {
             let at = values[DATA] as usize;
             match read_data(payload, t, at, ends[DATA], pieces, slots) {
-                DataAnswer::Got(dwords) => Answer::Entry(assemble(
+                Ok(dwords) => Ok(assemble(
                     start,
                     header.len(),
                     head,
                     body,
                     dwords,
                 )),
-                DataAnswer::Refused(number) => Answer::Refused(number),
+                Err(number) => Err(number),
             }
         }
-        BodyAnswer::Refused(number) => Answer::Refused(number),
+        Err(number) => Err(number),
     }
 }
 

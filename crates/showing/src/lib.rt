@@ -8,7 +8,7 @@ use channel::reading::{Filled, read_whole};
 use channel::sentence::{tell, tell_failed};
 use channel::status::{Status, give_status};
 use channel::streams::{Streams, streams_of};
-use choice::{Asked, ask_choice};
+use choice::ask_choice;
 use moving::{Program, give_usage, run_program};
 use scan::Pieces;
 use std::env::{Env, FillError};
@@ -26,8 +26,8 @@ const TOO_LONG: u32 = 36;
 // The whole program; the status that it ends with.
 pub fn run_show(rt: &HostRuntime) -> ExitCode {
     match ask_choice(rt, 2) {
-        Asked::Choice(pieces) => show_named(rt, pieces),
-        Asked::Wrong => give_usage(rt.stderr(), Program::Show(Pieces::Strict)),
+        Some(pieces) => show_named(rt, pieces),
+        None => give_usage(rt.stderr(), Program::Show(Pieces::Strict)),
     }
 }
 

@@ -1,10 +1,7 @@
 // What is shown of a packet: its dwords, their bit ranges, and where the data starts.
 use crate::words::{say_refusal, say_source};
 use channel::sink::{Sink, say};
-use entry::optional::MaybeWord;
-use field::{
-    Field, MaybeRange, Range, count_ranges, field_name, field_of, nth_range, range_name, value_name,
-};
+use field::{Field, Range, count_ranges, field_name, field_of, nth_range, range_name, value_name};
 use packet::seek::dword_at;
 use saying::{say_dword, say_if, say_name, say_number};
 use std::io::Stdout;
@@ -20,7 +17,7 @@ pub fn show_packet(
     let mut places = [0u32; 256];
     let parsed = packet::parse_over(kind, book, dwords, &mut places[..256]);
     match parsed {
-        packet::Answer::Packet(p) => {
+        Ok(p) => {
             let start = p.start;
             show_dwords(
                 output,
@@ -33,15 +30,15 @@ pub fn show_packet(
                 sink,
             )
         }
-        packet::Answer::Refused(number) => say_refusal(output, out, sink, b"  no packet, ", number),
+        Err(number) => say_refusal(output, out, sink, b"  no packet, ", number),
     }
 }
 
 // Where the data view starts; a packet has fewer dwords than what stands for none.
-fn start_or_none(start: MaybeWord) -> usize {
+fn start_or_none(start: Option<u16>) -> usize {
     match start {
-        MaybeWord::Is(n) => n as usize,
-        MaybeWord::Absent => 65_536,
+        Some(n) => n as usize,
+        None => 65_536,
     }
 }
 
@@ -91,10 +88,10 @@ fn show_ranges(output: Stdout, book: &[u8], field: Field, out: &mut [u8], sink: 
     to
 }
 
-fn show_maybe(output: Stdout, book: &[u8], range: MaybeRange, out: &mut [u8], sink: Sink) -> Sink {
+fn show_maybe(output: Stdout, book: &[u8], range: Option<Range>, out: &mut [u8], sink: Sink) -> Sink {
     match range {
-        MaybeRange::Is(g) => show_range(output, book, g, out, sink),
-        MaybeRange::Absent => sink,
+        Some(g) => show_range(output, book, g, out, sink),
+        None => sink,
     }
 }
 

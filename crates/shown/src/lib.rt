@@ -17,7 +17,7 @@ use entry::{Entry, data, event, function};
 use saying::{say_event, say_hex, say_number};
 use scan::Pieces;
 use std::io::Stdout;
-use stream::{Answer, read_unit};
+use stream::read_unit;
 use units::Unit;
 
 // The block of the unit with that number. The book is taken as it is: who shows many units checks it once. Asked for: that the unit's bytes stand in
@@ -38,12 +38,12 @@ pub fn show_unit(
     let answer = read_unit(cut, pieces, unit, &mut slots);
     let counted = say_number(output, out, sink, b"", number);
     match answer {
-        Answer::Entry(e) => {
+        Ok(Some(e)) => {
             let headed = show_head(output, unit, e, out, counted);
             show_packet(output, book, e.kind, data(e, &slots), out, headed)
         }
-        Answer::Refused(refusal) => say_refusal(output, out, counted, b" refused ", refusal),
-        Answer::Nothing => counted,
+        Err(refusal) => say_refusal(output, out, counted, b" refused ", refusal),
+        Ok(None) => counted,
     }
 }
 

@@ -1,5 +1,6 @@
 -- What is done with what was found.
-use Rattle.std.specs.Prelude.{ℕ, ◌+◌, ◌-◌, ◌^◌, ◌/◌, Bool, false, cond, ◌||◌, eqb, ltb}
+use Rattle.refusal.specs.declared.Refusal.{Refusal}
+use Rattle.std.specs.Prelude.{ℕ, ◌+◌, ◌-◌, ◌^◌, ◌/◌, Bool, false, cond, ◌||◌, eqb, ltb, Err, None, Ok, Option, Result, Some}
 use Rattle.slots.specs.declared.Four.{Four}
 use Rattle.slots.specs.declared.Slot.{Slot}
 use Rattle.slots.specs.declared.ask.Ask.{Ask}
@@ -8,10 +9,6 @@ use Rattle.slots.specs.declared.look.Ranks.{Ranks}
 use Rattle.slots.specs.declared.look.Seen.{Seen}
 use Rattle.slots.specs.declared.decide.Report.{Report}
 use Rattle.slots.specs.declared.decide.Report.TheVariants as R
-use Rattle.slots.specs.declared.decide.Waiting.{Waiting}
-use Rattle.slots.specs.declared.decide.Waiting.TheVariants as W
-use Rattle.slots.specs.declared.decide.Place.{Place}
-use Rattle.slots.specs.declared.decide.Place.TheVariants as P
 use Rattle.slots.specs.declared.decide.Plan.{Plan}
 
 -- a slot of an empty table
@@ -55,11 +52,11 @@ judged a (A.Rank k) = still_of a.size R.Other
 unfoldable pub decide_of : Seen → Plan
 decide_of a = cond (ltb 0 (fault_of a)) (still_of a.size (R.Refused (fault_of a))) (judged a a.ask)
 
-unfoldable pub count_of : Seen → Waiting
-count_of a = cond (ltb 0 (fault_of a)) (W.Refused (fault_of a)) (W.Count a.ranks.count)
+unfoldable pub count_of : Seen → Result ℕ Refusal
+count_of a = cond (ltb 0 (fault_of a)) (Err (fault_of a)) (Ok a.ranks.count)
 
-unfoldable pub place_of : Seen → Place
-place_of a = cond (ltb 0 (fault_of a)) (P.Refused (fault_of a)) (cond (ltb a.oldest.rank 65) (P.At a.oldest.place) P.Nowhere)
+unfoldable pub place_of : Seen → Result (Option ℕ) Refusal
+place_of a = cond (ltb 0 (fault_of a)) (Err (fault_of a)) (cond (ltb a.oldest.rank 65) (Ok (Some a.oldest.place)) (Ok None))
 
 -- the rank of a slot once another rank is freed; rank 0 frees nothing
 unfoldable pub lower_of : ℕ → ℕ → ℕ

@@ -4,7 +4,6 @@ ghost use Rattle.slots.specs.Ask.{ask_of, by_kind, four_of, direction_of};
 
 use crate::Four;
 use entry::Entry;
-use entry::optional::MaybeByte;
 
 // The last one is no entry's: a caller asks for the slot that has this rank.
 #[derive(Clone, Copy)]
@@ -31,8 +30,8 @@ pub fn ask_of(e: Entry) -> Ask
     }
     let seq = e.seq;
     match seq {
-        MaybeByte::Is(n) => by_kind(e.kind, four_of(e, n)),
-        MaybeByte::Absent => Ask::NoSeq,
+        Some(n) => by_kind(e.kind, four_of(e, n)),
+        None => Ask::NoSeq,
     }
 }
 

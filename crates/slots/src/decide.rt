@@ -5,7 +5,7 @@ ghost use Rattle.slots.specs.Decide.{decide_of, request_of, response_of, still_o
 use crate::ask::Ask;
 use crate::look::{Ranks, Seen};
 use crate::{Four, Slot};
-use refusal::{BROKEN_TABLE, TABLE_SIZE};
+use refusal::Refusal;
 
 // Each entry is one of these: `Taken` and `Answered` say at which place.
 #[derive(Clone, Copy)]
@@ -17,21 +17,6 @@ pub enum Report {
     TurnedAway,
     Answered(usize),
     Stray,
-    Refused(u8),
-}
-
-// How many slots wait, or the number that refuses the table.
-#[derive(Clone, Copy)]
-pub enum Waiting {
-    Count(u32),
-    Refused(u8),
-}
-
-// Where a slot lies, if there is one.
-#[derive(Clone, Copy)]
-pub enum Place {
-    At(usize),
-    Nowhere,
     Refused(u8),
 }
 
@@ -152,30 +137,30 @@ fn ones(count: u32) -> u64
 }
 
 // How many slots wait.
-pub fn count_of(seen: Seen) -> Waiting
+pub fn count_of(seen: Seen) -> Result<u32, Refusal>
     ensures { result ≡ count_of seen }
 {
     let number = fault_of(seen);
     if 0 < number {
-        return Waiting::Refused(number);
+        return Err(number);
     }
     let ranks = seen.ranks;
-    Waiting::Count(ranks.count)
+    Ok(ranks.count)
 }
 
 // Where the slot that was asked for lies.
-pub fn place_of(seen: Seen) -> Place
+pub fn place_of(seen: Seen) -> Result<Option<usize>, Refusal>
     ensures { result ≡ place_of seen }
 {
     let number = fault_of(seen);
     if 0 < number {
-        return Place::Refused(number);
+        return Err(number);
     }
     let oldest = seen.oldest;
     if oldest.rank < 65 {
-        return Place::At(oldest.place);
+        return Ok(Some(oldest.place));
     }
-    Place::Nowhere
+    Ok(None)
 }
 
 // A slot once a rank is freed: it is free where it had that rank, and one nearer to the oldest where it came later.

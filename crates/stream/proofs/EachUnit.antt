@@ -1,5 +1,7 @@
 -- Demand 3 for each unit: a unit that is accepted is kept whole and answered as the intake reads it, so what is proved of that call holds of it.
 -- Assumes nothing.
+use Rattle.std.specs.Prelude.{Err, None, Ok, Option, Result, Some}
+use Rattle.refusal.specs.declared.Refusal.{Refusal}
 use Prim.Native.Nat.{ℕ, ◌≤◌, ◌<◌}
 use mathlib.Core.Path.{◌≡◌, refl, sym, ap, subst, ◌∙◌}
 use mathlib.Core.Bool.{Bool, true, false, cond}
@@ -33,8 +35,6 @@ use Rattle.units.specs.declared.State.{State}
 use Rattle.units.specs.Units.{marked, stated, Whole, Open, Rest, Sofar}
 use Rattle.units.specs.Kept.{is_long, Keeps, is_kept}
 use Rattle.units.proofs.Streams.{rest_left, one_sofar}
-use Rattle.stream.specs.declared.Answer.{Answer}
-use Rattle.stream.specs.declared.Answer.TheVariants as A
 use Rattle.stream.specs.declared.Fed.{Fed}
 use Rattle.stream.specs.declared.Finished.{Finished}
 use Rattle.stream.specs.Answers.{answer_told, answer_of}
@@ -43,7 +43,7 @@ use Rattle.stream.specs.Streams.{Calls, IsUnit, EntryOf, EachUnit}
 use Rattle.stream.proofs.Entries.{said_one, entry_of, accepted}
 use Rattle.stream.proofs.Whole.{stands, passes, kept_stands}
 
-absent_entry : {a : Answer} {e : Entry} → answer_told a ≡ T.absent → a ≡ A.Entry e → ⊥
+absent_entry : {a : Result (Option Entry) Refusal} {e : Entry} → answer_told a ≡ T.absent → a ≡ Ok (Some e) → ⊥
 absent_entry h q = let z : ◌≡◌ {A = ℕ} 0 1 = cc in omega arith
 
 -- ---- an entry that a call answered
@@ -59,7 +59,7 @@ module _ (pieces : Pieces) (room : ℕ) (taken rest : List ℕ) (answers : List 
   good : is_kept Both rest st.held st.passed ≡ true
   good = passes pieces room (stands pieces room c)
 
-  call_entry : (part slots rest' slots' : List ℕ) (r : Fed) (e : Entry) → Bytes part → length slots ≡ room → FeedDone pieces part rest slots st rest' slots' r → r.answer ≡ A.Entry e → Whole Both (since ++ take r.at part) × EntryOf pieces (since ++ take r.at part) slots e rest' slots'
+  call_entry : (part slots rest' slots' : List ℕ) (r : Fed) (e : Entry) → Bytes part → length slots ≡ room → FeedDone pieces part rest slots st rest' slots' r → r.answer ≡ Ok (Some e) → Whole Both (since ++ take r.at part) × EntryOf pieces (since ++ take r.at part) slots e rest' slots'
   call_entry part slots rest' slots' r e bp n done is-entry = go on on.answered
     where
       on : FedOn pieces since part rest slots rest' slots' r
@@ -70,7 +70,7 @@ module _ (pieces : Pieces) (room : ℕ) (taken rest : List ℕ) (answers : List 
       go f (Answered.ends w s g) =
           (w, entry_of pieces (since ++ take r.at part) rest slots rest' slots' r.answer e (bytes_join since (take r.at part) open_is.1 (bytes_take part r.at bp)) (omega (arith, enough, n)) f.buffer g is-entry)
 
-  end_entry : (slots slots' : List ℕ) (r : Finished) (e : Entry) → length slots ≡ room → FinishDone pieces rest slots st slots' r → r.answer ≡ A.Entry e → Open Both since × EntryOf pieces since slots e rest slots'
+  end_entry : (slots slots' : List ℕ) (r : Finished) (e : Entry) → length slots ≡ room → FinishDone pieces rest slots st slots' r → r.answer ≡ Ok (Some e) → Open Both since × EntryOf pieces since slots e rest slots'
   unfolding end_of
   end_entry slots slots' r e n done is-entry = go since (rest_left Both so) open_is.0 open_is.1 (done.ended good since (rest_left Both so) open_is.0).1
     where

@@ -1,5 +1,7 @@
 -- An entry that is answered of a unit: the unit is kept whole and answered as the intake reads it, so what is proved of that call holds of it.
 -- Assumes nothing.
+use Rattle.std.specs.Prelude.{Err, None, Ok, Option, Result, Some}
+use Rattle.refusal.specs.declared.Refusal.{Refusal}
 use Prim.Native.Nat.{ℕ, ◌+◌, ◌≤◌}
 use mathlib.Core.Path.{◌≡◌, refl, sym, ap, subst, ◌∙◌}
 use mathlib.Core.Bool.{Bool, true, false, cond}
@@ -15,7 +17,6 @@ use Rattle.entry.specs.declared.Entry.{Entry}
 use Rattle.entry.specs.Entry.{EntryValue, part_of, value_of, Lies}
 use Rattle.entry.proofs.Parts.{part_in}
 use Rattle.scan.specs.declared.Pieces.{Pieces}
-use Rattle.scan.specs.declared.Answer.TheVariants as Read
 use Rattle.scan.specs.Parse.{parse_of, slots_by}
 use Rattle.scan.proofs.Theorems.{line_entry_is}
 use Rattle.record.specs.Grammar.{IsRecord}
@@ -27,8 +28,6 @@ use Rattle.intake.proofs.Slots.{with_more_slots}
 use Rattle.units.specs.declared.Framing.TheVariants.{Both}
 use Rattle.units.specs.Units.{marked, stated}
 use Rattle.units.specs.Kept.{is_long, kept_text, stood}
-use Rattle.stream.specs.declared.Answer.{Answer}
-use Rattle.stream.specs.declared.Answer.TheVariants as A
 use Rattle.stream.specs.Answers.{answer_told, answer_of, said_by, said_of}
 use Rattle.stream.specs.Feeding.{Given}
 use Rattle.stream.proofs.Records.{said_belongs, line_accepted, record_accepted, unit_says, belongs_ranged}
@@ -71,7 +70,7 @@ unfolding value_of
 value_front e l back slots lies = rw (part_front l back e.task_at e.task_len lies.task, part_front l back e.function_at e.function_len lies.function)
 
 -- an entry that was read says what its text says
-module _ (pieces : Pieces) (u slots : List ℕ) (e : Entry) (left : List ℕ) (c : ReadCall pieces u slots (Read.Entry e) left) where
+module _ (pieces : Pieces) (u slots : List ℕ) (e : Entry) (left : List ℕ) (c : ReadCall pieces u slots (Ok e) left) where
   pub record Said : Type 0 where
     pub value : EntryValue
     pub belongs : Belongs pieces u value
@@ -93,11 +92,11 @@ said_one pieces u v b = append-nil (said_by u (answer_of pieces u 256)) ∙ unit
 
 -- ---- an entry that a call answered
 
-module _ (pieces : Pieces) (u rest slots rest' slots' : List ℕ) (answer : Answer) (e : Entry) (bytes : Bytes u) (enough : 256 ≤ length slots) (buffer : rest' ≡ stood Both u rest) (g : Given (answer_of pieces u (length slots)) (taken_dwords u) slots slots' answer) (is-entry : answer ≡ A.Entry e) where
+module _ (pieces : Pieces) (u rest slots rest' slots' : List ℕ) (answer : Result (Option Entry) Refusal) (e : Entry) (bytes : Bytes u) (enough : 256 ≤ length slots) (buffer : rest' ≡ stood Both u rest) (g : Given (answer_of pieces u (length slots)) (taken_dwords u) slots slots' answer) (is-entry : answer ≡ Ok (Some e)) where
   told : answer_of pieces u (length slots) ≡ T.is e
   told = sym g.answer ∙ ap answer_told is-entry
 
-  call : ReadCall pieces u slots (Read.Entry e) slots'
+  call : ReadCall pieces u slots (Ok e) slots'
   call = record { bytes = bytes; enough = enough; contract = record { answer = sym (entry_taken pieces u (length slots) e told); slots = g.slots_are ∙ ap (λ (t : T.Told Entry). slots_by t (taken_dwords u) slots) told } }
 
   buffer_is : rest' ≡ u ++ drop (length u) rest

@@ -1,4 +1,6 @@
 -- What is kept of a unit tells its answer: an overlong line is refused by its first byte, and any other text that is read is kept whole. Assumes nothing.
+use Rattle.std.specs.Prelude.{Option, Result}
+use Rattle.refusal.specs.declared.Refusal.{Refusal}
 use Prim.Native.Nat.{ℕ, ◌<◌}
 use mathlib.Core.Path.{◌≡◌, refl, sym, ap, ◌∙◌}
 use mathlib.Core.Bool.{Bool, true, false, cond}
@@ -18,7 +20,6 @@ use Rattle.units.specs.declared.Framing.TheVariants.{Both}
 use Rattle.units.specs.Units.{marked, is_record, stated}
 use Rattle.units.specs.Kept.{is_long, kept_text}
 use Rattle.units.specs.Feeding.{unit_of, text_length}
-use Rattle.stream.specs.declared.Answer.{Answer}
 use Rattle.stream.specs.Answers.{answer_of}
 use Rattle.stream.specs.Feeding.{Given, unit_told, UnitRead}
 
@@ -73,7 +74,7 @@ module _ (pieces : Pieces) (w rest : List ℕ) (front : take (length (kept_text 
           rw (x, e, s) (first_bytes_fill pieces w room slots)
 
   -- it is answered as document 02 says
-  pub unit_given : {slots exit : List ℕ} {r : Answer} → length slots ≡ room → UnitRead pieces (unit_of Both w) rest slots exit r → Given (answer_of pieces w (length slots)) (taken_dwords w) slots exit r
+  pub unit_given : {slots exit : List ℕ} {r : Result (Option Entry) Refusal} → length slots ≡ room → UnitRead pieces (unit_of Both w) rest slots exit r → Given (answer_of pieces w (length slots)) (taken_dwords w) slots exit r
   unit_given {slots} {exit} {r} n g =
       let told : unit_told pieces (unit_of Both w) rest (length slots) ≡ answer_of pieces w (length slots) = rw n unit_told_lem in
       record { answer = g.answer ∙ told; slots_are = g.slots_are ∙ ap (λ (t : T.Told Entry). slots_by t (taken_dwords (take (text_length (unit_of Both w)) rest)) slots) told ∙ rw n (unit_fills slots) }

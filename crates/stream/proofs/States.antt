@@ -1,5 +1,8 @@
 -- The states between the calls: those that calls reach are left by the stream so far, 53 is told exactly of all others, and no second answer keeps a
 -- contract. Assumes nothing.
+use Rattle.std.specs.Prelude.{Err, None, Ok, Option, Result, Some}
+use Rattle.refusal.specs.declared.Refusal.{Refusal}
+use Rattle.refusal.specs.declared.Refusal.TheVariants as Refusal
 use Prim.Native.Nat.{ℕ, zero, suc, ◌<◌}
 use mathlib.Core.Path.{◌≡◌, refl, sym, ap, subst, ◌∙◌}
 use mathlib.Core.Bool.{Bool, true, false, cond}
@@ -30,8 +33,6 @@ use Rattle.units.specs.Kept.{is_long, stood, Keeps, Leaves, is_kept}
 use Rattle.units.proofs.Streams.{rest_left, never_whole, ends_one, goes_on as sofar-goes}
 use Rattle.units.proofs.States.{keeps_kept, kept_some}
 use Rattle.units.proofs.Calls.{ends_before}
-use Rattle.stream.specs.declared.Answer.{Answer}
-use Rattle.stream.specs.declared.Answer.TheVariants as A
 use Rattle.stream.specs.declared.Fed.{Fed}
 use Rattle.stream.specs.declared.Finished.{Finished}
 use Rattle.stream.specs.Answers.{answer_told, answer_of}
@@ -81,7 +82,7 @@ unit_never_53 pieces u b room q = go (starts_a1 u) (is_long u) (ltb (length u) (
     go true false false h = by ((record_refused_exactly u b room 53).0 h)
     go false y z h = past_table pieces u room 53 (omega arith) ((line_number_exactly pieces u room 53).0 h).holds
 
-told_of : {a : Answer} {r : T.Told Entry} {k : ℕ} → answer_told a ≡ r → a ≡ A.Refused k → r ≡ T.refused k
+told_of : {a : Result (Option Entry) Refusal} {r : T.Told Entry} {k : ℕ} → answer_told a ≡ r → a ≡ Err k → r ≡ T.refused k
 told_of h e = sym h ∙ ap answer_told e
 
 absent_not : {k : ℕ} → ◌≡◌ {A = T.Told Entry} T.absent (T.refused k) → ⊥
@@ -89,7 +90,7 @@ absent_not h = let n : ◌≡◌ {A = ℕ} 0 1 = cc in omega arith
 
 module _ (pieces : Pieces) where
   -- a number that a call answers where the test passes is a unit's
-  pub feed_unit : (part rest slots : List ℕ) (st : State) (rest' slots' : List ℕ) (r : Fed) → Bytes part → Bytes rest → FeedDone pieces part rest slots st rest' slots' r → is_kept Both rest st.held st.passed ≡ true → {k : ℕ} → r.answer ≡ A.Refused k → (u : List ℕ) × (Bytes u × (answer_of pieces u (length slots) ≡ T.refused k))
+  pub feed_unit : (part rest slots : List ℕ) (st : State) (rest' slots' : List ℕ) (r : Fed) → Bytes part → Bytes rest → FeedDone pieces part rest slots st rest' slots' r → is_kept Both rest st.held st.passed ≡ true → {k : ℕ} → r.answer ≡ Err k → (u : List ℕ) × (Bytes u × (answer_of pieces u (length slots) ≡ T.refused k))
   feed_unit part rest slots st rest' slots' r bp br x q {k} e =
       let u = kept_some Both rest st.held st.passed q in
       by u.0 (kept_bytes rest br st.held st.passed q) (x.fed q u.0 u.1.0 u.1.1).answered
@@ -98,7 +99,7 @@ module _ (pieces : Pieces) where
       by u b (Answered.wants o at s g) = absurd (absent_not (told_of g.answer e))
       by u b (Answered.ends w s g) = (u ++ take r.at part, (bytes_join u (take r.at part) b (bytes_take part r.at bp), told_of g.answer e))
 
-  pub end_unit : (rest slots : List ℕ) (st : State) (slots' : List ℕ) (r : Finished) → Bytes rest → FinishDone pieces rest slots st slots' r → is_kept Both rest st.held st.passed ≡ true → {k : ℕ} → r.answer ≡ A.Refused k → (u : List ℕ) × (Bytes u × (answer_of pieces u (length slots) ≡ T.refused k))
+  pub end_unit : (rest slots : List ℕ) (st : State) (slots' : List ℕ) (r : Finished) → Bytes rest → FinishDone pieces rest slots st slots' r → is_kept Both rest st.held st.passed ≡ true → {k : ℕ} → r.answer ≡ Err k → (u : List ℕ) × (Bytes u × (answer_of pieces u (length slots) ≡ T.refused k))
   unfolding end_of
   end_unit rest slots st slots' r br x q {k} e =
       let u = kept_some Both rest st.held st.passed q in
@@ -108,24 +109,24 @@ module _ (pieces : Pieces) where
       by [] b h = absurd (absent_not h)
       by (c ∷ u) b h = (c ∷ u, (b, h))
 
-  feed_53 : (part rest slots : List ℕ) (st : State) (rest' slots' : List ℕ) (r : Fed) → Bytes part → Bytes rest → FeedDone pieces part rest slots st rest' slots' r → (r.answer ≡ A.Refused 53) ↔ (is_kept Both rest st.held st.passed ≡ false)
+  feed_53 : (part rest slots : List ℕ) (st : State) (rest' slots' : List ℕ) (r : Fed) → Bytes part → Bytes rest → FeedDone pieces part rest slots st rest' slots' r → (r.answer ≡ Err Refusal.NoStream) ↔ (is_kept Both rest st.held st.passed ≡ false)
   feed_53 part rest slots st rest' slots' r bp br x = (λ e. go (is_kept Both rest st.held st.passed) refl e, λ q. ap (λ (y : Fed). y.answer) (x.alien q).0)
     where
-      go : (b : Bool) → is_kept Both rest st.held st.passed ≡ b → r.answer ≡ A.Refused 53 → b ≡ false
+      go : (b : Bool) → is_kept Both rest st.held st.passed ≡ b → r.answer ≡ Err Refusal.NoStream → b ≡ false
       go false q e = refl
       go true q e = let u = feed_unit part rest slots st rest' slots' r bp br x q e in absurd (unit_never_53 pieces u.0 u.1.0 (length slots) u.1.1)
 
-  finish_53 : (rest slots : List ℕ) (st : State) (slots' : List ℕ) (r : Finished) → Bytes rest → FinishDone pieces rest slots st slots' r → (r.answer ≡ A.Refused 53) ↔ (is_kept Both rest st.held st.passed ≡ false)
+  finish_53 : (rest slots : List ℕ) (st : State) (slots' : List ℕ) (r : Finished) → Bytes rest → FinishDone pieces rest slots st slots' r → (r.answer ≡ Err Refusal.NoStream) ↔ (is_kept Both rest st.held st.passed ≡ false)
   finish_53 rest slots st slots' r br x = (λ e. go (is_kept Both rest st.held st.passed) refl e, λ q. ap (λ (y : Finished). y.answer) (x.alien q).0)
     where
-      go : (b : Bool) → is_kept Both rest st.held st.passed ≡ b → r.answer ≡ A.Refused 53 → b ≡ false
+      go : (b : Bool) → is_kept Both rest st.held st.passed ≡ b → r.answer ≡ Err Refusal.NoStream → b ≡ false
       go false q e = refl
       go true q e = let u = end_unit rest slots st slots' r br x q e in absurd (unit_never_53 pieces u.0 u.1.0 (length slots) u.1.1)
 
   -- ---- no second answer
 
   -- two answers to one thing told
-  one_given : {told : T.Told Entry} {dwords slots exit exit' : List ℕ} {r q : Answer} → Given told dwords slots exit r → Given told dwords slots exit' q → (r ≡ q) × (exit ≡ exit')
+  one_given : {told : T.Told Entry} {dwords slots exit exit' : List ℕ} {r q : Result (Option Entry) Refusal} → Given told dwords slots exit r → Given told dwords slots exit' q → (r ≡ q) × (exit ≡ exit')
   one_given {r = r} {q = q} g h = (one_told r q (g.answer ∙ sym h.answer), g.slots_are ∙ sym h.slots_are)
 
   one_place : {u part rest slots rest' slots' rest'' slots'' : List ℕ} {r q : Fed} → Rest Both u → FedOn pieces u part rest slots rest' slots' r → FedOn pieces u part rest slots rest'' slots'' q → r.at < q.at → ⊥
@@ -148,7 +149,7 @@ module _ (pieces : Pieces) where
       same s a =
           ap (λ (n : ℕ). record { at = n; state = r.state; answer = r.answer }) at
           ∙ ap (λ (t : State). record { at = q.at; state = t; answer = r.answer }) s
-          ∙ ap (λ (b : Answer). record { at = q.at; state = q.state; answer = b }) a
+          ∙ ap (λ (b : Result (Option Entry) Refusal). record { at = q.at; state = q.state; answer = b }) a
 
       go : Answered pieces w part slots slots' r → Answered pieces w part slots slots'' q → (r ≡ q) × (slots' ≡ slots'')
       go (Answered.wants o n s g) (Answered.wants o' n' s' g') = let h = one_given g g' in (same (s ∙ sym s') h.0, h.1)
@@ -175,7 +176,7 @@ module _ (pieces : Pieces) where
   one_finish rest slots st slots' slots'' r q x y = go (is_kept Both rest st.held st.passed) refl
     where
       same : r.state ≡ q.state → r.answer ≡ q.answer → r ≡ q
-      same s a = ap (λ (t : State). record { state = t; answer = r.answer }) s ∙ ap (λ (b : Answer). record { state = q.state; answer = b }) a
+      same s a = ap (λ (t : State). record { state = t; answer = r.answer }) s ∙ ap (λ (b : Result (Option Entry) Refusal). record { state = q.state; answer = b }) a
 
       go : (b : Bool) → is_kept Both rest st.held st.passed ≡ b → (r ≡ q) × (slots' ≡ slots'')
       go false k = ((x.alien k).0 ∙ sym (y.alien k).0, (x.alien k).1 ∙ sym (y.alien k).1)
@@ -188,11 +189,11 @@ module _ (pieces : Pieces) where
 
   -- ---- a refusal
 
-  given_refused : {told : T.Told Entry} {dwords slots exit : List ℕ} {r : Answer} {k : ℕ} → Given told dwords slots exit r → r ≡ A.Refused k → exit ≡ slots
+  given_refused : {told : T.Told Entry} {dwords slots exit : List ℕ} {r : Result (Option Entry) Refusal} {k : ℕ} → Given told dwords slots exit r → r ≡ Err k → exit ≡ slots
   unfolding slots_by
   given_refused {dwords = dwords} {slots = slots} g e = g.slots_are ∙ ap (λ (t : T.Told Entry). slots_by t dwords slots) (sym g.answer ∙ ap answer_told e)
 
-  refused_slots : (part rest slots : List ℕ) (st : State) (rest' slots' : List ℕ) (r : Fed) (k : ℕ) → FeedDone pieces part rest slots st rest' slots' r → r.answer ≡ A.Refused k → slots' ≡ slots
+  refused_slots : (part rest slots : List ℕ) (st : State) (rest' slots' : List ℕ) (r : Fed) (k : ℕ) → FeedDone pieces part rest slots st rest' slots' r → r.answer ≡ Err k → slots' ≡ slots
   refused_slots part rest slots st rest' slots' r k x e = go (is_kept Both rest st.held st.passed) refl
     where
       by : {w : List ℕ} → Answered pieces w part slots slots' r → slots' ≡ slots
@@ -203,7 +204,7 @@ module _ (pieces : Pieces) where
       go false q = (x.alien q).2
       go true q = let u = kept_some Both rest st.held st.passed q in by (x.fed q u.0 u.1.0 u.1.1).answered
 
-  refused_slots_end : (rest slots : List ℕ) (st : State) (slots' : List ℕ) (r : Finished) (k : ℕ) → FinishDone pieces rest slots st slots' r → r.answer ≡ A.Refused k → slots' ≡ slots
+  refused_slots_end : (rest slots : List ℕ) (st : State) (slots' : List ℕ) (r : Finished) (k : ℕ) → FinishDone pieces rest slots st slots' r → r.answer ≡ Err k → slots' ≡ slots
   refused_slots_end rest slots st slots' r k x e = go (is_kept Both rest st.held st.passed) refl
     where
       go : (b : Bool) → is_kept Both rest st.held st.passed ≡ b → slots' ≡ slots

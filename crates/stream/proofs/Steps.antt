@@ -1,4 +1,7 @@
 -- A call of `units` and the reading of the unit that it ended make a call of the stream. Assumes nothing.
+use Rattle.std.specs.Prelude.{Err, None, Ok, Option, Result, Some}
+use Rattle.refusal.specs.declared.Refusal.{Refusal}
+use Rattle.refusal.specs.declared.Refusal.TheVariants as Refusal
 use Prim.Native.Nat.{ℕ, ◌-◌, ◌≤◌}
 use mathlib.Core.Path.{◌≡◌, refl, sym, ap, subst, ◌∙◌}
 use mathlib.Core.Bool.{Bool, true, false, cond}
@@ -10,8 +13,6 @@ use lib.Seq.{length-take-le}
 use Rattle.text.specs.Told as T
 use Rattle.entry.specs.declared.Entry.{Entry}
 use Rattle.scan.specs.declared.Pieces.{Pieces}
-use Rattle.scan.specs.declared.Answer as ScanModule
-use Rattle.scan.specs.declared.Answer.TheVariants as S
 use Rattle.scan.specs.Parse.{slots_by, answer_told as scanTold}
 use Rattle.intake.specs.Intake.{taken_dwords, taken_of, Taken}
 use Rattle.units.specs.declared.Framing.TheVariants.{Both}
@@ -25,8 +26,6 @@ use Rattle.units.specs.Feeding as UF
 use Rattle.units.specs.Feeding.{between, unit_of, text_length}
 use Rattle.units.proofs.WhatIsKept.{stood_size, stood_front, whole_fits}
 use Rattle.units.proofs.States.{kept_some, kept_is}
-use Rattle.stream.specs.declared.Answer.{Answer}
-use Rattle.stream.specs.declared.Answer.TheVariants as A
 use Rattle.stream.specs.declared.Fed.{Fed}
 use Rattle.stream.specs.declared.Finished.{Finished}
 use Rattle.stream.specs.Answers.{answer_told}
@@ -49,21 +48,21 @@ text_kept w = go (is_record Both w) (is_long w) (ltb (length w) (stated w))
     go false b d = omega arith
 
 -- two answers that tell the same are the same
-pub one_told : (a b : Answer) → answer_told a ≡ answer_told b → a ≡ b
-one_told (A.Entry e) (A.Entry f) h = cc
-one_told (A.Entry e) (A.Refused j) h = absurd (let z : ◌≡◌ {A = ℕ} 0 1 = cc in omega arith)
-one_told (A.Entry e) A.Nothing h = absurd (let z : ◌≡◌ {A = ℕ} 0 1 = cc in omega arith)
-one_told (A.Refused k) (A.Entry f) h = absurd (let z : ◌≡◌ {A = ℕ} 0 1 = cc in omega arith)
-one_told (A.Refused k) (A.Refused j) h = cc
-one_told (A.Refused k) A.Nothing h = absurd (let z : ◌≡◌ {A = ℕ} 0 1 = cc in omega arith)
-one_told A.Nothing (A.Entry f) h = absurd (let z : ◌≡◌ {A = ℕ} 0 1 = cc in omega arith)
-one_told A.Nothing (A.Refused j) h = absurd (let z : ◌≡◌ {A = ℕ} 0 1 = cc in omega arith)
-one_told A.Nothing A.Nothing h = refl
+pub one_told : (a b : Result (Option Entry) Refusal) → answer_told a ≡ answer_told b → a ≡ b
+one_told (Ok (Some e)) (Ok (Some f)) h = cc
+one_told (Ok (Some e)) (Err j) h = absurd (let z : ◌≡◌ {A = ℕ} 0 1 = cc in omega arith)
+one_told (Ok (Some e)) (Ok None) h = absurd (let z : ◌≡◌ {A = ℕ} 0 1 = cc in omega arith)
+one_told (Err k) (Ok (Some f)) h = absurd (let z : ◌≡◌ {A = ℕ} 0 1 = cc in omega arith)
+one_told (Err k) (Err j) h = cc
+one_told (Err k) (Ok None) h = absurd (let z : ◌≡◌ {A = ℕ} 0 1 = cc in omega arith)
+one_told (Ok None) (Ok (Some f)) h = absurd (let z : ◌≡◌ {A = ℕ} 0 1 = cc in omega arith)
+one_told (Ok None) (Err j) h = absurd (let z : ◌≡◌ {A = ℕ} 0 1 = cc in omega arith)
+one_told (Ok None) (Ok None) h = refl
 
 -- ---- a unit read, way by way
 
 module _ (pieces : Pieces) (rest slots : List ℕ) {unit : UnitModule.Unit} where
-  pub reads_text : {n : ℕ} {exit : List ℕ} {r : Answer} → unit ≡ U.Text n → TextRead pieces (take n rest) slots exit r → UnitRead pieces unit rest slots exit r
+  pub reads_text : {n : ℕ} {exit : List ℕ} {r : Result (Option Entry) Refusal} → unit ≡ U.Text n → TextRead pieces (take n rest) slots exit r → UnitRead pieces unit rest slots exit r
   unfolding unit_told text_length
   reads_text e g = record { answer = g.answer ∙ rw e; slots_are = g.slots_are ∙ rw e }
 
@@ -71,28 +70,28 @@ module _ (pieces : Pieces) (rest slots : List ℕ) {unit : UnitModule.Unit} wher
   unfolding text_length
   text_fits e h = rw e at h
 
-  pub reads_long : unit ≡ U.Long → UnitRead pieces unit rest slots slots (A.Refused 55)
+  pub reads_long : unit ≡ U.Long → UnitRead pieces unit rest slots slots (Err Refusal.LongRecord)
   unfolding unit_told slots_by
   reads_long e = record { answer = rw e; slots_are = rw e }
 
-  pub reads_cut : unit ≡ U.Cut → UnitRead pieces unit rest slots slots (A.Refused 54)
+  pub reads_cut : unit ≡ U.Cut → UnitRead pieces unit rest slots slots (Err Refusal.CutRecord)
   unfolding unit_told slots_by
   reads_cut e = record { answer = rw e; slots_are = rw e }
 
-  pub reads_open : unit ≡ U.Open → UnitRead pieces unit rest slots slots A.Nothing
+  pub reads_open : unit ≡ U.Open → UnitRead pieces unit rest slots slots (Ok None)
   unfolding unit_told slots_by
   reads_open e = record { answer = rw e; slots_are = rw e }
 
-  pub reads_alien : unit ≡ U.Alien → UnitRead pieces unit rest slots slots (A.Refused 53)
+  pub reads_alien : unit ≡ U.Alien → UnitRead pieces unit rest slots slots (Err Refusal.NoStream)
   unfolding unit_told slots_by
   reads_alien e = record { answer = rw e; slots_are = rw e }
 
 -- a text read by the intake
-module _ (pieces : Pieces) (text slots exit : List ℕ) {r : ScanModule.Answer} (x : Taken pieces text slots exit r) where
-  pub read_entry : {e : Entry} → r ≡ S.Entry e → TextRead pieces text slots exit (A.Entry e)
+module _ (pieces : Pieces) (text slots exit : List ℕ) {r : Result Entry Refusal} (x : Taken pieces text slots exit r) where
+  pub read_entry : {e : Entry} → r ≡ Ok e → TextRead pieces text slots exit (Ok (Some e))
   read_entry q = let told : T.is _ ≡ taken_of pieces text (length slots) = ap scanTold (sym q) ∙ x.answer in record { answer = told; slots_are = x.slots ∙ ap (λ (t : T.Told Entry). slots_by t (taken_dwords text) slots) x.answer }
 
-  pub read_refused : {k : ℕ} → r ≡ S.Refused k → TextRead pieces text slots exit (A.Refused k)
+  pub read_refused : {k : ℕ} → r ≡ Err k → TextRead pieces text slots exit (Err k)
   read_refused q = let told : T.refused _ ≡ taken_of pieces text (length slots) = ap scanTold (sym q) ∙ x.answer in record { answer = told; slots_are = x.slots ∙ ap (λ (t : T.Told Entry). slots_by t (taken_dwords text) slots) x.answer }
 
 -- the state after the end
@@ -140,24 +139,24 @@ module _ (s rest exit : List ℕ) (st : State) (r : UnitsFed.Fed) (x : UF.FeedDo
               rw (z, f.buffer, n) (omega (arith, text_kept (u ++ between s 0 r.at), whole_fits Both (u ++ between s 0 r.at) w))
 
 -- what is told of a unit that is none
-module _ (pieces : Pieces) (rest slots slots' : List ℕ) (unit : UnitModule.Unit) (answer : Answer) (g : UnitRead pieces unit rest slots slots' answer) where
-  alien_refused : unit ≡ U.Alien → (answer ≡ A.Refused 53) × (slots' ≡ slots)
+module _ (pieces : Pieces) (rest slots slots' : List ℕ) (unit : UnitModule.Unit) (answer : Result (Option Entry) Refusal) (g : UnitRead pieces unit rest slots slots' answer) where
+  alien_refused : unit ≡ U.Alien → (answer ≡ Err Refusal.NoStream) × (slots' ≡ slots)
   unfolding unit_told slots_by
-  alien_refused e = (one_told answer (A.Refused 53) (g.answer ∙ rw e), g.slots_are ∙ rw e)
+  alien_refused e = (one_told answer (Err Refusal.NoStream) (g.answer ∙ rw e), g.slots_are ∙ rw e)
 
   open_nothing : unit ≡ U.Open → Given T.absent [] slots slots' answer
   unfolding unit_told slots_by
   open_nothing e = record { answer = g.answer ∙ rw e; slots_are = g.slots_are ∙ rw e }
 
-module _ (s rest exit : List ℕ) (st : State) (r : UnitsFed.Fed) (x : UF.FeedDone Both s 0 rest st exit r) (pieces : Pieces) (slots slots' : List ℕ) (answer : Answer) (g : UnitRead pieces r.unit exit slots slots' answer) where
+module _ (s rest exit : List ℕ) (st : State) (r : UnitsFed.Fed) (x : UF.FeedDone Both s 0 rest st exit r) (pieces : Pieces) (slots slots' : List ℕ) (answer : Result (Option Entry) Refusal) (g : UnitRead pieces r.unit exit slots slots' answer) where
   abbrev fed : Fed
   fed = record { at = r.at; state = r.state; answer = answer }
 
-  fed_alien : is_kept Both rest st.held st.passed ≡ false → (fed ≡ record { at = 0; state = st; answer = A.Refused 53 }) × (exit ≡ rest) × (slots' ≡ slots)
+  fed_alien : is_kept Both rest st.held st.passed ≡ false → (fed ≡ record { at = 0; state = st; answer = Err Refusal.NoStream }) × (exit ≡ rest) × (slots' ≡ slots)
   fed_alien q =
       let e = (x.alien q).0 in
       let z = alien_refused pieces exit slots slots' r.unit answer g (ap (λ (y : UnitsFed.Fed). y.unit) e) in
-      (ap (λ (y : UnitsFed.Fed). record { at = y.at; state = y.state; answer = answer }) e ∙ ap (λ (a : Answer). record { at = 0; state = st; answer = a }) z.0, (x.alien q).1, z.1)
+      (ap (λ (y : UnitsFed.Fed). record { at = y.at; state = y.state; answer = answer }) e ∙ ap (λ (a : Result (Option Entry) Refusal). record { at = 0; state = st; answer = a }) z.0, (x.alien q).1, z.1)
 
   fed_on : is_kept Both rest st.held st.passed ≡ true → (u : List ℕ) → Rest Both u → Keeps Both u rest st.held st.passed → FedOn pieces u s rest slots exit slots' fed
   fed_on q u o k =
@@ -202,16 +201,16 @@ module _ (rest : List ℕ) (st : State) (unit : UnitModule.Unit) (x : UF.FinishD
           let e : unit ≡ UF.end_of Both u.0 = x.ended q u.0 u.1.0 u.1.1 in
           rw e (omega (arith, end_kept u.0, held_is u.1.1, u.1.1.size, u.1.1.within))
 
-  module _ (pieces : Pieces) (slots slots' : List ℕ) (answer : Answer) (g : UnitRead pieces unit rest slots slots' answer) (after : State) (a : after ≡ after_end st unit) where
+  module _ (pieces : Pieces) (slots slots' : List ℕ) (answer : Result (Option Entry) Refusal) (g : UnitRead pieces unit rest slots slots' answer) (after : State) (a : after ≡ after_end st unit) where
     abbrev finished : Finished
     finished = record { state = after; answer = answer }
 
-    end_alien : is_kept Both rest st.held st.passed ≡ false → (finished ≡ record { state = st; answer = A.Refused 53 }) × (slots' ≡ slots)
+    end_alien : is_kept Both rest st.held st.passed ≡ false → (finished ≡ record { state = st; answer = Err Refusal.NoStream }) × (slots' ≡ slots)
     unfolding after_end
     end_alien q =
         let z = alien_refused pieces rest slots slots' unit answer g (x.alien q) in
         let e : after ≡ st = a ∙ rw (x.alien q) in
-        (ap (λ (y : State). record { state = y; answer = answer }) e ∙ ap (λ (y : Answer). record { state = st; answer = y }) z.0, z.1)
+        (ap (λ (y : State). record { state = y; answer = answer }) e ∙ ap (λ (y : Result (Option Entry) Refusal). record { state = st; answer = y }) z.0, z.1)
 
     end_some : is_kept Both rest st.held st.passed ≡ true → (u : List ℕ) → Rest Both u → Keeps Both u rest st.held st.passed → Given (end_of pieces u (length slots)) (taken_dwords u) slots slots' answer
     unfolding end_of UF.end_of slots_by

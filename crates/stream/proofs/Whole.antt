@@ -1,5 +1,7 @@
 -- However a stream is cut, its answers are those of its units: each call takes the stream one step on, and what it keeps is the bytes since the last
 -- unit. Assumes nothing.
+use Rattle.std.specs.Prelude.{Err, None, Ok, Option, Result, Some}
+use Rattle.refusal.specs.declared.Refusal.{Refusal}
 use Prim.Native.Nat.{ℕ, zero, suc, ◌≤◌, ◌<◌}
 use mathlib.Core.Path.{◌≡◌, refl, sym, ap, subst, ◌∙◌}
 use mathlib.Core.Bool.{Bool, true, false, cond}
@@ -27,8 +29,6 @@ use Rattle.units.proofs.Streams.{goes_on, ends_one, rest_left, at_end, one_units
 use Rattle.units.proofs.Existence.{has_units}
 use Rattle.units.proofs.WhatIsKept.{stood_keeps, stood_size, keeps_nothing, whole_fits, rest_fits}
 use Rattle.units.proofs.States.{keeps_kept, kept_some}
-use Rattle.stream.specs.declared.Answer.{Answer}
-use Rattle.stream.specs.declared.Answer.TheVariants as A
 use Rattle.stream.specs.declared.Fed.{Fed}
 use Rattle.stream.specs.Answers.{answer_told, answer_of, said_by, said_of}
 use Rattle.stream.specs.Feeding.{empty, state_of, Given, Answered, FedOn, FeedDone, end_of}
@@ -100,13 +100,13 @@ module _ (pieces : Pieces) (room : ℕ) where
   said_both (u ∷ a) b = ap (λ (l : List EntryValue). said_by u (answer_of pieces u 256) ++ l) (said_both a b) ∙ sym (append_assoc (said_by u (answer_of pieces u 256)) (said_of pieces a) (said_of pieces b))
 
   -- what a call's answer of a unit says is what the unit says
-  unit_values : (u rest slots rest' slots' : List ℕ) (answer : Answer) → Bytes u → 256 ≤ length slots → rest' ≡ stood Both u rest → Given (answer_of pieces u (length slots)) (taken_dwords u) slots slots' answer → values_in (answer_told answer) rest' slots' ≡ said_of pieces (u ∷ [])
+  unit_values : (u rest slots rest' slots' : List ℕ) (answer : Result (Option Entry) Refusal) → Bytes u → 256 ≤ length slots → rest' ≡ stood Both u rest → Given (answer_of pieces u (length slots)) (taken_dwords u) slots slots' answer → values_in (answer_told answer) rest' slots' ≡ said_of pieces (u ∷ [])
   unfolding values_in
-  unit_values u rest slots rest' slots' (A.Entry e) b n x g = sym (entry_of pieces u rest slots rest' slots' (A.Entry e) e b n x g refl).says
-  unit_values u rest slots rest' slots' (A.Refused k) b n x g = sym (refused_says pieces u b (length slots) n k (sym g.answer))
-  unit_values u rest slots rest' slots' A.Nothing b n x g = absurd (unit_never_none pieces u (length slots) (sym g.answer))
+  unit_values u rest slots rest' slots' (Ok (Some e)) b n x g = sym (entry_of pieces u rest slots rest' slots' (Ok (Some e)) e b n x g refl).says
+  unit_values u rest slots rest' slots' (Err k) b n x g = sym (refused_says pieces u b (length slots) n k (sym g.answer))
+  unit_values u rest slots rest' slots' (Ok None) b n x g = absurd (unit_never_none pieces u (length slots) (sym g.answer))
 
-  nothing_said : (answer : Answer) (rest slots : List ℕ) → answer_told answer ≡ T.absent → values_in (answer_told answer) rest slots ≡ []
+  nothing_said : (answer : Result (Option Entry) Refusal) (rest slots : List ℕ) → answer_told answer ≡ T.absent → values_in (answer_told answer) rest slots ≡ []
   unfolding values_in
   nothing_said answer rest slots e = ap (λ (t : T.Told Entry). values_in t rest slots) e
 
@@ -191,7 +191,7 @@ module _ (pieces : Pieces) (room : ℕ) where
   stands (Calls.call part slots rest' slots' r before bs n done) = stands_on (stands before) part slots rest' slots' r bs n done
 
   -- what the end's answer says is what the open unit says, which is kept in the buffer
-  end_says : (u : List ℕ) → Bytes u → {rest slots slots' : List ℕ} {held passed : ℕ} {answer : Answer} → Keeps Both u rest held passed → 256 ≤ length slots → Given (end_of pieces u (length slots)) (taken_dwords u) slots slots' answer → values_in (answer_told answer) rest slots' ≡ said_of pieces (closing u)
+  end_says : (u : List ℕ) → Bytes u → {rest slots slots' : List ℕ} {held passed : ℕ} {answer : Result (Option Entry) Refusal} → Keeps Both u rest held passed → 256 ≤ length slots → Given (end_of pieces u (length slots)) (taken_dwords u) slots slots' answer → values_in (answer_told answer) rest slots' ≡ said_of pieces (closing u)
   unfolding end_of closing
   end_says [] b {rest} {slots} {slots'} {answer = answer} k n g = nothing_said answer rest slots' g.answer ∙ nothing_said_of
   end_says (c ∷ u) b {rest} {slots} {slots'} {answer = answer} k n g = unit_values (c ∷ u) rest slots rest slots' answer b n (kept_stands k) g

@@ -1,5 +1,7 @@
 -- What the calls answer, and what they leave in what is lent.
-use Rattle.std.specs.Prelude.{ℕ, ◌≤◌, ◌≡◌, true, false, List, [], ◌∷◌, ◌++◌, length, take}
+use Rattle.refusal.specs.declared.Refusal.{Refusal}
+use Rattle.refusal.specs.declared.Refusal.TheVariants as Refusal
+use Rattle.std.specs.Prelude.{ℕ, ◌≤◌, ◌≡◌, true, false, List, [], ◌∷◌, ◌++◌, length, take, Err, None, Ok, Option, Result, Some}
 use Rattle.text.specs.Told.{Told, absent, refused}
 use Rattle.entry.specs.declared.Entry.{Entry}
 use Rattle.scan.specs.declared.Pieces.{Pieces}
@@ -12,8 +14,6 @@ use Rattle.units.specs.declared.Unit.TheVariants as U
 use Rattle.units.specs.Units.{Whole, Rest}
 use Rattle.units.specs.Kept.{kept_text, kept_count, stood, Keeps, is_kept}
 use Rattle.units.specs.Feeding.{text_length}
-use Rattle.stream.specs.declared.Answer.{Answer}
-use Rattle.stream.specs.declared.Answer.TheVariants as A
 use Rattle.stream.specs.declared.Fed.{Fed}
 use Rattle.stream.specs.declared.Finished.{Finished}
 use Rattle.stream.specs.Answers.{answer_told, answer_of}
@@ -27,7 +27,7 @@ abbrev pub state_of : List ℕ → State
 state_of w = record { held = length (kept_text Both w); passed = kept_count Both w }
 
 -- an answer, and each slot: an entry's dwords in the first of them, and all as found without one
-pub record Given (told : Told Entry) (dwords slots exit : List ℕ) (r : Answer) : Type 0 where
+pub record Given (told : Told Entry) (dwords slots exit : List ℕ) (r : Result (Option Entry) Refusal) : Type 0 where
   pub answer : answer_told r ≡ told
   pub slots_are : exit ≡ slots_by told dwords slots
 
@@ -44,7 +44,7 @@ pub record FedOn (pieces : Pieces) (u s rest slots rest' slots' : List ℕ) (r :
 
 -- WHAT `feed` ANSWERS: 53 where no stream leaves what is lent, and nothing has changed; else by the unit that is kept there, whichever it is
 pub record FeedDone (pieces : Pieces) (s rest slots : List ℕ) (st : State) (rest' slots' : List ℕ) (r : Fed) : Type 0 where
-  pub alien : is_kept Both rest st.held st.passed ≡ false → (r ≡ record { at = 0; state = st; answer = A.Refused 53 }) × (rest' ≡ rest) × (slots' ≡ slots)
+  pub alien : is_kept Both rest st.held st.passed ≡ false → (r ≡ record { at = 0; state = st; answer = Err Refusal.NoStream }) × (rest' ≡ rest) × (slots' ≡ slots)
   pub fed : is_kept Both rest st.held st.passed ≡ true → (u : List ℕ) → Rest Both u → Keeps Both u rest st.held st.passed → FedOn pieces u s rest slots rest' slots' r
 
 -- what the end answers of the bytes since the last unit
@@ -54,7 +54,7 @@ end_of pieces (b ∷ u) room = answer_of pieces (b ∷ u) room
 
 -- WHAT `finish` ANSWERS: 53 as `feed` does; else the open unit's answer, if there is one, and nothing is held any more
 pub record FinishDone (pieces : Pieces) (rest slots : List ℕ) (st : State) (slots' : List ℕ) (r : Finished) : Type 0 where
-  pub alien : is_kept Both rest st.held st.passed ≡ false → (r ≡ record { state = st; answer = A.Refused 53 }) × (slots' ≡ slots)
+  pub alien : is_kept Both rest st.held st.passed ≡ false → (r ≡ record { state = st; answer = Err Refusal.NoStream }) × (slots' ≡ slots)
   pub ended : is_kept Both rest st.held st.passed ≡ true → (u : List ℕ) → Rest Both u → Keeps Both u rest st.held st.passed
       → (r.state ≡ empty) × Given (end_of pieces u (length slots)) (taken_dwords u) slots slots' r.answer
 
@@ -68,10 +68,10 @@ unit_told pieces U.Cut rest room = refused 54
 unit_told pieces U.Open rest room = absent
 unit_told pieces U.Alien rest room = refused 53
 
-abbrev pub UnitRead : Pieces → UnitModule.Unit → List ℕ → List ℕ → List ℕ → Answer → Type 0
+abbrev pub UnitRead : Pieces → UnitModule.Unit → List ℕ → List ℕ → List ℕ → Result (Option Entry) Refusal → Type 0
 UnitRead pieces unit rest slots exit r = Given (unit_told pieces unit rest (length slots)) (taken_dwords (take (text_length unit) rest)) slots exit r
 
-abbrev pub TextRead : Pieces → List ℕ → List ℕ → List ℕ → Answer → Type 0
+abbrev pub TextRead : Pieces → List ℕ → List ℕ → List ℕ → Result (Option Entry) Refusal → Type 0
 TextRead pieces text slots exit r = Given (taken_of pieces text (length slots)) (taken_dwords text) slots exit r
 
 -- the state after the end

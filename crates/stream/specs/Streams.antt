@@ -1,17 +1,17 @@
 -- A whole stream, cut anywhere into parts: what is promised of its answers, of the states between the calls, of each unit, and of its records fed again.
 -- How to read it: `a ≡ b` is "a equals b"; `P → Q` "if P then Q"; `P → ⊥` "P never holds"; `(x : A) → P` "for every x, P"; `(x : A) × P` "there is an x
 -- so that P"; `P × Q` "P and Q"; `↔` "exactly when"; `a ++ b` is a and then b; `map f l` is f of each of l; `All P l` "P holds of each of l".
-use Rattle.std.specs.Prelude.{ℕ, ◌≤◌, ◌<◌, ◌≡◌, true, false, cond, List, [], ◌∷◌, ◌++◌, map, ◌↔◌, eqb, length, get_or, take}
+use Rattle.refusal.specs.declared.Refusal.{Refusal}
+use Rattle.refusal.specs.declared.Refusal.TheVariants as Refusal
+use Rattle.std.specs.Prelude.{ℕ, ◌≤◌, ◌<◌, ◌≡◌, true, false, cond, List, [], ◌∷◌, ◌++◌, map, ◌↔◌, eqb, length, get_or, take, Err, None, Ok, Result, Some}
 use Rattle.text.specs.Told.{Told, is, absent, refused}
 use Rattle.tlv.specs.Number.{Bytes}
 use Rattle.tlv.specs.Grammar.{All}
 use Rattle.entry.specs.declared.Entry.{Entry}
 use Rattle.entry.specs.Entry.{EntryValue, value_of}
 use Rattle.scan.specs.declared.Pieces.{Pieces}
-use Rattle.scan.specs.declared.Answer.TheVariants as Read
 use Rattle.scan.specs.Line.{Line}
 use Rattle.record.specs.Grammar.{record_bytes, IsRecord}
-use Rattle.writer.specs.declared.Written.{Written}
 use Rattle.intake.specs.Intake.{Belongs, starts_a1}
 use Rattle.intake.specs.Demand3.{ReadCall, WriteCall, Wrote}
 use Rattle.intake.specs.Demand3Packets.{packet_for}
@@ -19,7 +19,6 @@ use Rattle.units.specs.declared.Framing.TheVariants.{Both}
 use Rattle.units.specs.declared.State.{State}
 use Rattle.units.specs.Units.{Units, Whole, Open, Sofar}
 use Rattle.units.specs.Kept.{Leaves, is_kept}
-use Rattle.stream.specs.declared.Answer.TheVariants as A
 use Rattle.stream.specs.declared.Fed.{Fed}
 use Rattle.stream.specs.declared.Finished.{Finished}
 use Rattle.stream.specs.Answers.{answer_told, answer_of, said_of, records_of}
@@ -107,10 +106,10 @@ pub record StatesLeft (pieces : Pieces) : Type 0 where
       → (is_kept Both rest held passed ≡ true) ↔ ((s : List ℕ) × (Bytes s × Leaves Both s rest held passed))
   -- `feed` answers 53 exactly where the test fails.
   pub feed_53 : (part rest slots : List ℕ) (st : State) (rest' slots' : List ℕ) (r : Fed) → Bytes part → Bytes rest → FeedDone pieces part rest slots st rest' slots' r
-      → (r.answer ≡ A.Refused 53) ↔ (is_kept Both rest st.held st.passed ≡ false)
+      → (r.answer ≡ Err Refusal.NoStream) ↔ (is_kept Both rest st.held st.passed ≡ false)
   -- So does `finish`.
   pub finish_53 : (rest slots : List ℕ) (st : State) (slots' : List ℕ) (r : Finished) → Bytes rest → FinishDone pieces rest slots st slots' r
-      → (r.answer ≡ A.Refused 53) ↔ (is_kept Both rest st.held st.passed ≡ false)
+      → (r.answer ≡ Err Refusal.NoStream) ↔ (is_kept Both rest st.held st.passed ≡ false)
   -- No second answer keeps the contract of `feed`, whatever the input.
   pub one_feed : (part rest slots : List ℕ) (st : State) (rest' slots' rest'' slots'' : List ℕ) (r q : Fed)
       → FeedDone pieces part rest slots st rest' slots' r → FeedDone pieces part rest slots st rest'' slots'' q
@@ -121,20 +120,20 @@ pub record StatesLeft (pieces : Pieces) : Type 0 where
       → (r ≡ q) × (slots' ≡ slots'')
   -- With a number the slots are as found.
   pub refused_slots : (part rest slots : List ℕ) (st : State) (rest' slots' : List ℕ) (r : Fed) (k : ℕ) → FeedDone pieces part rest slots st rest' slots' r
-      → r.answer ≡ A.Refused k → slots' ≡ slots
+      → r.answer ≡ Err k → slots' ≡ slots
   pub refused_slots_end : (rest slots : List ℕ) (st : State) (slots' : List ℕ) (r : Finished) (k : ℕ) → FinishDone pieces rest slots st slots' r
-      → r.answer ≡ A.Refused k → slots' ≡ slots
+      → r.answer ≡ Err k → slots' ≡ slots
 
 -- An entry that a call answered of a unit.
 pub record EntryOf (pieces : Pieces) (u slots : List ℕ) (e : Entry) (rest' slots' : List ℕ) : Type 0 where
   -- The unit stands in the buffer from its first byte, whole.
   pub stands : take (length u) rest' ≡ u
   -- The answer and the slots are those of `read` of crate `intake` on the unit: what demand 3 promises of that call holds of this one.
-  pub read : ReadCall pieces u slots (Read.Entry e) slots'
+  pub read : ReadCall pieces u slots (Ok e) slots'
   -- With buffer and slots as they were left, the entry says what the unit says.
   pub says : said_of pieces (u ∷ []) ≡ value_of e rest' slots' ∷ []
   -- Written from the buffer and the slots as they were left, it is the record of that.
-  pub written : (buffer : List ℕ) (answer : Written) (left : List ℕ) → WriteCall rest' e slots' buffer answer left
+  pub written : (buffer : List ℕ) (answer : Result ℕ Refusal) (left : List ℕ) → WriteCall rest' e slots' buffer answer left
       → Wrote (record_bytes (value_of e rest' slots')) buffer answer left
 
 -- What is promised of each unit, given 256 slots: demand 3.
@@ -148,12 +147,12 @@ pub record EachUnit (pieces : Pieces) : Type 0 where
   pub entry_of : (room : ℕ) (taken rest : List ℕ) (answers : List (Told Entry)) (values : List EntryValue) (st : State) → Calls pieces room taken answers values rest st
       → (us : List (List ℕ)) (since : List ℕ) → Sofar Both taken us since
       → 256 ≤ room → (part slots rest' slots' : List ℕ) (r : Fed) (e : Entry) → Bytes part → length slots ≡ room → FeedDone pieces part rest slots st rest' slots' r
-      → r.answer ≡ A.Entry e → Whole Both (since ++ take r.at part) × EntryOf pieces (since ++ take r.at part) slots e rest' slots'
+      → r.answer ≡ Ok (Some e) → Whole Both (since ++ take r.at part) × EntryOf pieces (since ++ take r.at part) slots e rest' slots'
   -- One that `finish` answers is that of the unit which is open.
   pub end_entry_of : (room : ℕ) (taken rest : List ℕ) (answers : List (Told Entry)) (values : List EntryValue) (st : State) → Calls pieces room taken answers values rest st
       → (us : List (List ℕ)) (since : List ℕ) → Sofar Both taken us since
       → 256 ≤ room → (slots slots' : List ℕ) (r : Finished) (e : Entry) → length slots ≡ room → FinishDone pieces rest slots st slots' r
-      → r.answer ≡ A.Entry e → Open Both since × EntryOf pieces since slots e rest slots'
+      → r.answer ≡ Ok (Some e) → Open Both since × EntryOf pieces since slots e rest slots'
   -- A line and its record, fed in whatever streams and by whatever choice the record is, give one entry, and with one book one packet or one number.
   pub line_and_record : (u t : List ℕ) (v : EntryValue) → Line pieces u v → IsRecord t v
       → (slots : List ℕ) (e : Entry) (rest' slots' : List ℕ) → EntryOf pieces u slots e rest' slots'

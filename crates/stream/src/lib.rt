@@ -10,31 +10,23 @@ ghost use Rattle.units.specs.Feeding.{text_length};
 ghost use Rattle.stream.specs.Feeding.{empty, UnitRead, TextRead, FeedDone, FinishDone, after_end};
 
 use entry::Entry;
-use refusal::{CUT_RECORD, LONG_RECORD, NO_STREAM};
+use refusal::Refusal;
 use scan::Pieces;
 use units::{Framing, State, Unit};
-
-// The entry of a unit, the number that refuses it or the call, or that no unit ended.
-#[derive(Clone, Copy)]
-pub enum Answer {
-    Entry(Entry),
-    Refused(u8),
-    Nothing,
-}
 
 // Up to where the part was read, what is kept for the next call, and the answer.
 #[derive(Clone, Copy)]
 pub struct Fed {
     pub at: usize,
     pub state: State,
-    pub answer: Answer,
+    pub answer: Result<Option<Entry>, Refusal>,
 }
 
 // What is kept for the next stream, which is nothing, and the answer.
 #[derive(Clone, Copy)]
 pub struct Finished {
     pub state: State,
-    pub answer: Answer,
+    pub answer: Result<Option<Entry>, Refusal>,
 }
 
 // A stream that has not begun.
@@ -85,24 +77,24 @@ fn state_after(state: State, unit: Unit) -> State
 }
 
 // The answer of a unit. Asked for: that its bytes stand in the buffer, as `units` leaves them.
-pub fn read_unit(unit: Unit, pieces: Pieces, rest: &[u8], slots: &mut [u32]) -> Answer
+pub fn read_unit(unit: Unit, pieces: Pieces, rest: &[u8], slots: &mut [u32]) -> Result<Option<Entry>, Refusal>
     requires { text_length unit ≤ length rest.now }
     ensures { UnitRead pieces unit rest.now slots.old slots.new result }
 {
     match unit {
         Unit::Text(n) => read_text(&rest[..n], pieces, slots),
-        Unit::Long => Answer::Refused(LONG_RECORD),
-        Unit::Cut => Answer::Refused(CUT_RECORD),
-        Unit::Open => Answer::Nothing,
-        Unit::Alien => Answer::Refused(NO_STREAM),
+        Unit::Long => Err(Refusal::LongRecord),
+        Unit::Cut => Err(Refusal::CutRecord),
+        Unit::Open => Ok(None),
+        Unit::Alien => Err(Refusal::NoStream),
     }
 }
 
-fn read_text(text: &[u8], pieces: Pieces, slots: &mut [u32]) -> Answer
+fn read_text(text: &[u8], pieces: Pieces, slots: &mut [u32]) -> Result<Option<Entry>, Refusal>
     ensures { TextRead pieces text.now slots.old slots.new result }
 {
     match intake::read(text, pieces, slots) {
-        scan::Answer::Entry(e) => Answer::Entry(e),
-        scan::Answer::Refused(number) => Answer::Refused(number),
+        Ok(e) => Ok(Some(e)),
+        Err(number) => Err(number),
     }
 }

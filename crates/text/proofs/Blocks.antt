@@ -1,5 +1,6 @@
 -- What a search by blocks knows: a block without the byte is passed over, and what a block with it finds is what the whole search finds, since
 -- nothing before it, or nothing behind it, is the byte. Assumes nothing.
+use Rattle.std.specs.Prelude.{None, Option, Some}
 use Prim.Native.Nat.{ℕ, zero, suc, ◌+◌, ◌-◌, ◌≤◌, ◌<◌}
 use mathlib.Core.Path.{◌≡◌, refl, sym, ap, ◌∙◌}
 use mathlib.Core.Bool.{Bool, true, false}
@@ -7,8 +8,6 @@ use native.Mathlib.Numerals.{add-one}
 use native.Mathlib.Omega.{arith}
 use lib.Dec.{ltb}
 use borrow.Author.Tests.{lt-ltb, le-ltb, ltb-false}
-use Rattle.text.specs.declared.place.Found.{Found}
-use Rattle.text.specs.declared.place.Found.TheVariants.{At, Nothing}
 use Rattle.text.specs.Place.{Free, first_of, first_in, last_place}
 use Rattle.text.specs.Run.{behind}
 use Rattle.text.proofs.Places.{stops_in, one_stop, first_is_stop, by_order, clash, last_hit, last_miss, last_miss_below, last_is, last_free, last_all}
@@ -99,9 +98,9 @@ module _ (p : ℕ → Bool) where
   unfolding behind
   behind_up_to n {e} q = go (last_place p n) refl q
     where
-      go : (f : Found) → last_place p n ≡ f → e ≡ behind f → e ≤ n
-      go (At j) l x = omega (arith, (last_is p l).within)
-      go Nothing l x = omega arith
+      go : (f : Option ℕ) → last_place p n ≡ f → e ≡ behind f → e ≤ n
+      go (Some j) l x = omega (arith, (last_is p l).within)
+      go None l x = omega arith
 
   -- what a block with a passing place finds is what is last below the block's end
   pub last_by_block : (d i : ℕ) → first_of p d i < i + d → behind (last_place p (i + d)) ≡ i + behind (last_place (λ (k : ℕ). p (i + k)) d)
@@ -114,16 +113,16 @@ module _ (p : ℕ → Bool) where
       at_is : {k : ℕ} → i ≤ k → q (k - i) ≡ p k
       at_is {k} l = let e : i + (k - i) ≡ k = omega arith in ap p e
 
-      go : (f : Found) → last_place q d ≡ f → behind (last_place p (i + d)) ≡ i + behind (last_place q d)
-      go (At j) e =
+      go : (f : Option ℕ) → last_place q d ≡ f → behind (last_place p (i + d)) ≡ i + behind (last_place q d)
+      go (Some j) e =
           let r = last_is q e in
-          let there : last_place p (i + d) ≡ At (i + j) =
+          let there : last_place p (i + d) ≡ Some (i + j) =
           last_all p (i + d) (record {
             within = omega (arith, r.within);
             here = r.here;
             after = λ k a b. sym (at_is (omega arith)) ∙ r.after (k - i) (omega arith) (omega arith);
           }) in
-          ap behind there ∙ (let z : suc (i + j) ≡ i + suc j = omega arith in z) ∙ sym (ap (λ (f : Found). i + behind f) e)
-      go Nothing e =
+          ap behind there ∙ (let z : suc (i + j) ≡ i + suc j = omega arith in z) ∙ sym (ap (λ (f : Option ℕ). i + behind f) e)
+      go None e =
           let r = stops_in p d i (i + d) refl in
           absurd (clash (r.here h) (sym (at_is r.from) ∙ last_free q e (first_of p d i - i) (omega arith) (omega (arith, r.from, h))))

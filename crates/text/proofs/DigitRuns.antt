@@ -1,5 +1,6 @@
 -- Digits read one by one from a place on: their value is that of the part read, and sixteen of them stay within 64 bits; decimal digits that no
 -- further one follows are the whole digit run. Assumes nothing.
+use Rattle.std.specs.Prelude.{None, Some}
 use Prim.Native.Nat.{ℕ, zero, suc, ◌+◌, ◌-◌, ◌*◌, ◌^◌, ◌≤◌, ◌<◌}
 use mathlib.Core.Path.{◌≡◌, refl, sym, ap, ◌∙◌}
 use mathlib.Core.Bool.{Bool, true, false, cond, ◌&&◌}
@@ -10,7 +11,6 @@ use lib.Dec.{ltb, leb}
 use lib.ListN.{length, get_or, take, drop, length-drop}
 use lib.Seq.{get_or-take, get_or-drop, length-take-le}
 use borrow.Author.Tests.{lt-leb, leb-true, leb-false}
-use Rattle.text.specs.declared.number.Number.TheVariants as N
 use Rattle.text.specs.Class.{between, is_digit}
 use Rattle.text.specs.Number.{digit_of, value, all_digits, number_of, leading_of}
 use Rattle.text.specs.Run.{run_end}
@@ -90,19 +90,19 @@ module _ (s : List ℕ) (from limit : ℕ) {v j : ℕ} (r : ReadTo s 10 from v j
       run_all is_digit s
       (record { from = r.up; within = r.within; inside = λ k a b. digit_below (get_or s k 0) (r.digits k a b); stops = stops })
 
-  pub leading_none : j ≡ from → N.Unreadable ≡ leading_of limit s from
+  pub leading_none : j ≡ from → None ≡ leading_of limit s from
   unfolding number_of all_digits value
   leading_none e = let z : j - from ≡ 0 = omega arith in rw (run_read, z)
 
-  wide : limit < v → N.Unreadable ≡ leading_of limit s from
+  wide : limit < v → None ≡ leading_of limit s from
   unfolding number_of
   wide l = rw (run_read, ← r.is, lt-leb v limit l) (go (ltb 0 (length (take (j - from) (drop from s))) && all_digits 10 (take (j - from) (drop from s))))
     where
-      go : (x : Bool) → N.Unreadable ≡ cond (x && false) (N.Value v) N.Unreadable
+      go : (x : Bool) → None ≡ cond (x && false) (Some v) None
       go true = refl
       go false = refl
 
-  fits : (j ≡ from → ⊥) → v ≤ limit → N.Value v ≡ leading_of limit s from
+  fits : (j ≡ from → ⊥) → v ≤ limit → Some v ≡ leading_of limit s from
   fits some l =
       let size : length (take (j - from) (drop from s)) ≡ j - from = length-take-le (j - from) (drop from s) (omega (arith, length-drop from s, r.within)) in
       rw run_read
@@ -115,9 +115,9 @@ module _ (s : List ℕ) (from limit : ℕ) {v j : ℕ} (r : ReadTo s 10 from v j
         within = l;
       })))
 
-  pub leading_some : (j ≡ from → ⊥) → cond (leb v limit) (N.Value v) N.Unreadable ≡ leading_of limit s from
+  pub leading_some : (j ≡ from → ⊥) → cond (leb v limit) (Some v) None ≡ leading_of limit s from
   leading_some some = go (leb v limit) refl
     where
-      go : (b : Bool) → leb v limit ≡ b → cond b (N.Value v) N.Unreadable ≡ leading_of limit s from
+      go : (b : Bool) → leb v limit ≡ b → cond b (Some v) None ≡ leading_of limit s from
       go true t = fits some (leb-true v limit t)
       go false t = wide (leb-false v limit t)

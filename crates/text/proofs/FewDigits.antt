@@ -1,4 +1,5 @@
 -- Few digits: k digits of a base up to 16 have a value below 16^k, so sixteen of them stay within 64 bits. Assumes nothing.
+use Rattle.std.specs.Prelude.{None, Some}
 use Prim.Native.Nat.{ℕ, suc, ◌+◌, ◌-◌, ◌*◌, ◌^◌, ◌≤◌, ◌<◌}
 use mathlib.Core.Path.{◌≡◌, refl, ◌∙◌}
 use mathlib.Core.Bool.{Bool, true, false, cond}
@@ -10,9 +11,9 @@ use lib.ListN.{length, get_or, drop, drop_of_length-le}
 use lib.Seq.{drop-cons}
 use lib.Dec.{leb}
 use borrow.Author.Tests.{lt-ltb, lt-leb, leb-true, leb-false}
-use Rattle.text.specs.declared.number.Number.TheVariants as N
 use Rattle.text.specs.Class.{between, is_digit}
-use Rattle.text.specs.Number.{digit_of, value, bad_at, bad_first, value_within, reading_of, read_value}
+use Rattle.text.specs.Number.{digit_of, value, bad_at, bad_first, value_within, reading_of}
+use Rattle.std.specs.Result.{result_ok}
 use Rattle.text.proofs.Places.{place_hit, place_end}
 use Rattle.text.proofs.Numbers.{at_least, Clean, clean_starts, clean_steps, is_bad, whole_value}
 
@@ -76,22 +77,22 @@ module _ (base from : ℕ) (s : List ℕ) where
       }
 
   module _ (limit : ℕ) where
-    pub few_bad : {v i d : ℕ} → Few v i → i < length s → d ≡ digit_of (get_or s i 0) → base ≤ d → N.Unreadable ≡ read_value (reading_of base limit from s)
-    unfolding reading_of bad_first read_value
+    pub few_bad : {v i d : ℕ} → Few v i → i < length s → d ≡ digit_of (get_or s i 0) → base ≤ d → None ≡ result_ok (reading_of base limit from s)
+    unfolding reading_of bad_first
     few_bad {v} {i} r h e l = rw (lt-ltb from (length s) r.some, r.clean.same, place_hit (bad_at base s) h (is_bad base s i e l))
 
-    pub few_wide : {v i : ℕ} → Few v i → length s ≤ i → limit < v → N.Unreadable ≡ read_value (reading_of base limit from s)
-    unfolding reading_of bad_first value_within value read_value
+    pub few_wide : {v i : ℕ} → Few v i → length s ≤ i → limit < v → None ≡ result_ok (reading_of base limit from s)
+    unfolding reading_of bad_first value_within value
     few_wide {v} {i} r h l =
         let e : value base 0 (drop from s) ≡ v = r.same_value ∙ rw (drop_of_length-le s h) in
         rw (lt-ltb from (length s) r.some, r.clean.same, place_end (bad_at base s) h, e, lt-leb v limit l)
 
-    pub few_whole : {v i : ℕ} → Few v i → length s ≤ i → v ≤ limit → N.Value v ≡ read_value (reading_of base limit from s)
+    pub few_whole : {v i : ℕ} → Few v i → length s ≤ i → v ≤ limit → Some v ≡ result_ok (reading_of base limit from s)
     few_whole {v} {i} r h l = whole_value base limit from s (record { some = r.some; fits = l; clean = r.clean; same_value = r.same_value }) h
 
-    pub few_judged : {v i : ℕ} → Few v i → length s ≤ i → cond (leb v limit) (N.Value v) N.Unreadable ≡ read_value (reading_of base limit from s)
+    pub few_judged : {v i : ℕ} → Few v i → length s ≤ i → cond (leb v limit) (Some v) None ≡ result_ok (reading_of base limit from s)
     few_judged {v} r h = go (leb v limit) refl
       where
-        go : (b : Bool) → leb v limit ≡ b → cond b (N.Value v) N.Unreadable ≡ read_value (reading_of base limit from s)
+        go : (b : Bool) → leb v limit ≡ b → cond b (Some v) None ≡ result_ok (reading_of base limit from s)
         go true t = few_whole r h (leb-true v limit t)
         go false t = few_wide r h (leb-false v limit t)

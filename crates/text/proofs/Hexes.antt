@@ -1,5 +1,8 @@
 -- Hex numbers, and why a text is none: the digits start behind one `0x`, whose `x` is no digit, so each answer is the reading of what stands
 -- there; one proof over the limit serves every width. Assumes nothing.
+use Rattle.std.specs.Prelude.{Err, None, Ok, Result, Some}
+use Rattle.text.specs.declared.number.BadNumber.{BadNumber}
+use Rattle.text.specs.declared.number.BadNumber.TheVariants as BadNumber
 use Prim.Native.Nat.{ℕ, ◌≤◌, ◌<◌}
 use mathlib.Core.Path.{◌≡◌, refl, sym, ap, ◌∙◌}
 use mathlib.Core.Bool.{Bool, true, false, cond, ◌&&◌}
@@ -8,12 +11,10 @@ use mathlib.Core.Logic.{◌↔◌}
 use native.Mathlib.Omega.{arith}
 use lib.ListN.{length, get_or, drop}
 use borrow.Author.Tests.{eq-eqb, ne_eqb, eqb-true}
-use Rattle.text.specs.declared.number.Number.TheVariants as N
-use Rattle.text.specs.declared.number.Reading.{Reading}
-use Rattle.text.specs.declared.number.Reading.TheVariants as R
 use Rattle.text.specs.Class.{between, is_digit}
 use Rattle.text.specs.Place.{is_at}
-use Rattle.text.specs.Number.{digit_of, value, Reads, HexNumber, DigitsFrom, EmptyHex, Means, digits_from, hex_of, read_value, hex_number_of}
+use Rattle.text.specs.Number.{digit_of, value, Reads, HexNumber, DigitsFrom, EmptyHex, Means, digits_from, hex_of, hex_number_of}
+use Rattle.std.specs.Result.{result_ok}
 use Rattle.text.proofs.Texts.{both_left, both_right}
 use Rattle.text.proofs.Numbers.{Judged, judged, judged_all, judged_reads, reads_judged, value_read}
 
@@ -70,14 +71,14 @@ digits_alone s r =
 
 module _ (limit : ℕ) {s : List ℕ} where
   -- a hex number is the number from where the digits start
-  number_judged : {v : ℕ} → HexNumber limit s v → Judged 16 limit (digits_from s) s (R.Value v)
+  number_judged : {v : ℕ} → HexNumber limit s v → Judged 16 limit (digits_from s) s (Ok v)
   number_judged (HexNumber.plain r) = rw (digits_from_all (digits_alone s r)) (reads_judged 16 limit 0 s r)
   number_judged {v} (HexNumber.prefixed t e r) =
       let two : digits_from s ≡ 2 = digits_from_all (DigitsFrom.behind t e refl) in
       let rest : drop 2 s ≡ t = rw e in
       rw two (reads_judged 16 limit 2 s (rw rest r))
 
-  judged_number : {v : ℕ} → Judged 16 limit (digits_from s) s (R.Value v) → HexNumber limit s v
+  judged_number : {v : ℕ} → Judged 16 limit (digits_from s) s (Ok v) → HexNumber limit s v
   judged_number {v} j = go (digits_from s) (digits_from_is s) (judged_reads 16 limit (digits_from s) s j)
     where
       go : (from : ℕ) → DigitsFrom s from → Reads 16 limit (drop from s) v → HexNumber limit s v
@@ -103,7 +104,7 @@ no_digit {s} h = go (digits_from s) (digits_from_is s) h
     go from (DigitsFrom.start none f) l = EmptyHex.nothing (no_byte s (rw f at l))
 
 module _ (limit : ℕ) {s : List ℕ} where
-  judged_means : {r : Reading} → Judged 16 limit (digits_from s) s r → Means limit s r
+  judged_means : {r : Result ℕ BadNumber} → Judged 16 limit (digits_from s) s r → Means limit s r
   judged_means (Judged.empty h) = no_digit h
   judged_means (Judged.bad f) = record { from = digits_from s; digits = digits_from_is s; first = f }
   judged_means (Judged.wide l free over) =
@@ -114,14 +115,14 @@ module _ (limit : ℕ) {s : List ℕ} where
       }
   judged_means (Judged.fits l free e within) = judged_number limit (Judged.fits l free e within)
 
-  means_judged : (r : Reading) → Means limit s r → Judged 16 limit (digits_from s) s r
-  means_judged (R.Value v) m = number_judged limit m
-  means_judged R.Empty (EmptyHex.nothing e) = Judged.empty (rw e (omega arith))
-  means_judged R.Empty (EmptyHex.bare e) = Judged.empty (rw (digits_from_all (DigitsFrom.behind [] e refl), e) (omega arith))
-  means_judged (R.BadDigit k) m = Judged.bad {k = k} (rw (digits_from_all m.digits) m.first)
-  means_judged R.TooWide m = past (number_judged m.value m.number)
+  means_judged : (r : Result ℕ BadNumber) → Means limit s r → Judged 16 limit (digits_from s) s r
+  means_judged (Ok v) m = number_judged limit m
+  means_judged (Err BadNumber.Empty) (EmptyHex.nothing e) = Judged.empty (rw e (omega arith))
+  means_judged (Err BadNumber.Empty) (EmptyHex.bare e) = Judged.empty (rw (digits_from_all (DigitsFrom.behind [] e refl), e) (omega arith))
+  means_judged (Err (BadNumber.BadDigit k)) m = Judged.bad {k = k} (rw (digits_from_all m.digits) m.first)
+  means_judged (Err BadNumber.TooWide) m = past (number_judged m.value m.number)
     where
-      past : Judged 16 m.value (digits_from s) s (R.Value m.value) → Judged 16 limit (digits_from s) s R.TooWide
+      past : Judged 16 m.value (digits_from s) s (Ok m.value) → Judged 16 limit (digits_from s) s (Err BadNumber.TooWide)
       past (Judged.fits l free e within) = Judged.wide l free (rw e m.over)
 
 module _ (limit : ℕ) (s : List ℕ) where
@@ -130,25 +131,24 @@ module _ (limit : ℕ) (s : List ℕ) where
   unfolding hex_of
   hex_means = judged_means limit (judged 16 limit (digits_from s) s)
 
-  pub means_all : (r : Reading) → Means limit s r → hex_of limit s ≡ r
+  pub means_all : (r : Result ℕ BadNumber) → Means limit s r → hex_of limit s ≡ r
   unfolding hex_of
   means_all r m = judged_all 16 limit (digits_from s) s (means_judged limit r m)
 
-  pub hex_exactly : (r : Reading) → (hex_of limit s ≡ r) ↔ Means limit s r
+  pub hex_exactly : (r : Result ℕ BadNumber) → (hex_of limit s ≡ r) ↔ Means limit s r
   hex_exactly r = (λ e. rw e at hex_means, means_all r)
 
   -- so exactly one of the four cases holds of every text
-  pub one_meaning : (a b : Reading) → Means limit s a → Means limit s b → a ≡ b
+  pub one_meaning : (a b : Result ℕ BadNumber) → Means limit s a → Means limit s b → a ≡ b
   one_meaning a b m n = sym (means_all a m) ∙ means_all b n
 
 -- the number alone, for those who do not ask why there is none
 module _ (limit : ℕ) {s : List ℕ} where
-  pub hex_all : {v : ℕ} → HexNumber limit s v → hex_number_of limit s ≡ N.Value v
-  unfolding read_value
-  hex_all {v} n = rw (means_all limit s (R.Value v) n)
+  pub hex_all : {v : ℕ} → HexNumber limit s v → hex_number_of limit s ≡ Some v
+  hex_all {v} n = rw (means_all limit s (Ok v) n)
 
-  pub hex_is : {v : ℕ} → hex_number_of limit s ≡ N.Value v → HexNumber limit s v
-  hex_is {v} e = (hex_exactly limit s (R.Value v)).0 (value_read (hex_of limit s) e)
+  pub hex_is : {v : ℕ} → hex_number_of limit s ≡ Some v → HexNumber limit s v
+  hex_is {v} e = (hex_exactly limit s (Ok v)).0 (value_read (hex_of limit s) e)
 
   pub one_hex : {v w : ℕ} → HexNumber limit s v → HexNumber limit s w → v ≡ w
   one_hex a b = let x = hex_all a in let y = hex_all b in cc

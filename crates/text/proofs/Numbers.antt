@@ -1,5 +1,8 @@
 -- Numbers of any base within any limit: digits only ever raise the value, so once the limit is passed only a bad digit can still be told; each
 -- answer is the relation's, for decimal and hex and every width at once. Assumes nothing.
+use Rattle.std.specs.Prelude.{Err, None, Ok, Option, Result, Some}
+use Rattle.text.specs.declared.number.BadNumber.{BadNumber}
+use Rattle.text.specs.declared.number.BadNumber.TheVariants as BadNumber
 use Prim.Native.Nat.{ℕ, zero, suc, ◌+◌, ◌-◌, ◌*◌, ◌/◌, ◌≤◌, ◌<◌}
 use mathlib.Core.Path.{◌≡◌, refl, sym, ◌∙◌}
 use mathlib.Core.Bool.{Bool, true, false, cond, ◌&&◌}
@@ -11,15 +14,10 @@ use lib.Dec.{ltb, leb}
 use lib.ListN.{length, get_or, drop, drop_of_length-le, length-drop}
 use lib.Seq.{drop-cons, get_or-drop}
 use borrow.Author.Tests.{lt-ltb, le-ltb, le-leb, lt-leb, ltb-true, ltb-false, leb-true, leb-false}
-use Rattle.text.specs.declared.place.Found.{Found}
-use Rattle.text.specs.declared.place.Found.TheVariants.{At, Nothing}
-use Rattle.text.specs.declared.number.Number.{Number}
-use Rattle.text.specs.declared.number.Number.TheVariants as N
-use Rattle.text.specs.declared.number.Reading.{Reading}
-use Rattle.text.specs.declared.number.Reading.TheVariants as R
 use Rattle.text.specs.Class.{between}
 use Rattle.text.specs.Place.{Free, First, first_place}
-use Rattle.text.specs.Number.{digit_of, value, Reads, all_digits, number_of, bad_at, bad_first, reason_of, value_within, reading_of, read_value}
+use Rattle.text.specs.Number.{digit_of, value, Reads, all_digits, number_of, bad_at, bad_first, reason_of, value_within, reading_of}
+use Rattle.std.specs.Result.{result_ok}
 use Rattle.text.proofs.Places.{first_is, first_all, first_none, first_free, place_hit, place_miss, place_end}
 use Rattle.text.proofs.Texts.{both_left, both_right}
 
@@ -64,15 +62,15 @@ module _ (base from : ℕ) (s : List ℕ) where
   clean_steps {i} c h e l = record { same = c.same ∙ place_miss (bad_at base s) h (is_good base s i e l) }
 
   -- a reason: no digit, the first bad one, or the width
-  pub reason_empty : length s ≤ from → R.Empty ≡ reason_of base from s
+  pub reason_empty : length s ≤ from → (Err BadNumber.Empty) ≡ reason_of base from s
   unfolding reason_of
   reason_empty h = rw (le-ltb from (length s) h)
 
-  pub reason_bad : {i d : ℕ} → from < length s → Clean i → i < length s → d ≡ digit_of (get_or s i 0) → base ≤ d → R.BadDigit i ≡ reason_of base from s
+  pub reason_bad : {i d : ℕ} → from < length s → Clean i → i < length s → d ≡ digit_of (get_or s i 0) → base ≤ d → Err (BadNumber.BadDigit i) ≡ reason_of base from s
   unfolding reason_of bad_first
   reason_bad {i} l c h e b = rw (lt-ltb from (length s) l, c.same, place_hit (bad_at base s) h (is_bad base s i e b))
 
-  pub reason_wide : {i : ℕ} → from < length s → Clean i → length s ≤ i → R.TooWide ≡ reason_of base from s
+  pub reason_wide : {i : ℕ} → from < length s → Clean i → length s ≤ i → (Err BadNumber.TooWide) ≡ reason_of base from s
   unfolding reason_of bad_first
   reason_wide {i} l c h = rw (lt-ltb from (length s) l, c.same, place_end (bad_at base s) h)
 
@@ -97,29 +95,29 @@ module _ (base limit from : ℕ) (s : List ℕ) where
         same_value = r.same_value ∙ rw (add-one, drop-cons s i 0 h, e);
       }
 
-  pub none_there : length s ≤ from → N.Unreadable ≡ read_value (reading_of base limit from s)
-  unfolding reading_of read_value
+  pub none_there : length s ≤ from → None ≡ result_ok (reading_of base limit from s)
+  unfolding reading_of
   none_there h = rw (le-ltb from (length s) h)
 
-  pub none_bad : {v i d : ℕ} → SoFar v i → i < length s → d ≡ digit_of (get_or s i 0) → base ≤ d → N.Unreadable ≡ read_value (reading_of base limit from s)
-  unfolding reading_of bad_first read_value
+  pub none_bad : {v i d : ℕ} → SoFar v i → i < length s → d ≡ digit_of (get_or s i 0) → base ≤ d → None ≡ result_ok (reading_of base limit from s)
+  unfolding reading_of bad_first
   none_bad {v} {i} r h e l = rw (lt-ltb from (length s) r.some, r.clean.same, place_hit (bad_at base s) h (is_bad base s i e l))
 
   -- a value past the limit stays past it
   pub none_wide : {v i d : ℕ} → 0 < base → SoFar v i → i < length s → d ≡ digit_of (get_or s i 0) → limit < v * base + d
-      → N.Unreadable ≡ read_value (reading_of base limit from s)
-  unfolding reading_of value_within value bad_first read_value
+      → None ≡ result_ok (reading_of base limit from s)
+  unfolding reading_of value_within value bad_first
   none_wide {v} {i} {d} b r h e f =
       let q : value base 0 (drop from s) ≡ value base (v * base + d) (drop (suc i) s) = r.same_value ∙ rw (drop-cons s i 0 h, e) in
       let g : limit < value base 0 (drop from s) = rw q (le_trans f (value_grows base b (v * base + d) (drop (suc i) s))) in
       rw (lt-ltb from (length s) r.some, lt-leb _ _ g) (either (first_place (bad_at base s) (length s) from))
     where
-      either : (f : Found) → N.Unreadable ≡ read_value (bad_first f R.TooWide)
-      either (At k) = refl
-      either Nothing = refl
+      either : (f : Option ℕ) → None ≡ result_ok (bad_first f (Err BadNumber.TooWide))
+      either (Some k) = refl
+      either None = refl
 
-  pub whole_value : {v i : ℕ} → SoFar v i → length s ≤ i → N.Value v ≡ read_value (reading_of base limit from s)
-  unfolding reading_of bad_first value_within value read_value
+  pub whole_value : {v i : ℕ} → SoFar v i → length s ≤ i → Some v ≡ result_ok (reading_of base limit from s)
+  unfolding reading_of bad_first value_within value
   whole_value {v} {i} r h =
       let e : value base 0 (drop from s) ≡ v = r.same_value ∙ rw (drop_of_length-le s h) in
       rw (lt-ltb from (length s) r.some, r.clean.same, place_end (bad_at base s) h, e, le-leb v limit r.fits)
@@ -128,32 +126,32 @@ module _ (base limit from : ℕ) (s : List ℕ) where
 
 module _ (base limit from : ℕ) (s : List ℕ) where
   -- each answer with what holds of the text where it is given
-  pub data Judged : Reading → Type 0 where
-    empty : length s ≤ from → Judged R.Empty
-    bad : {k : ℕ} → First (bad_at base s) from (length s) k → Judged (R.BadDigit k)
-    wide : from < length s → Free (bad_at base s) from (length s) → limit < value base 0 (drop from s) → Judged R.TooWide
-    fits : {v : ℕ} → from < length s → Free (bad_at base s) from (length s) → value base 0 (drop from s) ≡ v → v ≤ limit → Judged (R.Value v)
+  pub data Judged : Result ℕ BadNumber → Type 0 where
+    empty : length s ≤ from → Judged (Err BadNumber.Empty)
+    bad : {k : ℕ} → First (bad_at base s) from (length s) k → Judged (Err (BadNumber.BadDigit k))
+    wide : from < length s → Free (bad_at base s) from (length s) → limit < value base 0 (drop from s) → Judged (Err BadNumber.TooWide)
+    fits : {v : ℕ} → from < length s → Free (bad_at base s) from (length s) → value base 0 (drop from s) ≡ v → v ≤ limit → Judged (Ok v)
 
   pub judged : Judged (reading_of base limit from s)
   unfolding reading_of bad_first value_within
   judged = by-start (ltb from (length s)) refl
     where
       by-limit : from < length s → Free (bad_at base s) from (length s) → (b : Bool) → leb (value base 0 (drop from s)) limit ≡ b
-          → Judged (cond b (R.Value (value base 0 (drop from s))) R.TooWide)
+          → Judged (cond b (Ok (value base 0 (drop from s))) (Err BadNumber.TooWide))
       by-limit l free true t = fits l free refl (leb-true _ _ t)
       by-limit l free false t = wide l free (leb-false _ _ t)
 
-      by-found : from < length s → (f : Found) → first_place (bad_at base s) (length s) from ≡ f
+      by-found : from < length s → (f : Option ℕ) → first_place (bad_at base s) (length s) from ≡ f
           → Judged (bad_first f (value_within limit (value base 0 (drop from s))))
-      by-found l (At k) e = bad (first_is (bad_at base s) e)
-      by-found l Nothing e = by-limit l (first_free (bad_at base s) e (omega arith)) (leb (value base 0 (drop from s)) limit) refl
+      by-found l (Some k) e = bad (first_is (bad_at base s) e)
+      by-found l None e = by-limit l (first_free (bad_at base s) e (omega arith)) (leb (value base 0 (drop from s)) limit) refl
 
       by-start : (b : Bool) → ltb from (length s) ≡ b
-          → Judged (cond b (bad_first (first_place (bad_at base s) (length s) from) (value_within limit (value base 0 (drop from s)))) R.Empty)
+          → Judged (cond b (bad_first (first_place (bad_at base s) (length s) from) (value_within limit (value base 0 (drop from s)))) (Err BadNumber.Empty))
       by-start true t = by-found (ltb-true _ _ t) (first_place (bad_at base s) (length s) from) refl
       by-start false t = empty (ltb-false _ _ t)
 
-  pub judged_all : {r : Reading} → Judged r → reading_of base limit from s ≡ r
+  pub judged_all : {r : Result ℕ BadNumber} → Judged r → reading_of base limit from s ≡ r
   unfolding reading_of bad_first value_within
   judged_all (empty h) = rw (le-ltb from (length s) h)
   judged_all (bad f) = rw (lt-ltb from (length s) (omega (arith, f.from, f.within)), first_all (bad_at base s) f)
@@ -161,7 +159,7 @@ module _ (base limit from : ℕ) (s : List ℕ) where
   judged_all (fits {v} l free e within) = rw (lt-ltb from (length s) l, first_none (bad_at base s) free, e, le-leb v limit within)
 
   -- the number is what the digits from the place on read as
-  pub judged_reads : {v : ℕ} → Judged (R.Value v) → Reads base limit (drop from s) v
+  pub judged_reads : {v : ℕ} → Judged (Ok v) → Reads base limit (drop from s) v
   judged_reads (fits l free e within) =
       record {
         some = omega (arith, length-drop from s);
@@ -170,7 +168,7 @@ module _ (base limit from : ℕ) (s : List ℕ) where
         within = within;
       }
 
-  pub reads_judged : {v : ℕ} → Reads base limit (drop from s) v → Judged (R.Value v)
+  pub reads_judged : {v : ℕ} → Reads base limit (drop from s) v → Judged (Ok v)
   reads_judged {v} r =
       fits (omega (arith, length-drop from s, r.some)) free r.is r.within
     where
@@ -195,17 +193,17 @@ module _ (base limit : ℕ) (s : List ℕ) where
   digits_all (b ∷ l) f =
       rw (lt-ltb (digit_of b) base (f 0 (omega arith))) (digits_all l (λ k h. f (suc k) (omega arith)))
 
-  pub number_all : {v : ℕ} → Reads base limit s v → number_of base limit s ≡ N.Value v
+  pub number_all : {v : ℕ} → Reads base limit s v → number_of base limit s ≡ Some v
   unfolding number_of
   number_all {v} r = rw (lt-ltb 0 (length s) r.some, digits_all s r.digits, r.is, le-leb v limit r.within)
 
-  pub number_is : {v : ℕ} → number_of base limit s ≡ N.Value v → Reads base limit s v
+  pub number_is : {v : ℕ} → number_of base limit s ≡ Some v → Reads base limit s v
   unfolding number_of
   number_is {v} e = go (ltb 0 (length s) && all_digits base s && leb (value base 0 s) limit) refl
     where
       go : (b : Bool) → (ltb 0 (length s) && all_digits base s && leb (value base 0 s) limit) ≡ b → Reads base limit s v
       go true t =
-          let same : N.Value (value base 0 s) ≡ N.Value v = rw t at e in
+          let same : Some (value base 0 s) ≡ Some v = rw t at e in
           let is : value base 0 s ≡ v = cc in
           let front : (ltb 0 (length s) && all_digits base s) ≡ true = both_left _ _ t in
           let fits : value base 0 s ≤ limit = leb-true _ _ (both_right (ltb 0 (length s) && all_digits base s) _ t) in
@@ -216,45 +214,43 @@ module _ (base limit : ℕ) (s : List ℕ) where
             within = omega arith;
           }
       go false t =
-          let same : N.Unreadable ≡ N.Value v = rw t at e in
+          let same : None ≡ Some v = rw t at e in
           absurd (let z : ◌≡◌ {A = ℕ} 0 1 = cc in omega arith)
 
   pub one_number : {v w : ℕ} → Reads base limit s v → Reads base limit s w → v ≡ w
   one_number a b = sym a.is ∙ b.is
 
 -- a number is the reading from the start, its reasons left out
-pub number_read : (base limit : ℕ) (s : List ℕ) → number_of base limit s ≡ read_value (reading_of base limit 0 s)
-unfolding read_value
+pub number_read : (base limit : ℕ) (s : List ℕ) → number_of base limit s ≡ result_ok (reading_of base limit 0 s)
 number_read base limit s = go (reading_of base limit 0 s) (judged base limit 0 s)
   where
-    none : ((v : ℕ) → Reads base limit s v → ⊥) → (n : Number) → number_of base limit s ≡ n → n ≡ N.Unreadable
-    none f (N.Value v) e = absurd (f v (number_is base limit s e))
-    none f N.Unreadable e = refl
+    none : ((v : ℕ) → Reads base limit s v → ⊥) → (n : Option ℕ) → number_of base limit s ≡ n → n ≡ None
+    none f (Some v) e = absurd (f v (number_is base limit s e))
+    none f None e = refl
 
-    other : {r : Reading} → Judged base limit 0 s r → ((v : ℕ) → r ≡ R.Value v → ⊥) → number_of base limit s ≡ N.Unreadable
+    other : {r : Result ℕ BadNumber} → Judged base limit 0 s r → ((v : ℕ) → r ≡ Ok v → ⊥) → number_of base limit s ≡ None
     other j f = none (λ v reads. f v (sym (judged_all base limit 0 s j) ∙ judged_all base limit 0 s (reads_judged base limit 0 s reads))) (number_of base limit s) refl
 
-    go : (r : Reading) → Judged base limit 0 s r → number_of base limit s ≡ read_value r
-    go (R.Value v) j = number_all base limit s (judged_reads base limit 0 s j)
-    go R.Empty j = other j (λ v e. let z : ◌≡◌ {A = ℕ} 0 1 = cc in omega arith)
-    go (R.BadDigit k) j = other j (λ v e. let z : ◌≡◌ {A = ℕ} 0 1 = cc in omega arith)
-    go R.TooWide j = other j (λ v e. let z : ◌≡◌ {A = ℕ} 0 1 = cc in omega arith)
+    go : (r : Result ℕ BadNumber) → Judged base limit 0 s r → number_of base limit s ≡ result_ok r
+    go (Ok v) j = number_all base limit s (judged_reads base limit 0 s j)
+    go (Err BadNumber.Empty) j = other j (λ v e. let z : ◌≡◌ {A = ℕ} 0 1 = cc in omega arith)
+    go (Err (BadNumber.BadDigit k)) j = other j (λ v e. let z : ◌≡◌ {A = ℕ} 0 1 = cc in omega arith)
+    go (Err BadNumber.TooWide) j = other j (λ v e. let z : ◌≡◌ {A = ℕ} 0 1 = cc in omega arith)
 
 -- ---- a number, or why there is none
 
-pub value_read : (r : Reading) {v : ℕ} → read_value r ≡ N.Value v → r ≡ R.Value v
-unfolding read_value
-value_read (R.Value w) e = cc
-value_read R.Empty e = absurd (let z : ◌≡◌ {A = ℕ} 0 1 = cc in omega arith)
-value_read (R.BadDigit k) e = absurd (let z : ◌≡◌ {A = ℕ} 0 1 = cc in omega arith)
-value_read R.TooWide e = absurd (let z : ◌≡◌ {A = ℕ} 0 1 = cc in omega arith)
+pub value_read : (r : Result ℕ BadNumber) {v : ℕ} → result_ok r ≡ Some v → r ≡ Ok v
+value_read (Ok w) e = cc
+value_read (Err BadNumber.Empty) e = absurd (let z : ◌≡◌ {A = ℕ} 0 1 = cc in omega arith)
+value_read (Err (BadNumber.BadDigit k)) e = absurd (let z : ◌≡◌ {A = ℕ} 0 1 = cc in omega arith)
+value_read (Err BadNumber.TooWide) e = absurd (let z : ◌≡◌ {A = ℕ} 0 1 = cc in omega arith)
 
 -- where there is no number the reading is the reason
-pub reason_read : (base limit from : ℕ) (s : List ℕ) → read_value (reading_of base limit from s) ≡ N.Unreadable → reason_of base from s ≡ reading_of base limit from s
-unfolding read_value reason_of bad_first
+pub reason_read : (base limit from : ℕ) (s : List ℕ) → result_ok (reading_of base limit from s) ≡ None → reason_of base from s ≡ reading_of base limit from s
+unfolding reason_of bad_first
 reason_read base limit from s q = go (reading_of base limit from s) (judged base limit from s) q
   where
-    go : (r : Reading) → Judged base limit from s r → read_value r ≡ N.Unreadable → reason_of base from s ≡ r
+    go : (r : Result ℕ BadNumber) → Judged base limit from s r → result_ok r ≡ None → reason_of base from s ≡ r
     go r (Judged.empty h) q = rw (le-ltb from (length s) h)
     go r (Judged.bad f) q = rw (lt-ltb from (length s) (omega (arith, f.from, f.within)), first_all (bad_at base s) f)
     go r (Judged.wide l free over) q = rw (lt-ltb from (length s) l, first_none (bad_at base s) free)

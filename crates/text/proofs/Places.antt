@@ -1,5 +1,6 @@
 -- The first and the last place: the operators walk place by place, so each law is an induction over the places that are left, and what
 -- they answer is what the relations say, and nothing else is. Assumes nothing.
+use Rattle.std.specs.Prelude.{None, Option, Some}
 use Prim.Native.Nat.{ℕ, zero, suc, ◌+◌, ◌-◌, ◌≤◌, ◌<◌}
 use mathlib.Core.Path.{◌≡◌, refl, sym, ap, ◌∙◌}
 use mathlib.Core.Bool.{Bool, true, false, cond, true≢false}
@@ -9,8 +10,6 @@ use mathlib.Core.List.{List}
 use lib.Dec.{ltb}
 use lib.ListN.{length, get_or, get_or-eq_default}
 use borrow.Author.Tests.{lt-ltb, le-ltb, ltb-true, ltb-false}
-use Rattle.text.specs.declared.place.Found.{Found}
-use Rattle.text.specs.declared.place.Found.TheVariants.{At, Nothing}
 use Rattle.text.specs.Place.{byte_before, Free, First, Last, first_of, first_in, found_below, first_place, last_place}
 
 -- a test that is both true and false is absurd
@@ -96,11 +95,11 @@ module _ (p : ℕ → Bool) where
   first_is_stop r = one_stop (first_stops (omega (arith, r.from, r.within))) r
 
   -- the same three ways, of the place that is found
-  pub place_end : {i n : ℕ} → n ≤ i → first_place p n i ≡ Nothing
+  pub place_end : {i n : ℕ} → n ≤ i → first_place p n i ≡ None
   unfolding first_place found_below
   place_end {i} {n} h = rw (first_end h, le-ltb i n h)
 
-  pub place_hit : {i n : ℕ} → i < n → p i ≡ true → first_place p n i ≡ At i
+  pub place_hit : {i n : ℕ} → i < n → p i ≡ true → first_place p n i ≡ Some i
   unfolding first_place found_below
   place_hit {i} {n} h t = rw (first_hit h t, lt-ltb i n h)
 
@@ -109,20 +108,20 @@ module _ (p : ℕ → Bool) where
   place_miss {i} {n} h t = ap (found_below n) (first_miss h t)
 
   -- a first place, found exactly where it stands
-  pub first_all : {i n j : ℕ} → First p i n j → first_place p n i ≡ At j
+  pub first_all : {i n j : ℕ} → First p i n j → first_place p n i ≡ Some j
   unfolding first_place found_below
   first_all {i} {n} {j} r =
       let e : first_in p n i ≡ j =
       first_is_stop (record { from = r.from; within = omega (arith, r.within); before = r.before; here = λ h. r.here }) in
       rw (e, lt-ltb j n r.within)
 
-  pub first_is : {i n j : ℕ} → first_place p n i ≡ At j → First p i n j
+  pub first_is : {i n j : ℕ} → first_place p n i ≡ Some j → First p i n j
   unfolding first_place found_below
   first_is {i} {n} {j} e = go (ltb (first_in p n i) n) refl
     where
       go : (b : Bool) → ltb (first_in p n i) n ≡ b → First p i n j
       go true t =
-          let same : At (first_in p n i) ≡ At j = rw t at e in
+          let same : Some (first_in p n i) ≡ Some j = rw t at e in
           let j-is : first_in p n i ≡ j = cc in
           let below : first_in p n i < n = ltb-true _ _ t in
           let up : i ≤ n = upper below in
@@ -134,10 +133,10 @@ module _ (p : ℕ → Bool) where
               by_order i n (λ l. omega arith) (λ q. omega arith)
               (λ l. let z : n ≤ i = omega arith in absurd (omega (arith, first_end z)))
       go false t =
-          let z : Nothing ≡ At j = rw t at e in
+          let z : None ≡ Some j = rw t at e in
           absurd (let y : ◌≡◌ {A = ℕ} 0 1 = cc in omega arith)
 
-  pub first_none : {i n : ℕ} → Free p i n → first_place p n i ≡ Nothing
+  pub first_none : {i n : ℕ} → Free p i n → first_place p n i ≡ None
   unfolding first_place found_below
   first_none {i} {n} f = rw (le-ltb (first_in p n i) n past)
     where
@@ -149,13 +148,13 @@ module _ (p : ℕ → Bool) where
           by_order i n (λ l. omega (arith, stop (omega arith))) (λ q. omega (arith, stop (omega arith)))
           (λ l. let z : n ≤ i = omega arith in omega (arith, first_end z))
 
-  pub first_free : {i n : ℕ} → first_place p n i ≡ Nothing → i ≤ n → Free p i n
+  pub first_free : {i n : ℕ} → first_place p n i ≡ None → i ≤ n → Free p i n
   unfolding first_place found_below
   first_free {i} {n} e h = go (ltb (first_in p n i) n) refl
     where
       go : (b : Bool) → ltb (first_in p n i) n ≡ b → Free p i n
       go true t =
-          let z : At (first_in p n i) ≡ Nothing = rw t at e in
+          let z : Some (first_in p n i) ≡ None = rw t at e in
           absurd (let y : ◌≡◌ {A = ℕ} 0 1 = cc in omega arith)
       go false t =
           let r : Stops p i n (first_in p n i) = first_stops h in
@@ -166,11 +165,11 @@ module _ (p : ℕ → Bool) where
   one_first a b = let x = first_all a in let y = first_all b in cc
 
   -- a last place: the walk goes down
-  pub last_zero : last_place p 0 ≡ Nothing
+  pub last_zero : last_place p 0 ≡ None
   unfolding last_place
   last_zero = refl
 
-  pub last_hit : (k : ℕ) → p k ≡ true → last_place p (suc k) ≡ At k
+  pub last_hit : (k : ℕ) → p k ≡ true → last_place p (suc k) ≡ Some k
   unfolding last_place
   last_hit k t = rw t
 
@@ -179,7 +178,7 @@ module _ (p : ℕ → Bool) where
   last_miss k t = rw t
 
   -- the same two steps as a loop that counts down meets them
-  pub last_hit_below : (i : ℕ) → 0 < i → p (i - 1) ≡ true → last_place p i ≡ At (i - 1)
+  pub last_hit_below : (i : ℕ) → 0 < i → p (i - 1) ≡ true → last_place p i ≡ Some (i - 1)
   last_hit_below zero h t = absurd (omega arith)
   last_hit_below (suc k) h t = let e : suc k - 1 ≡ k = omega arith in rw e (last_hit k (rw e at t))
 
@@ -187,28 +186,28 @@ module _ (p : ℕ → Bool) where
   last_miss_below zero h t = absurd (omega arith)
   last_miss_below (suc k) h t = let e : suc k - 1 ≡ k = omega arith in rw e (last_miss k (rw e at t))
 
-  pub last_all : (n : ℕ) {j : ℕ} → Last p n j → last_place p n ≡ At j
+  pub last_all : (n : ℕ) {j : ℕ} → Last p n j → last_place p n ≡ Some j
   last_all zero {j} r = absurd (omega (arith, r.within))
   last_all (suc n) {j} r =
       by_order j n
       (λ h. last_miss n (r.after n h (omega arith)) ∙ last_all n (record { within = h; here = r.here; after = λ k a b. r.after k a (omega arith) }))
-      (λ e. last_hit n (rw (← e) r.here) ∙ ap At (sym e))
+      (λ e. last_hit n (rw (← e) r.here) ∙ ap Some (sym e))
       (λ h. absurd (omega (arith, r.within)))
 
-  pub last_none : (n : ℕ) → Free p 0 n → last_place p n ≡ Nothing
+  pub last_none : (n : ℕ) → Free p 0 n → last_place p n ≡ None
   last_none zero f = last_zero
   last_none (suc n) f = last_miss n (f n (omega arith) (omega arith)) ∙ last_none n (λ k a b. f k a (omega arith))
 
   -- whatever the operator answers, it is so
-  data Judged (n : ℕ) : Found → Type 0 where
-    there : (j : ℕ) → Last p n j → Judged n (At j)
-    nowhere : Free p 0 n → Judged n Nothing
+  data Judged (n : ℕ) : Option ℕ → Type 0 where
+    there : (j : ℕ) → Last p n j → Judged n (Some j)
+    nowhere : Free p 0 n → Judged n None
 
   judged : (n : ℕ) → Judged n (last_place p n)
   judged zero = rw last_zero (nowhere (λ k a b. absurd (omega arith)))
   judged (suc n) = go (p n) refl (last_place p n) (judged n) refl
     where
-      go : (b : Bool) → p n ≡ b → (f : Found) → Judged n f → last_place p n ≡ f → Judged (suc n) (last_place p (suc n))
+      go : (b : Bool) → p n ≡ b → (f : Option ℕ) → Judged n f → last_place p n ≡ f → Judged (suc n) (last_place p (suc n))
       go true t f j e =
           rw (last_hit n t) (there n (record { within = omega arith; here = t; after = λ k a b. absurd (omega arith) }))
       go false t f (there j r) e =
@@ -222,17 +221,17 @@ module _ (p : ℕ → Bool) where
           rw (last_miss n t, e)
           (nowhere (λ k a b. by_order k n (λ h. g k a h) (λ q. rw q t) (λ h. absurd (omega arith))))
 
-  pub last_is : {n j : ℕ} → last_place p n ≡ At j → Last p n j
+  pub last_is : {n j : ℕ} → last_place p n ≡ Some j → Last p n j
   last_is {n} {j} e = go (last_place p n) (judged n) e
     where
-      go : (f : Found) → Judged n f → f ≡ At j → Last p n j
+      go : (f : Option ℕ) → Judged n f → f ≡ Some j → Last p n j
       go f (there k r) q = let s : k ≡ j = cc in rw (← s) r
       go f (nowhere g) q = absurd (let y : ◌≡◌ {A = ℕ} 0 1 = cc in omega arith)
 
-  pub last_free : {n : ℕ} → last_place p n ≡ Nothing → Free p 0 n
+  pub last_free : {n : ℕ} → last_place p n ≡ None → Free p 0 n
   last_free {n} e = go (last_place p n) (judged n) e
     where
-      go : (f : Found) → Judged n f → f ≡ Nothing → Free p 0 n
+      go : (f : Option ℕ) → Judged n f → f ≡ None → Free p 0 n
       go f (there k r) q = absurd (let y : ◌≡◌ {A = ℕ} 0 1 = cc in omega arith)
       go f (nowhere g) q = g
 

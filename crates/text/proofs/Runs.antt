@@ -1,5 +1,6 @@
 -- Longest runs: a run ends at the first place that does not pass, and one that ends the text starts behind the last such place, so every
 -- law of runs is one of places. Assumes nothing.
+use Rattle.std.specs.Prelude.{None, Option, Some}
 use Prim.Native.Nat.{ℕ, zero, suc, ◌+◌, ◌-◌, ◌≤◌, ◌<◌}
 use mathlib.Core.Path.{◌≡◌, refl, sym, ap, ◌∙◌}
 use mathlib.Core.Bool.{Bool, true, false, not}
@@ -8,8 +9,6 @@ use native.Mathlib.Omega.{arith}
 use lib.Dec.{ltb}
 use lib.ListN.{length, get_or}
 use borrow.Author.Tests.{lt-ltb, le-ltb, ltb-true, not-true, not-false}
-use Rattle.text.specs.declared.place.Found.{Found}
-use Rattle.text.specs.declared.place.Found.TheVariants.{At, Nothing}
 use Rattle.text.specs.Class.{is_word, no_word, other_than}
 use Rattle.text.specs.Place.{Free, is_at, first_of, first_in, found_below, first_place, first_byte, last_place, last_byte}
 use Rattle.text.specs.Run.{Run, RunBack, EndsAt, StartsAt, fails_at, run_end, behind, run_start}
@@ -101,16 +100,16 @@ module _ (p : ℕ → Bool) (s : List ℕ) where
   back_over {i} r h = r.same ∙ ap (λ (k : ℕ). behind (last_place (fails_at p s) k)) h ∙ ap behind (last_zero (fails_at p s))
 
   -- the run that ends the text, as the relation says it
-  back_of : (f : Found) → last_place (fails_at p s) (length s) ≡ f → RunBack p s (behind f)
+  back_of : (f : Option ℕ) → last_place (fails_at p s) (length s) ≡ f → RunBack p s (behind f)
   unfolding behind
-  back_of (At j) e =
+  back_of (Some j) e =
       let r = last_is (fails_at p s) e in
       record {
         within = r.within;
         inside = λ k a b. not-false _ (r.after k a b);
         stops = λ k q. let z : j ≡ k = omega arith in rw (← z) (not-true _ r.here);
       }
-  back_of Nothing e =
+  back_of None e =
       record {
         within = omega arith;
         inside = λ k a b. not-false _ (last_free (fails_at p s) e k a b);
@@ -167,29 +166,29 @@ module _ (b : ℕ) (s : List ℕ) where
   behind_byte = ap behind (last_same other_fails_at (length s))
 
   -- so the run tells where the byte stands
-  pub first_there : {i k : ℕ} → EndsAt (other_than b) s i k → k < length s → At k ≡ first_byte b s i
+  pub first_there : {i k : ℕ} → EndsAt (other_than b) s i k → k < length s → Some k ≡ first_byte b s i
   unfolding first_byte first_place found_below
   first_there {i} {k} r h = rw (← until_first i, ← r.is, lt-ltb k (length s) h)
 
-  pub first_nowhere : {i k : ℕ} → EndsAt (other_than b) s i k → length s ≤ k → Nothing ≡ first_byte b s i
+  pub first_nowhere : {i k : ℕ} → EndsAt (other_than b) s i k → length s ≤ k → None ≡ first_byte b s i
   unfolding first_byte first_place found_below
   first_nowhere {i} {k} r h = rw (← until_first i, ← r.is, le-ltb k (length s) h)
 
-  pub last_there : {k : ℕ} → StartsAt (other_than b) s k → 0 < k → At (k - 1) ≡ last_byte b s
+  pub last_there : {k : ℕ} → StartsAt (other_than b) s k → 0 < k → Some (k - 1) ≡ last_byte b s
   unfolding last_byte behind
   last_there {k} r h = go (last_place (is_at b s) (length s)) (r.is ∙ behind_byte)
     where
-      go : (f : Found) → k ≡ behind f → At (k - 1) ≡ f
-      go (At j) q = ap At (omega arith)
-      go Nothing q = absurd (omega arith)
+      go : (f : Option ℕ) → k ≡ behind f → Some (k - 1) ≡ f
+      go (Some j) q = ap Some (omega arith)
+      go None q = absurd (omega arith)
 
-  pub last_nowhere : {k : ℕ} → StartsAt (other_than b) s k → k ≡ 0 → Nothing ≡ last_byte b s
+  pub last_nowhere : {k : ℕ} → StartsAt (other_than b) s k → k ≡ 0 → None ≡ last_byte b s
   unfolding last_byte behind
   last_nowhere {k} r h = go (last_place (is_at b s) (length s)) (r.is ∙ behind_byte)
     where
-      go : (f : Found) → k ≡ behind f → Nothing ≡ f
-      go (At j) q = absurd (omega arith)
-      go Nothing q = refl
+      go : (f : Option ℕ) → k ≡ behind f → None ≡ f
+      go (Some j) q = absurd (omega arith)
+      go None q = refl
 
   -- by blocks of d bytes: the run ends where the first block that has the byte says, or the last block of all
   pub until_block : (d : ℕ) {from i e : ℕ} → from ≤ i → i + d ≤ length s → Free (is_at b s) from i → ltb (first_of (is_at b s) d i) (i + d) ≡ true →

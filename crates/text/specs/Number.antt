@@ -1,15 +1,11 @@
 -- Decimal and hex numbers, for any base up to 16 and any limit: what is meant, why a text is no hex number, and the one answer.
-use Rattle.std.specs.Prelude.{ℕ, ◌+◌, ◌*◌, ◌-◌, ◌≤◌, ◌<◌, ◌≡◌, Bool, true, cond, ◌&&◌, List, [], ◌∷◌, ltb, leb, length, get_or, take, drop}
-use Rattle.std.proofs.Math.Option.{Option, some, none}
+use Rattle.text.specs.declared.number.BadNumber.{BadNumber}
+use Rattle.text.specs.declared.number.BadNumber.TheVariants as BadNumber
+use Rattle.std.specs.Prelude.{ℕ, ◌+◌, ◌*◌, ◌-◌, ◌≤◌, ◌<◌, ◌≡◌, Bool, true, cond, ◌&&◌, List, [], ◌∷◌, ltb, leb, length, get_or, take, drop, Err, None, Ok, Option, Result, Some}
+use Rattle.std.specs.Result.{result_ok}
 use Rattle.text.specs.Class.{between, is_digit}
 use Rattle.text.specs.Place.{First, first_place, is_at}
 use Rattle.text.specs.Run.{run_end}
-use Rattle.text.specs.declared.place.Found.{Found}
-use Rattle.text.specs.declared.place.Found.TheVariants.{At, Nothing}
-use Rattle.text.specs.declared.number.Number.{Number}
-use Rattle.text.specs.declared.number.Number.TheVariants as N
-use Rattle.text.specs.declared.number.Reading.{Reading}
-use Rattle.text.specs.declared.number.Reading.TheVariants as R
 
 -- the value of a digit of either case, 16 for a byte that is none
 unfoldable pub digit_of : ℕ → ℕ
@@ -65,11 +61,11 @@ pub record WideHex (limit : ℕ) (s : List ℕ) : Type 0 where
   pub over : limit < value
 
 -- what each case of the hex reader's answer means of the text
-abbrev pub Means : ℕ → List ℕ → Reading → Type 0
-Means limit s (R.Value v) = HexNumber limit s v
-Means limit s R.Empty = EmptyHex s
-Means limit s (R.BadDigit place) = BadHex s place
-Means limit s R.TooWide = WideHex limit s
+abbrev pub Means : ℕ → List ℕ → Result ℕ BadNumber → Type 0
+Means limit s (Ok v) = HexNumber limit s v
+Means limit s (Err BadNumber.Empty) = EmptyHex s
+Means limit s (Err (BadNumber.BadDigit place)) = BadHex s place
+Means limit s (Err BadNumber.TooWide) = WideHex limit s
 
 -- ---- the one answer
 
@@ -79,56 +75,45 @@ all_digits base [] = true
 all_digits base (b ∷ s) = ltb (digit_of b) base && all_digits base s
 
 -- the number that s is
-unfoldable pub number_of : ℕ → ℕ → List ℕ → Number
+unfoldable pub number_of : ℕ → ℕ → List ℕ → Option ℕ
 number_of base limit s =
     cond (ltb 0 (length s) && all_digits base s && leb (value base 0 s) limit)
-    (N.Value (value base 0 s))
-    N.Unreadable
+    (Some (value base 0 s))
+    None
 
 -- the number that the whole digit run of s from a place on is
-abbrev pub leading_of : ℕ → List ℕ → ℕ → Number
+abbrev pub leading_of : ℕ → List ℕ → ℕ → Option ℕ
 leading_of limit s from = number_of 10 limit (take (run_end is_digit s from - from) (drop from s))
 
 -- a bad digit that was found goes before whatever else is told
-unfoldable pub bad_first : Found → Reading → Reading
-bad_first (At k) told = R.BadDigit k
-bad_first Nothing told = told
+unfoldable pub bad_first : Option ℕ → Result ℕ BadNumber → Result ℕ BadNumber
+bad_first (Some k) told = Err (BadNumber.BadDigit k)
+bad_first None told = told
 
 -- why digits from a place on are no number: there are none, or the first bad one, else their width
-unfoldable pub reason_of : ℕ → ℕ → List ℕ → Reading
-reason_of base from s = cond (ltb from (length s)) (bad_first (first_place (bad_at base s) (length s) from) R.TooWide) R.Empty
+unfoldable pub reason_of : ℕ → ℕ → List ℕ → Result ℕ BadNumber
+reason_of base from s = cond (ltb from (length s)) (bad_first (first_place (bad_at base s) (length s) from) (Err BadNumber.TooWide)) (Err BadNumber.Empty)
 
 -- a value within the limit, or one past it
-unfoldable pub value_within : ℕ → ℕ → Reading
-value_within limit v = cond (leb v limit) (R.Value v) R.TooWide
+unfoldable pub value_within : ℕ → ℕ → Result ℕ BadNumber
+value_within limit v = cond (leb v limit) (Ok v) (Err BadNumber.TooWide)
 
 -- what the digits of s from a place on come to
-unfoldable pub reading_of : ℕ → ℕ → ℕ → List ℕ → Reading
+unfoldable pub reading_of : ℕ → ℕ → ℕ → List ℕ → Result ℕ BadNumber
 reading_of base limit from s =
     cond (ltb from (length s))
     (bad_first (first_place (bad_at base s) (length s) from) (value_within limit (value base 0 (drop from s))))
-    R.Empty
+    (Err BadNumber.Empty)
 
 -- where the digits of a hex text start
 unfoldable pub digits_from : List ℕ → ℕ
 digits_from s = cond (is_at 48 s 0 && is_at 120 s 1) 2 0
 
 -- what a hex text is: a number, or why it is none
-unfoldable pub hex_of : ℕ → List ℕ → Reading
+unfoldable pub hex_of : ℕ → List ℕ → Result ℕ BadNumber
 hex_of limit s = reading_of 16 limit (digits_from s) s
 
--- the number alone
-unfoldable pub read_value : Reading → Number
-read_value (R.Value v) = N.Value v
-read_value R.Empty = N.Unreadable
-read_value (R.BadDigit k) = N.Unreadable
-read_value R.TooWide = N.Unreadable
-
 -- the hex number that s is
-abbrev pub hex_number_of : ℕ → List ℕ → Number
-hex_number_of limit s = read_value (hex_of limit s)
+abbrev pub hex_number_of : ℕ → List ℕ → Option ℕ
+hex_number_of limit s = result_ok (hex_of limit s)
 
--- a number that may be unreadable, as a value
-unfoldable pub number_value : Number → Option ℕ
-number_value (N.Value v) = some v
-number_value N.Unreadable = none

@@ -1,7 +1,5 @@
 -- Longest runs and stripping: what is meant, and the one answer.
-use Rattle.std.specs.Prelude.{ℕ, suc, max, ◌≤◌, ◌<◌, ◌≡◌, Bool, true, false, not, List, ◌++◌, length, get_or, take, drop}
-use Rattle.text.specs.declared.place.Found.{Found}
-use Rattle.text.specs.declared.place.Found.TheVariants.{At, Nothing}
+use Rattle.std.specs.Prelude.{ℕ, suc, max, ◌≤◌, ◌<◌, ◌≡◌, Bool, true, false, not, List, ◌++◌, length, get_or, take, drop, None, Option, Some}
 use Rattle.text.specs.Class.{is_blank}
 use Rattle.text.specs.Place.{first_in, last_place}
 
@@ -41,9 +39,9 @@ unfoldable pub run_end : (ℕ → Bool) → List ℕ → ℕ → ℕ
 run_end p s i = first_in (fails_at p s) (length s) i
 
 -- the place behind what was found
-unfoldable pub behind : Found → ℕ
-behind (At k) = suc k
-behind Nothing = 0
+unfoldable pub behind : Option ℕ → ℕ
+behind (Some k) = suc k
+behind None = 0
 
 -- where the longest run that ends s starts: behind the last place that does not pass
 unfoldable pub run_start : (ℕ → Bool) → List ℕ → ℕ

@@ -1,8 +1,8 @@
 // Decimal and hex numbers within a width: one reader over base and limit, with a loop for up to sixteen digits and one for more. `leading` reads a digit
 // run while its end is sought: right because digits that no digit follows are the whole run, and sixteen of them stay within 64 bits.
 ghost use Rattle.std.specs.Prelude.{◌≡◌, cond, ◌≤◌, ◌<◌, ◌+◌, leb, length};
-ghost use Rattle.text.specs.declared.number.Number.TheVariants as N;
-ghost use Rattle.text.specs.Number.{digit_of, number_of, leading_of, reading_of, reason_of, digits_from, hex_of, read_value};
+ghost use Rattle.text.specs.Number.{digit_of, number_of, leading_of, reading_of, reason_of, digits_from, hex_of};
+ghost use Rattle.std.specs.Result.{result_ok};
 
 use crate::class::{Class, is_digit, lies_between};
 use crate::place::byte_at;
@@ -25,23 +25,16 @@ const TEN: u64 = 10;
 // So many digits of any base up to 16 stay within 64 bits.
 pub const SHORT: usize = 16;
 
-#[derive(Clone, Copy)]
-pub enum Number {
-    Value(u64),
-    Unreadable,
-}
-
-// A number, or why there is none: no digit stands there; at this place stands a byte that is no digit; or the value is past the limit.
-#[derive(Clone, Copy)]
-pub enum Reading {
-    Value(u64),
+// Why a hex text is no number: no digit stands there; at this place stands a byte that is no digit; or the value is past the limit.
+#[derive(Clone, Copy, Debug, PartialEq, Eq, Hash)]
+pub enum BadNumber {
     Empty,
     BadDigit(usize),
     TooWide,
 }
 
 // Digits only, one or more, of value at most the limit.
-pub fn decimal(s: &[u8], limit: u64) -> Number
+pub fn decimal(s: &[u8], limit: u64) -> Option<u64>
     ensures { result ≡ number_of 10 limit s.now }
 {
     read(s, 0, TEN, limit)
@@ -49,7 +42,7 @@ pub fn decimal(s: &[u8], limit: u64) -> Number
 
 // The whole digit run from a place on, read as decimal. One of more than sixteen digits is read again from its start. Asked for: a place in the text,
 // which `parse_pid` has of the dash that it found.
-pub fn leading(s: &[u8], from: usize, limit: u64) -> Number
+pub fn leading(s: &[u8], from: usize, limit: u64) -> Option<u64>
     requires { from ≤ length s.now }
     ensures { result ≡ leading_of limit s.now from }
 {
@@ -68,31 +61,19 @@ pub fn leading(s: &[u8], from: usize, limit: u64) -> Number
         i += 1;
     }
     if i == from {
-        return Number::Unreadable;
+        return None;
     }
     within(v, limit)
 }
 
 // `0x` at most once, then one or more digits of either case, of value at most the limit. A bad digit's place counts the `0x`.
-pub fn hex(s: &[u8], limit: u64) -> Reading
+pub fn hex(s: &[u8], limit: u64) -> Result<u64, BadNumber>
     ensures { result ≡ hex_of limit s.now }
 {
     let from = digits_from(s);
     match read(s, from, 16, limit) {
-        Number::Value(v) => Reading::Value(v),
-        Number::Unreadable => reason(s, from, 16),
-    }
-}
-
-// The number alone, for those who do not ask why there is none.
-pub fn value_of(reading: Reading) -> Number
-    ensures { result ≡ read_value reading }
-{
-    match reading {
-        Reading::Value(v) => Number::Value(v),
-        Reading::Empty => Number::Unreadable,
-        Reading::BadDigit(_) => Number::Unreadable,
-        Reading::TooWide => Number::Unreadable,
+        Some(v) => Ok(v),
+        None => reason(s, from, 16),
     }
 }
 
@@ -111,12 +92,12 @@ pub fn digits_from(s: &[u8]) -> usize
 }
 
 // The digits from a place on: as many as always stay within 64 bits are read with no look at the limit until the end.
-fn read(s: &[u8], from: usize, base: u64, limit: u64) -> Number
+fn read(s: &[u8], from: usize, base: u64, limit: u64) -> Option<u64>
     requires { (0 < base) × (base ≤ 16) }
-    ensures { result ≡ read_value (reading_of base limit from s.now) }
+    ensures { result ≡ result_ok (reading_of base limit from s.now) }
 {
     if s.len() <= from {
-        return Number::Unreadable;
+        return None;
     }
     if s.len() - from <= SHORT {
         return read_short(s, from, base, limit);
@@ -125,16 +106,16 @@ fn read(s: &[u8], from: usize, base: u64, limit: u64) -> Number
 }
 
 // At most sixteen digits: no value passes 16^16, so no sum wraps, and the limit is looked at once.
-fn read_short(s: &[u8], from: usize, base: u64, limit: u64) -> Number
+fn read_short(s: &[u8], from: usize, base: u64, limit: u64) -> Option<u64>
     requires { (0 < base) × (base ≤ 16) × (from < length s.now) × (length s.now ≤ from + 16) }
-    ensures { result ≡ read_value (reading_of base limit from s.now) }
+    ensures { result ≡ result_ok (reading_of base limit from s.now) }
 {
     let mut v: u64 = 0;
     let mut i = from;
     while i < s.len() {
         let d = digit_in(s[i], base);
         if base <= d {
-            return Number::Unreadable;
+            return None;
         }
         v = v * base + d;
         i += 1;
@@ -143,20 +124,20 @@ fn read_short(s: &[u8], from: usize, base: u64, limit: u64) -> Number
 }
 
 // A value, unless it is past the limit.
-pub fn within(v: u64, limit: u64) -> Number
-    ensures { result ≡ cond (leb v limit) (N.Value v) N.Unreadable }
+pub fn within(v: u64, limit: u64) -> Option<u64>
+    ensures { result ≡ cond (leb v limit) (Some v) None }
 {
     if limit < v {
-        return Number::Unreadable;
+        return None;
     }
-    Number::Value(v)
+    Some(v)
 }
 
 // The limit is divided once: a value above the quotient has no room for any further digit, and for one that is not, the product stays within the
 // limit, so no sum wraps however many digits there are. What is no number is given up at once; why, `reason` says.
-fn read_long(s: &[u8], from: usize, base: u64, limit: u64) -> Number
+fn read_long(s: &[u8], from: usize, base: u64, limit: u64) -> Option<u64>
     requires { (0 < base) × (from < length s.now) }
-    ensures { result ≡ read_value (reading_of base limit from s.now) }
+    ensures { result ≡ result_ok (reading_of base limit from s.now) }
 {
     let most = limit / base;
     let mut v: u64 = 0;
@@ -164,35 +145,35 @@ fn read_long(s: &[u8], from: usize, base: u64, limit: u64) -> Number
     while i < s.len() {
         let d = digit(s[i]);
         if base <= d {
-            return Number::Unreadable;
+            return None;
         }
         if most < v {
-            return Number::Unreadable;
+            return None;
         }
         if limit - v * base < d {
-            return Number::Unreadable;
+            return None;
         }
         v = v * base + d;
         i += 1;
     }
-    Number::Value(v)
+    Some(v)
 }
 
 // Why the digits from a place on are no number: there are none; or the first bad one, which goes before width however late it stands; or else width.
-fn reason(s: &[u8], from: usize, base: u64) -> Reading
+fn reason(s: &[u8], from: usize, base: u64) -> Result<u64, BadNumber>
     ensures { result ≡ reason_of base from s.now }
 {
     if s.len() <= from {
-        return Reading::Empty;
+        return Err(BadNumber::Empty);
     }
     let mut i = from;
     while i < s.len() {
         if base <= digit(s[i]) {
-            return Reading::BadDigit(i);
+            return Err(BadNumber::BadDigit(i));
         }
         i += 1;
     }
-    Reading::TooWide
+    Err(BadNumber::TooWide)
 }
 
 // The value of a digit of the base; some number that is not below the base for any other byte. No letter is looked for in a base up to 10.

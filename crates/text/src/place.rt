@@ -4,32 +4,26 @@ ghost use Rattle.text.specs.Place.{byte_before, first_byte, last_byte};
 
 use crate::run::{behind_last, until};
 
-#[derive(Clone, Copy)]
-pub enum Found {
-    At(usize),
-    Nothing,
-}
-
 // The first place of the byte from a place on: where the run of other bytes ends.
-pub fn first(s: &[u8], b: u8, from: usize) -> Found
+pub fn first(s: &[u8], b: u8, from: usize) -> Option<usize>
     ensures { result ≡ first_byte b s.now from }
 {
     let k = until(s, b, from);
     if s.len() <= k {
-        return Found::Nothing;
+        return None;
     }
-    Found::At(k)
+    Some(k)
 }
 
 // The last place of the byte: before the run of other bytes that ends the text.
-pub fn last(s: &[u8], b: u8) -> Found
+pub fn last(s: &[u8], b: u8) -> Option<usize>
     ensures { result ≡ last_byte b s.now }
 {
     let k = behind_last(s, b);
     if k == 0 {
-        return Found::Nothing;
+        return None;
     }
-    Found::At(k - 1)
+    Some(k - 1)
 }
 
 // The byte at a place, 0 past the end.

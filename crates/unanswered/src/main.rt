@@ -13,7 +13,7 @@ use channel::sentence::{tell, tell_fault};
 use channel::sink::flush;
 use channel::status::{Status, give_status};
 use channel::streams::{Streams, streams_of};
-use choice::{Asked, ask_choice};
+use choice::ask_choice;
 use framing::{Fed, Framing, feed};
 use rows::{say_end, say_line};
 use scan::Pieces;
@@ -23,8 +23,8 @@ use std::process::ExitCode;
 
 fn main(rt: HostRuntime) -> ExitCode {
     match ask_choice(&rt, 1) {
-        Asked::Choice(pieces) => start(streams_of(&rt), pieces),
-        Asked::Wrong => refuse_call(rt.stderr()),
+        Some(pieces) => start(streams_of(&rt), pieces),
+        None => refuse_call(rt.stderr()),
     }
 }
 

@@ -1,4 +1,5 @@
 -- Each whole unit that is found is the first of what is left, so their number is that of the units that have ended. Assumes nothing.
+use Rattle.std.specs.Prelude.{None, Option, Some}
 use Prim.Native.Nat.{ℕ, ◌+◌, ◌-◌, ◌≤◌, ◌<◌}
 use mathlib.Core.Path.{◌≡◌, refl, sym, ap, subst, ◌∙◌}
 use mathlib.Core.Bool.{true, false}
@@ -8,8 +9,6 @@ use lib.ListN.{length, get_or, take, drop, length-append, length-drop, take-appe
 use lib.Seq.{take_all, drop-drop, drop-length, get_or-drop, get_or-take, length-take-le}
 use borrow.Author.Tests.{eq-eqb, eqb-true}
 use Rattle.text.proofs.Places.{clash, first_is, first_free}
-use Rattle.text.specs.declared.place.Found.{Found}
-use Rattle.text.specs.declared.place.Found.TheVariants.{At, Nothing}
 use Rattle.text.specs.Place.{first_byte, is_at}
 use Rattle.units.specs.declared.Framing.{Framing}
 use Rattle.units.specs.declared.growing.LineEnd.{LineEnd}
@@ -111,8 +110,8 @@ module _ (f : Framing) where
         at_place : (i : ℕ) → get_or (drop from s) i 0 ≡ get_or s (from + i) 0
         at_place i = get_or-drop from s i 0
 
-        go : (y : Found) → first_byte 10 s from ≡ y → UnitEnds f s from e
-        go Nothing z =
+        go : (y : Option ℕ) → first_byte 10 s from ≡ y → UnitEnds f s from e
+        go None z =
             let at_is : e.at ≡ length s = x.at_is ∙ ap (end_by s) z in
             let free = first_free (is_at 10 s) z (omega (arith, some)) in
             record {
@@ -121,7 +120,7 @@ module _ (f : Framing) where
               whole_is = λ q. absurd (clash q (x.whole_is ∙ ap is_found z));
               open_is = λ q. Open.line (ap (marked f) first_is_at ∙ t) (omega (arith, left_length, some)) (λ k h y. clash (eq-eqb _ _ (sym (at_place k) ∙ y)) (free (from + k) (omega arith) (omega (arith, left_length, h))));
             }
-        go (At j) z =
+        go (Some j) z =
             let at_is : e.at ≡ j + 1 = x.at_is ∙ ap (end_by s) z in
             let y = first_is (is_at 10 s) z in
             let n : e.at - from ≡ (j - from) + 1 = omega (arith, at_is, y.from) in

@@ -1,4 +1,5 @@
 -- A line up to its newline, else to the part's end: the first 4,097 bytes of it are kept. Assumes nothing.
+use Rattle.std.specs.Prelude.{None, Option, Some}
 use Prim.Native.Nat.{ℕ, zero, suc, min, ◌+◌, ◌-◌, ◌≤◌, ◌<◌}
 use mathlib.Core.Path.{◌≡◌, refl, sym, ap, subst, ◌∙◌}
 use mathlib.Core.Bool.{Bool, true, false}
@@ -8,8 +9,6 @@ use lib.ListN.{length, get_or, take, drop, length-append, length-take, get_or-ap
 use lib.Seq.{take_all, take-take, get_or-take, get_or-drop, get_or-append-add, length-take-le, take-append-add}
 use borrow.Author.Tests.{eq-eqb, eqb-true}
 use Rattle.text.proofs.Places.{clash, by_order, first_is, first_free}
-use Rattle.text.specs.declared.place.Found.{Found}
-use Rattle.text.specs.declared.place.Found.TheVariants.{At, Nothing}
 use Rattle.text.specs.Place.{first_byte, is_at, Free}
 use Rattle.print.specs.Put.{Placed}
 use Rattle.units.specs.declared.Framing.{Framing}
@@ -120,9 +119,9 @@ module _ (f : Framing) (s : List ℕ) (from : ℕ) (near : from ≤ length s) (r
   unfolding end_by is_found first_byte
   line_open q is = rw is (go (first_byte 10 s from) refl)
     where
-      go : (x : Found) → first_byte 10 s from ≡ x → FedOn f u s from rest exit (wants_at e.at now 0)
-      go (At j) z = absurd (clash (ends.whole_is ∙ ap is_found z) q)
-      go Nothing z =
+      go : (x : Option ℕ) → first_byte 10 s from ≡ x → FedOn f u s from rest exit (wants_at e.at now 0)
+      go (Some j) z = absurd (clash (ends.whole_is ∙ ap is_found z) q)
+      go None z =
           let at_is : e.at ≡ length s = ends.at_is ∙ ap (end_by s) z in
           let free = first_free (is_at 10 s) z near in
           let b : Bare w (length u + (e.at - from)) = w_bare (e.at - from) (omega arith) (λ j l m. free j l (omega (arith, at_is, near))) in
@@ -139,9 +138,9 @@ module _ (f : Framing) (s : List ℕ) (from : ℕ) (near : from ≤ length s) (r
   unfolding end_by is_found first_byte
   line_ends q is = rw is (go (first_byte 10 s from) refl)
     where
-      go : (x : Found) → first_byte 10 s from ≡ x → FedOn f u s from rest exit (ends_at e.at (U.Text now))
-      go Nothing z = absurd (clash q (ends.whole_is ∙ ap is_found z))
-      go (At j) z =
+      go : (x : Option ℕ) → first_byte 10 s from ≡ x → FedOn f u s from rest exit (ends_at e.at (U.Text now))
+      go None z = absurd (clash q (ends.whole_is ∙ ap is_found z))
+      go (Some j) z =
           let at_is : e.at ≡ j + 1 = ends.at_is ∙ ap (end_by s) z in
           let x = first_is (is_at 10 s) z in
           let g : from + (j - from) ≡ j = omega (arith, x.from) in
@@ -158,14 +157,14 @@ module _ (f : Framing) (s : List ℕ) (from : ℕ) (near : from ≤ length s) (r
 
 -- the end of a line, by its first newline
 module _ (s : List ℕ) (from : ℕ) where
-  pub newline_within : {k : ℕ} → first_byte 10 s from ≡ At k → (from ≤ k) × (k < length s)
+  pub newline_within : {k : ℕ} → first_byte 10 s from ≡ Some k → (from ≤ k) × (k < length s)
   unfolding first_byte
   newline_within z = let x = first_is (is_at 10 s) z in (x.from, x.within)
 
-  pub line_whole : {k : ℕ} → first_byte 10 s from ≡ At k → LineEnds s from (record { at = k + 1; whole = true })
+  pub line_whole : {k : ℕ} → first_byte 10 s from ≡ Some k → LineEnds s from (record { at = k + 1; whole = true })
   unfolding end_by is_found
   line_whole z = let x = newline_within z in record { up = omega (arith, x.0); within = omega (arith, x.1); at_is = rw z; whole_is = rw z }
 
-  pub line_not : from ≤ length s → first_byte 10 s from ≡ Nothing → LineEnds s from (record { at = length s; whole = false })
+  pub line_not : from ≤ length s → first_byte 10 s from ≡ None → LineEnds s from (record { at = length s; whole = false })
   unfolding end_by is_found
   line_not h z = record { up = h; within = omega arith; at_is = rw z; whole_is = rw z }

@@ -1,5 +1,6 @@
 -- The test of 53 is right both ways: what passes is one of the cases, each case is left by some stream, and what a stream leaves passes.
 -- Assumes nothing.
+use Rattle.std.specs.Prelude.{None, Option, Some}
 use Prim.Native.Nat.{ℕ, ◌+◌, ◌-◌, ◌≤◌, ◌<◌}
 use mathlib.Core.Path.{◌≡◌, refl, sym, ap, subst, ◌∙◌}
 use mathlib.Core.Bool.{Bool, true, false, cond}
@@ -10,8 +11,6 @@ use lib.ListN.{length, get_or, take, drop, replicate, length-append, length-take
 use lib.Seq.{take_all, take_at, get_or-take, get_or-drop, length-take-le}
 use borrow.Author.Tests.{eq-eqb, ne_eqb, eqb-true, eqb-false, ltb-true, ltb-false, leb-true, leb-false, lt-ltb, le-ltb, le-leb, lt-leb}
 use Rattle.text.proofs.Places.{clash, by_order, first_free, first_none}
-use Rattle.text.specs.declared.place.Found.{Found}
-use Rattle.text.specs.declared.place.Found.TheVariants.{At, Nothing}
 use Rattle.text.specs.Place.{first_byte, is_at}
 use Rattle.units.specs.declared.Framing.{Framing}
 use Rattle.units.specs.Units.{marked, is_record, stated, Bare, Open, Rest}
@@ -28,7 +27,7 @@ module _ (l : List ℕ) where
   unfolding line_left
   line_long h = rw (lt-leb _ _ h)
 
-  pub line_found : {k : ℕ} → first_byte 10 l 0 ≡ At k → false ≡ line_left l
+  pub line_found : {k : ℕ} → first_byte 10 l 0 ≡ Some k → false ≡ line_left l
   unfolding none_found line_left
   line_found e = rw e (go (leb (length l) 4097))
     where
@@ -36,7 +35,7 @@ module _ (l : List ℕ) where
       go true = refl
       go false = refl
 
-  pub line_free : length l ≤ 4097 → first_byte 10 l 0 ≡ Nothing → true ≡ line_left l
+  pub line_free : length l ≤ 4097 → first_byte 10 l 0 ≡ None → true ≡ line_left l
   unfolding none_found line_left
   line_free h e = rw (e, le-leb _ _ h)
 
@@ -73,11 +72,11 @@ module _ (l : List ℕ) where
     unfolding is_left line_left
     left_line_passed e = rw (t, ne_eqb _ _ e)
 
-free_bare : (l : List ℕ) → first_byte 10 l 0 ≡ Nothing → Bare l (length l)
+free_bare : (l : List ℕ) → first_byte 10 l 0 ≡ None → Bare l (length l)
 unfolding first_byte
 free_bare l e k h z = clash (eq-eqb _ _ z) (first_free (is_at 10 l) e (omega arith) k (omega arith) h)
 
-bare_free : (l : List ℕ) → Bare l (length l) → first_byte 10 l 0 ≡ Nothing
+bare_free : (l : List ℕ) → Bare l (length l) → first_byte 10 l 0 ≡ None
 unfolding first_byte
 bare_free l b = first_none (is_at 10 l) (λ k h q. ne_eqb _ _ (b k q))
 
@@ -106,9 +105,9 @@ module _ (f : Framing) (text : List ℕ) (passed : ℕ) where
       coded t true q = large t (ltb-true _ _ q) (eqb (length text) 3) refl
       coded t false q = small t (ltb-false _ _ q) (eqb passed 0) refl
 
-      found : is_record f text ≡ false → passed ≡ 0 → (b : Bool) → leb (length text) 4097 ≡ b → (x : Found) → first_byte 10 text 0 ≡ x → LeftBy f text passed
-      found t n true q Nothing z = LeftBy.line t n (leb-true _ _ q) (free_bare text z)
-      found t n true q (At k) z = absurd (clash (left_line text f passed t n ∙ e) (sym (line_found text z)))
+      found : is_record f text ≡ false → passed ≡ 0 → (b : Bool) → leb (length text) 4097 ≡ b → (x : Option ℕ) → first_byte 10 text 0 ≡ x → LeftBy f text passed
+      found t n true q None z = LeftBy.line t n (leb-true _ _ q) (free_bare text z)
+      found t n true q (Some k) z = absurd (clash (left_line text f passed t n ∙ e) (sym (line_found text z)))
       found t n false q x z = absurd (clash (left_line text f passed t n ∙ e) (sym (line_long text (leb-false _ _ q))))
 
       plain : is_record f text ≡ false → (b : Bool) → eqb passed 0 ≡ b → LeftBy f text passed

@@ -1,7 +1,5 @@
 -- What a call answers, and what it leaves.
-use Rattle.std.specs.Prelude.{ℕ, ◌+◌, ◌-◌, ◌≤◌, ◌<◌, ◌≡◌, Bool, true, false, cond, List, [], ◌∷◌, ◌++◌, eqb, ltb, length, get_or, take, drop}
-use Rattle.text.specs.declared.place.Found.{Found}
-use Rattle.text.specs.declared.place.Found.TheVariants.{At, Nothing}
+use Rattle.std.specs.Prelude.{ℕ, ◌+◌, ◌-◌, ◌≤◌, ◌<◌, ◌≡◌, Bool, true, false, cond, List, [], ◌∷◌, ◌++◌, eqb, ltb, length, get_or, take, drop, None, Option, Some}
 use Rattle.text.specs.Place.{first_byte}
 use Rattle.units.specs.declared.Framing.{Framing}
 use Rattle.units.specs.declared.State.{State}
@@ -79,13 +77,13 @@ abbrev pub BodyFed : Framing → List ℕ → ℕ → List ℕ → ℕ → ℕ �
 BodyFed f s from rest held passed exit r = (u : List ℕ) → Keeps f u rest held passed → FedOn f u s from rest exit r
 
 -- a line ends behind its newline, if the part has one, else the part does
-unfoldable pub is_found : Found → Bool
-is_found (At k) = true
-is_found Nothing = false
+unfoldable pub is_found : Option ℕ → Bool
+is_found (Some k) = true
+is_found None = false
 
-unfoldable pub end_by : List ℕ → Found → ℕ
-end_by s (At k) = k + 1
-end_by s Nothing = length s
+unfoldable pub end_by : List ℕ → Option ℕ → ℕ
+end_by s (Some k) = k + 1
+end_by s None = length s
 
 pub record LineEnds (s : List ℕ) (from : ℕ) (e : LineEnd) : Type 0 where
   pub up : from ≤ e.at

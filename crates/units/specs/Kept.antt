@@ -1,7 +1,5 @@
 -- What is kept of an open unit, the states that a stream leaves, and the test of 53.
-use Rattle.std.specs.Prelude.{ℕ, ◌+◌, ◌-◌, ◌≤◌, ◌<◌, ◌≡◌, Bool, true, false, cond, List, ◌++◌, eqb, ltb, leb, length, take, drop}
-use Rattle.text.specs.declared.place.Found.{Found}
-use Rattle.text.specs.declared.place.Found.TheVariants.{At, Nothing}
+use Rattle.std.specs.Prelude.{ℕ, ◌+◌, ◌-◌, ◌≤◌, ◌<◌, ◌≡◌, Bool, true, false, cond, List, ◌++◌, eqb, ltb, leb, length, take, drop, None, Option, Some}
 use Rattle.text.specs.Place.{first_byte}
 use Rattle.units.specs.declared.Framing.{Framing}
 use Rattle.units.specs.Units.{is_record, stated, Bare, Sofar}
@@ -47,9 +45,9 @@ pub data LeftBy (f : Framing) (text : List ℕ) (passed : ℕ) : Type 0 where
   short : is_record f text ≡ true → stated text ≤ most → passed ≡ 0 → length text < stated text → LeftBy f text passed
   line : is_record f text ≡ false → passed ≡ 0 → length text ≤ 4097 → Bare text (length text) → LeftBy f text passed
 
-unfoldable pub none_found : Found → Bool
-none_found (At k) = false
-none_found Nothing = true
+unfoldable pub none_found : Option ℕ → Bool
+none_found (Some k) = false
+none_found None = true
 
 -- at most 4,097 bytes, none a newline
 unfoldable pub line_left : List ℕ → Bool

@@ -6,7 +6,7 @@ ghost use Rattle.units.specs.Feeding.{Ready, BodyFed, FedFor, LineEnds, first_of
 use crate::keeping::stated;
 use crate::{Fed, Framing, State, Unit};
 use print::put::put;
-use text::place::{Found, first};
+use text::place::first;
 
 // Where a line ends in a part, or that the part has not its end.
 #[derive(Clone, Copy)]
@@ -82,11 +82,11 @@ pub fn line_end(part: &[u8], from: usize) -> LineEnd
     ensures { LineEnds part.now from result }
 {
     match first(part, b'\n', from) {
-        Found::At(k) => LineEnd {
+        Some(k) => LineEnd {
             at: k + 1,
             whole: true,
         },
-        Found::Nothing => LineEnd {
+        None => LineEnd {
             at: part.len(),
             whole: false,
         },

@@ -4,7 +4,7 @@ ghost use Rattle.units.specs.Units.{marked, stated as statedOf};
 ghost use Rattle.units.specs.Kept.{is_left, line_left};
 
 use crate::Framing;
-use text::place::{Found, byte_at, first};
+use text::place::{byte_at, first};
 
 // A unit that starts with this byte is a record.
 pub fn marks(framing: Framing, first: u8) -> bool
@@ -61,7 +61,7 @@ fn line_left(kept: &[u8]) -> bool
         return false;
     }
     match first(kept, b'\n', 0) {
-        Found::At(k) => false,
-        Found::Nothing => true,
+        Some(k) => false,
+        None => true,
     }
 }

@@ -1,12 +1,11 @@
 -- What is kept of a last pair is what its key's row says: where it stands, or the number that it says in the row's base, within the row's
 -- width. Assumes nothing.
+use Rattle.std.specs.Prelude.{None, Option, Some}
 use Prim.Native.Nat.{ℕ, ◌≤◌, ◌<◌}
 use mathlib.Core.Path.{◌≡◌, refl, sym, ap, ◌∙◌}
 use mathlib.Core.List.{List}
 use native.Mathlib.Omega.{arith}
 use borrow.Author.Tests.{eq-eqb, ne_eqb}
-use Rattle.text.specs.declared.number.Number.{Number}
-use Rattle.text.specs.declared.number.Number.TheVariants as N
 use Rattle.text.specs.Number.{number_of, hex_number_of}
 use Rattle.text.proofs.Numbers.{number_is}
 use Rattle.pairs.specs.declared.keys.Form.{Form}
@@ -21,11 +20,11 @@ use Rattle.walk.specs.declared.value.Kept.{Kept}
 use Rattle.walk.specs.Kept.{nothing, kept_number, kept_in, kept_at, kept_of, said_by, base_of, limit_of}
 
 -- the last pair of a key, read as a form
-abbrev pub read_key : Form → List ℕ → List ℕ → Number
+abbrev pub read_key : Form → List ℕ → List ℕ → Option ℕ
 read_key (Decimal limit) s key = decimal_of s key limit
 read_key (Hex limit) s key = hex_at s key limit
-read_key Text s key = N.Unreadable
-read_key Dwords s key = N.Unreadable
+read_key Text s key = None
+read_key Dwords s key = None
 
 -- a value and an end, as they are kept
 abbrev pub kept : ℕ → ℕ → Kept
@@ -38,20 +37,20 @@ same_end : {a b : Kept} → a ≡ b → a.end ≡ b.end
 same_end q = ap (λ (x : Kept). x.end) q
 
 -- a number that is kept is said, and what is not kept is unreadable
-number_said : (n : Number) (b : ℕ) {v e : ℕ} → 0 < b → kept v e ≡ kept_number b n → n ≡ said_by v e
+number_said : (n : Option ℕ) (b : ℕ) {v e : ℕ} → 0 < b → kept v e ≡ kept_number b n → n ≡ said_by v e
 unfolding kept_number nothing said_by
-number_said (N.Value x) b {v} {e} h q =
+number_said (Some x) b {v} {e} h q =
     let ends : e ≡ b = same_end q in
     rw (same_value q, ne_eqb e 0 (λ z. absurd (omega arith)))
-number_said N.Unreadable b {v} {e} h q = rw (eq-eqb e 0 (same_end q))
+number_said None b {v} {e} h q = rw (eq-eqb e 0 (same_end q))
 
 -- what is kept has an end, so it is no number that is unreadable
-number_kept : (n : Number) (b : ℕ) {v e : ℕ} → 0 < e → kept v e ≡ kept_number b n → n ≡ N.Value v
+number_kept : (n : Option ℕ) (b : ℕ) {v e : ℕ} → 0 < e → kept v e ≡ kept_number b n → n ≡ Some v
 unfolding kept_number nothing
-number_kept (N.Value x) b h q = ap N.Value (sym (same_value q))
-number_kept N.Unreadable b {v} {e} h q = absurd (let z : e ≡ 0 = same_end q in omega arith)
+number_kept (Some x) b h q = ap Some (sym (same_value q))
+number_kept None b {v} {e} h q = absurd (let z : e ≡ 0 = same_end q in omega arith)
 
-unfold_nothing : (v e : ℕ) → kept v e ≡ nothing → N.Unreadable ≡ said_by v e
+unfold_nothing : (v e : ℕ) → kept v e ≡ nothing → None ≡ said_by v e
 unfolding nothing said_by
 unfold_nothing v e q = rw (eq-eqb e 0 (same_end q))
 

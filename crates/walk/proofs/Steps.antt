@@ -1,12 +1,11 @@
 -- One step of the walk: a try from a word byte that fails fails from every byte of its word run, and one that does not is a pair. Assumes nothing.
+use Rattle.std.specs.Prelude.{None, Option, Some}
 use Prim.Native.Nat.{ℕ, suc, ◌+◌, ◌≤◌, ◌<◌}
 use mathlib.Core.Path.{◌≡◌, refl, sym, ap, ◌∙◌}
 use mathlib.Core.Bool.{true, false}
 use mathlib.Core.List.{List}
 use native.Mathlib.Omega.{arith}
 use lib.ListN.{length, get_or, set}
-use Rattle.text.specs.declared.place.Found.{Found}
-use Rattle.text.specs.declared.place.Found.TheVariants as F
 use Rattle.text.specs.Class.{is_word}
 use Rattle.text.specs.Run.{run_end}
 use Rattle.text.proofs.Places.{by_order, clash}
@@ -23,21 +22,21 @@ use Rattle.walk.specs.Kept.{kept_in, value_of, Stepped, Step}
 
 -- what the answer of a value tells
 module _ (s : List ℕ) (form : Form) (v : ℕ) {r : Value} (is : r ≡ value_of s form v (value_end s v)) where
-  found_end : (f : Found) → value_end s v ≡ f → (value_of s form v f).end ≡ 0 → f ≡ F.Nothing
+  found_end : (f : Option ℕ) → value_end s v ≡ f → (value_of s form v f).end ≡ 0 → f ≡ None
   unfolding value_of
-  found_end (F.At e) q z = absurd (omega (arith, value_up s v (value_is s v q)))
-  found_end F.Nothing q z = refl
+  found_end (Some e) q z = absurd (omega (arith, value_up s v (value_is s v q)))
+  found_end None q z = refl
 
-  pub value_missing : r.end ≡ 0 → value_end s v ≡ F.Nothing
+  pub value_missing : r.end ≡ 0 → value_end s v ≡ None
   value_missing z = found_end (value_end s v) refl (sym (ap (λ (x : Value). x.end) is) ∙ z)
 
-  found_kept : (f : Found) → ((value_of s form v f).end ≡ 0 → ⊥) →
-      (f ≡ F.At (value_of s form v f).end) × ((value_of s form v f).kept ≡ kept_in form s v (value_of s form v f).end)
+  found_kept : (f : Option ℕ) → ((value_of s form v f).end ≡ 0 → ⊥) →
+      (f ≡ Some (value_of s form v f).end) × ((value_of s form v f).kept ≡ kept_in form s v (value_of s form v f).end)
   unfolding value_of
-  found_kept (F.At e) n = (refl, refl)
-  found_kept F.Nothing n = absurd (n refl)
+  found_kept (Some e) n = (refl, refl)
+  found_kept None n = absurd (n refl)
 
-  pub value_there : (r.end ≡ 0 → ⊥) → (value_end s v ≡ F.At r.end) × (r.kept ≡ kept_in form s v r.end)
+  pub value_there : (r.end ≡ 0 → ⊥) → (value_end s v ≡ Some r.end) × (r.kept ≡ kept_in form s v r.end)
   value_there n = rw is (found_kept (value_end s v) (λ z. n (ap (λ (x : Value). x.end) is ∙ z)))
 
 module _ (s : List ℕ) (i : ℕ) {start : Start} (b : Started s i start) (in-text : i < length s) (word : is_word (get_or s i 0) ≡ true) where
@@ -88,10 +87,10 @@ module _ (s : List ℕ) (i : ℕ) {start : Start} (b : Started s i start) (in-te
         past : length s ≤ start.end → ⊥
         past h = omega (arith, b.sign row_in, lib.ListN.get_or-eq_default s 0 {n = start.end} h)
 
-    pub step_empty : {values ends : List ℕ} → value_end s (start.end + 1) ≡ F.Nothing → Step s i values ends values ends (start.end + 1)
+    pub step_empty : {values ends : List ℕ} → value_end s (start.end + 1) ≡ None → Step s i values ends values ends (start.end + 1)
     step_empty e = passes (try-misses s i start.end run_some (b.sign row_in) e)
 
-    pub step_takes : {values ends : List ℕ} {e : ℕ} → value_end s (start.end + 1) ≡ F.At e →
+    pub step_takes : {values ends : List ℕ} {e : ℕ} → value_end s (start.end + 1) ≡ Some e →
         Step s i values ends (set values start.row (kept_in start.form s (start.end + 1) e).value)
         (set ends start.row (kept_in start.form s (start.end + 1) e).end) e
     unfolding pair_at

@@ -1,5 +1,7 @@
 -- A value's digits read while its end is sought: digits that no word byte follows are the whole word run, so they are the value, and what they say
 -- is the number of its part. Assumes nothing.
+use Rattle.std.specs.Prelude.{None, Option, Result, Some}
+use Rattle.text.specs.declared.number.BadNumber.{BadNumber}
 use Prim.Native.Nat.{ℕ, zero, suc, ◌+◌, ◌-◌, ◌≤◌, ◌<◌}
 use mathlib.Core.Path.{◌≡◌, refl, sym, ap, ◌∙◌}
 use mathlib.Core.Bool.{Bool, true, false, cond, ◌&&◌, ◌||◌}
@@ -9,13 +11,9 @@ use lib.Dec.{leb, eqb}
 use lib.ListN.{length, get_or, take, drop, length-drop, get_or-eq_default}
 use lib.Seq.{take-nil, get_or-take, get_or-drop, drop-drop, length-take-le}
 use borrow.Author.Tests.{eq-eqb, ne_eqb, lt-leb, le-leb, leb-true, leb-false, eqb-true}
-use Rattle.text.specs.declared.number.Number.{Number}
-use Rattle.text.specs.declared.number.Number.TheVariants as N
-use Rattle.text.specs.declared.number.Reading.{Reading}
-use Rattle.text.specs.declared.place.Found.{Found}
-use Rattle.text.specs.declared.place.Found.TheVariants as F
 use Rattle.text.specs.Class.{between, is_letter, is_digit, is_word}
-use Rattle.text.specs.Number.{digit_of, value, number_of, bad_at, reading_of, digits_from, hex_of, read_value}
+use Rattle.text.specs.Number.{digit_of, value, number_of, bad_at, reading_of, digits_from, hex_of}
+use Rattle.std.specs.Result.{result_ok}
 use Rattle.text.specs.Place.{Free, is_at}
 use Rattle.text.specs.Run.{Inside}
 use Rattle.text.specs.Table.{table}
@@ -59,12 +57,12 @@ start_most s {d} e = go (is_at 48 s 0 && is_at 120 s 1) e
 -- ---- what is kept, form by form
 
 module _ {form : Form} (s : List ℕ) (a b : ℕ) where
-  pub kept_decimal : {limit : ℕ} {n : Number} {k : Kept} → form ≡ Decimal limit → n ≡ number_of 10 limit (part s a b) → k ≡ kept_number b n
+  pub kept_decimal : {limit : ℕ} {n : Option ℕ} {k : Kept} → form ≡ Decimal limit → n ≡ number_of 10 limit (part s a b) → k ≡ kept_number b n
       → k ≡ kept_in form s a b
   unfolding kept_in
   kept_decimal f n-is k-is = rw (f, ← n-is) k-is
 
-  pub kept_hex : {limit : ℕ} {r : Reading} {n : Number} {k : Kept} → form ≡ Hex limit → r ≡ hex_of limit (part s a b) → n ≡ read_value r
+  pub kept_hex : {limit : ℕ} {r : Result ℕ BadNumber} {n : Option ℕ} {k : Kept} → form ≡ Hex limit → r ≡ hex_of limit (part s a b) → n ≡ result_ok r
       → k ≡ kept_number b n → k ≡ kept_in form s a b
   unfolding kept_in
   kept_hex f r-is n-is k-is = rw (f, ← r-is, ← n-is) k-is
@@ -192,7 +190,7 @@ module _ (s : List ℕ) (v base from e w : ℕ) (below : base ≤ 16) (start : S
           by_order k (v + 1) (λ h. let z : k ≡ v = omega arith in rw (z, zero-there) zero_is_word) (λ h. rw (h, x-there) x_is_word)
           (λ h. digit k (omega arith) b)
 
-  ends_there : is_word (get_or s e 0) ≡ false → value_end s v ≡ F.At e
+  ends_there : is_word (get_or s e 0) ≡ false → value_end s v ≡ Some e
   ends_there free =
       value_word s v
       (sym (run_all is_word s (record { from = omega (arith, behind_start); within = within; inside = words; stops = λ h. free })))
@@ -217,8 +215,7 @@ module _ (s : List ℕ) (v base from e w : ℕ) (below : base ≤ 16) (start : S
       rw (byte_of k l) (lt-leb base (digit_of (get_or s (v + k) 0)) d)
 
   -- the digits read as a number: their value where it is within the limit
-  digits_judged : (limit : ℕ) → read_value (reading_of base limit (from - v) (part s v e)) ≡ cond (leb w limit) (N.Value w) N.Unreadable
-  unfolding read_value
+  digits_judged : (limit : ℕ) → result_ok (reading_of base limit (from - v) (part s v e)) ≡ cond (leb w limit) (Some w) None
   digits_judged limit = go (leb w limit) refl
     where
       there : from - v < length (part s v e)
@@ -227,7 +224,7 @@ module _ (s : List ℕ) (v base from e w : ℕ) (below : base ≤ 16) (start : S
       same : value base 0 (drop (from - v) (part s v e)) ≡ w
       same = rw rest (sym is)
 
-      go : (b : Bool) → leb w limit ≡ b → read_value (reading_of base limit (from - v) (part s v e)) ≡ cond b (N.Value w) N.Unreadable
+      go : (b : Bool) → leb w limit ≡ b → result_ok (reading_of base limit (from - v) (part s v e)) ≡ cond b (Some w) None
       go true t = rw (judged_all base limit (from - v) (part s v e) (Judged.fits {v = w} there all_good same (leb-true _ _ t)))
       go false t = rw (judged_all base limit (from - v) (part s v e) (Judged.wide there all_good (rw same (leb-false _ _ t))))
 
@@ -256,7 +253,7 @@ module _ (s : List ℕ) (v base from e w : ℕ) (below : base ≤ 16) (start : S
           ∙ two
 
   kept_short : (form : Form) → base ≡ base_of form → (base ≡ 0 → ⊥)
-      → kept_in form s v e ≡ kept_number e (cond (leb w (limit_of form)) (N.Value w) N.Unreadable)
+      → kept_in form s v e ≡ kept_number e (cond (leb w (limit_of form)) (Some w) None)
   unfolding kept_in base_of limit_of hex_of
   kept_short (Decimal limit) b some-base = ap (kept_number e) (number_read 10 limit (part s v e) ∙ same ∙ digits_judged limit)
     where
@@ -264,11 +261,11 @@ module _ (s : List ℕ) (v base from e w : ℕ) (below : base ≤ 16) (start : S
       first (Started.plain p) = omega arith
       first (Started.prefixed six zero-there x-there p) = absurd (omega arith)
 
-      same : read_value (reading_of 10 limit 0 (part s v e)) ≡ read_value (reading_of base limit (from - v) (part s v e))
+      same : result_ok (reading_of 10 limit 0 (part s v e)) ≡ result_ok (reading_of base limit (from - v) (part s v e))
       same = rw (← first start, b)
   kept_short (Hex limit) b some-base = ap (kept_number e) (same ∙ digits_judged limit)
     where
-      same : read_value (reading_of 16 limit (digits_from (part s v e)) (part s v e)) ≡ read_value (reading_of base limit (from - v) (part s v e))
+      same : result_ok (reading_of 16 limit (digits_from (part s v e)) (part s v e)) ≡ result_ok (reading_of base limit (from - v) (part s v e))
       same = rw (hex_start b, b)
   kept_short Text b some-base = absurd (some-base b)
   kept_short Dwords b some-base = absurd (some-base b)
@@ -277,9 +274,9 @@ module _ (s : List ℕ) (v base from e w : ℕ) (below : base ≤ 16) (start : S
 pub short_none : (s : List ℕ) (form : Form) (v : ℕ) {r : Value} → r ≡ record { end = 0; kept = nothing } → Short s form v r
 short_none s form v {r} e h = absurd (let z : r.end ≡ 0 = ap (λ (x : Value). x.end) e in omega arith)
 
-module _ (s : List ℕ) (form : Form) (v : ℕ) {base from limit : ℕ} {d : Digits} {n : Number} {k : Kept} where
+module _ (s : List ℕ) (form : Form) (v : ℕ) {base from limit : ℕ} {d : Digits} {n : Option ℕ} {k : Kept} where
   pub short_is : base ≡ base_of form → (base ≡ 0 → ⊥) → from ≡ digits_start s v base → DigitsRead s base from d → (d.end ≡ from → ⊥)
-      → false ≡ is_word (get_or s d.end 0) → limit ≡ limit_of form → n ≡ cond (leb d.value limit) (N.Value d.value) N.Unreadable
+      → false ≡ is_word (get_or s d.end 0) → limit ≡ limit_of form → n ≡ cond (leb d.value limit) (Some d.value) None
       → k ≡ kept_number d.end n → record { end = d.end; kept = k } ≡ value_of s form v (value_end s v)
   unfolding value_of
   short_is b some-base from_is read more free limit_is n-is k-is =
@@ -293,12 +290,12 @@ module _ (s : List ℕ) (form : Form) (v : ℕ) {base from limit : ℕ} {d : Dig
 -- ---- a value of any kind
 
 module _ (s : List ℕ) (form : Form) (v : ℕ) where
-  pub value_found : {f : Found} {e : ℕ} {k : Kept} → f ≡ value_end s v → f ≡ F.At e → k ≡ kept_in form s v e
+  pub value_found : {f : Option ℕ} {e : ℕ} {k : Kept} → f ≡ value_end s v → f ≡ Some e → k ≡ kept_in form s v e
       → record { end = e; kept = k } ≡ value_of s form v (value_end s v)
   unfolding value_of
   value_found f-is e-is k-is = rw (← f-is, e-is, k-is)
 
-  pub value_none : {f : Found} {r : Value} → f ≡ value_end s v → f ≡ F.Nothing → r ≡ record { end = 0; kept = nothing }
+  pub value_none : {f : Option ℕ} {r : Value} → f ≡ value_end s v → f ≡ None → r ≡ record { end = 0; kept = nothing }
       → r ≡ value_of s form v (value_end s v)
   unfolding value_of
   value_none f-is none r-is = rw (← f-is, none) r-is

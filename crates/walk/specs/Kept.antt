@@ -1,9 +1,5 @@
 -- What is kept of a value, and of the last pair of each key: the number that it says or where its text starts, and where it ends.
-use Rattle.std.specs.Prelude.{ℕ, suc, ◌+◌, ◌≤◌, ◌<◌, ◌≡◌, cond, List, eqb, length, get_or, set, drop}
-use Rattle.text.specs.declared.number.Number.{Number}
-use Rattle.text.specs.declared.number.Number.TheVariants as N
-use Rattle.text.specs.declared.place.Found.{Found}
-use Rattle.text.specs.declared.place.Found.TheVariants as F
+use Rattle.std.specs.Prelude.{ℕ, suc, ◌+◌, ◌≤◌, ◌<◌, ◌≡◌, cond, List, eqb, length, get_or, set, drop, None, Option, Some}
 use Rattle.text.specs.Number.{digit_of, value, number_of, hex_number_of, digits_from}
 use Rattle.pairs.specs.declared.keys.Form.{Form}
 use Rattle.pairs.specs.declared.keys.Form.TheVariants.{Text, Decimal, Hex, Dwords}
@@ -21,9 +17,9 @@ unfoldable pub nothing : Kept
 nothing = record { value = 0; end = 0 }
 
 -- a number that ends at e, or nothing where it is unreadable
-unfoldable pub kept_number : ℕ → Number → Kept
-kept_number e (N.Value v) = record { value = v; end = e }
-kept_number e N.Unreadable = nothing
+unfoldable pub kept_number : ℕ → Option ℕ → Kept
+kept_number e (Some v) = record { value = v; end = e }
+kept_number e None = nothing
 
 -- what is kept of the value from a to b: of a text and of dwords where it stands
 unfoldable pub kept_in : Form → List ℕ → ℕ → ℕ → Kept
@@ -48,8 +44,8 @@ pub record LastKept (s : List ℕ) (values ends : List ℕ) : Type 0 where
   pub each : (k : ℕ) → k < length keys → record { value = get_or values k 0; end = get_or ends k 0 } ≡ kept_of s (row_at k)
 
 -- the number that a row's value and end say: none where the end is 0
-unfoldable pub said_by : ℕ → ℕ → Number
-said_by v e = cond (eqb e 0) N.Unreadable (N.Value v)
+unfoldable pub said_by : ℕ → ℕ → Option ℕ
+said_by v e = cond (eqb e 0) None (Some v)
 
 -- ---- one step of the walk, from the word byte at i to the place r
 
@@ -71,9 +67,9 @@ pub record Step (s : List ℕ) (i : ℕ) (values ends values-after ends-after : 
 -- ---- one value
 
 -- the value from v on by where it ends, with what is kept of it; an end of 0 where none stands
-unfoldable pub value_of : List ℕ → Form → ℕ → Found → Value
-value_of s form v (F.At e) = record { end = e; kept = kept_in form s v e }
-value_of s form v F.Nothing = record { end = 0; kept = nothing }
+unfoldable pub value_of : List ℕ → Form → ℕ → Option ℕ → Value
+value_of s form v (Some e) = record { end = e; kept = kept_in form s v e }
+value_of s form v None = record { end = 0; kept = nothing }
 
 -- an answer is the value's, or none is given
 abbrev pub Short : List ℕ → Form → ℕ → Value → Type 0

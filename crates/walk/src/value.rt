@@ -10,8 +10,7 @@ ghost use Rattle.walk.specs.Kept.{digits_start, nothing, kept_number, kept_in, v
 
 use pairs::keys::Form;
 use pairs::pair::value_end;
-use text::number::{Number, SHORT, decimal, digits_from, hex, value_of, within};
-use text::place::Found;
+use text::number::{SHORT, decimal, digits_from, hex, within};
 use text::table::{is_word_at, wide, word_end};
 use text::word::one;
 
@@ -46,11 +45,11 @@ pub fn value_at(s: &[u8], t: &[u8; 256], v: usize, form: Form, tail: usize) -> V
         return short;
     }
     match value_end(s, v, word_end(s, t, v), tail) {
-        Found::At(e) => Value {
+        Some(e) => Value {
             end: e,
             kept: keep(s, v, e, form),
         },
-        Found::Nothing => none(),
+        None => none(),
     }
 }
 
@@ -121,7 +120,7 @@ fn keep(s: &[u8], v: usize, e: usize, form: Form) -> Kept
 {
     match form {
         Form::Decimal(limit) => keep_number(decimal(&s[v..e], limit), e),
-        Form::Hex(limit) => keep_number(value_of(hex(&s[v..e], limit)), e),
+        Form::Hex(limit) => keep_number(hex(&s[v..e], limit).ok(), e),
         Form::Text => Kept {
             value: v as u64,
             end: e,
@@ -134,12 +133,12 @@ fn keep(s: &[u8], v: usize, e: usize, form: Form) -> Kept
 }
 
 // A number that was read, or nothing.
-fn keep_number(number: Number, e: usize) -> Kept
+fn keep_number(number: Option<u64>, e: usize) -> Kept
     ensures { result ≡ kept_number e number }
 {
     match number {
-        Number::Value(v) => Kept { value: v, end: e },
-        Number::Unreadable => Kept { value: 0, end: 0 },
+        Some(v) => Kept { value: v, end: e },
+        None => Kept { value: 0, end: 0 },
     }
 }
 

@@ -11,7 +11,7 @@ use channel::sentence::{tell, tell_failed};
 use channel::status::{Status, give_status};
 use channel::streams::{Streams, streams_of};
 use channel::writing::write_whole;
-use choice::{Asked, ask_choice};
+use choice::ask_choice;
 use row::put_answer;
 use scan::Pieces;
 use std::io::Stderr;
@@ -19,8 +19,8 @@ use std::process::ExitCode;
 
 fn main(rt: HostRuntime) -> ExitCode {
     match ask_choice(&rt, 1) {
-        Asked::Choice(pieces) => start(streams_of(&rt), pieces),
-        Asked::Wrong => refuse_call(rt.stderr()),
+        Some(pieces) => start(streams_of(&rt), pieces),
+        None => refuse_call(rt.stderr()),
     }
 }
 

@@ -1,5 +1,9 @@
 -- A line's numbers, as they are met: each key's text lies in the payload, the pieces are met as the data is cut, and what was found so far with
 -- what is found from here on is all. Assumes nothing.
+use Rattle.std.specs.Prelude.{Err, None, Ok, Option, Result, Some}
+use Rattle.refusal.specs.declared.Refusal.{Refusal}
+use Rattle.text.specs.declared.number.BadNumber.{BadNumber}
+use Rattle.text.specs.declared.number.BadNumber.TheVariants as BadNumber
 use Prim.Native.Nat.{ℕ, ◌+◌, ◌*◌, ◌-◌, ◌^◌, ◌≤◌, ◌<◌}
 use mathlib.Core.Path.{◌≡◌, refl, sym, ap, ◌∙◌}
 use mathlib.Core.List.{List, [], ◌∷◌, ◌++◌, append-nil, append_assoc}
@@ -8,8 +12,6 @@ use lib.ListN.{length, drop, length-drop}
 use lib.Seq.{length-take-le}
 use Rattle.text.specs.Told.{Told, is, absent, refused, and_then}
 use Rattle.text.specs.Number.{hex_of, Means}
-use Rattle.text.specs.declared.number.Reading.{Reading}
-use Rattle.text.specs.declared.number.Reading.TheVariants as R
 use Rattle.text.proofs.Hexes.{hex_means}
 use Rattle.pairs.specs.declared.pair.Span.{Span}
 use Rattle.pairs.specs.declared.pair.Span.TheVariants.{At, Nothing}
@@ -22,11 +24,7 @@ use Rattle.scan.proofs.Frames.{frame_passed}
 use Rattle.reasons.specs.declared.Key.{Key}
 use Rattle.reasons.specs.declared.Key.TheVariants as K
 use Rattle.reasons.specs.declared.HexText.{HexText}
-use Rattle.reasons.specs.declared.Answer.{Answer}
-use Rattle.reasons.specs.declared.Answer.TheVariants as A
 use Rattle.reasons.specs.declared.payload.Place.{Place}
-use Rattle.reasons.specs.declared.payload.Payload.{Payload}
-use Rattle.reasons.specs.declared.payload.Payload.TheVariants as P
 use Rattle.reasons.specs.Reasons.{name_of, limit_of, answer_told, payload_from, payload_place, payload_told, said_at, key_in, data_span, PayloadAt, DataAt}
 use Rattle.why_rows.specs.declared.What.{What}
 use Rattle.why_rows.specs.declared.What.TheVariants as W
@@ -40,8 +38,8 @@ use Rattle.why.specs.Saying.{SaidAll, rows_of, tallied, line_counts, Gone, LineS
 use Rattle.why.proofs.Chains.{gone_none, gone_same, gone_then}
 
 -- a bad digit is in its text
-pub bad_within : (limit : ℕ) (s : List ℕ) {r : Reading} → r ≡ hex_of limit s → ReadingWithin r (length s)
-bad_within limit s {r} e k q = let m : Means limit s (R.BadDigit k) = rw (sym e ∙ q) at (hex_means limit s) in m.first.within
+pub bad_within : (limit : ℕ) (s : List ℕ) {r : Result ℕ BadNumber} → r ≡ hex_of limit s → ReadingWithin r (length s)
+bad_within limit s {r} e k q = let m : Means limit s (Err (BadNumber.BadDigit k)) = rw (sym e ∙ q) at (hex_means limit s) in m.first.within
 
 -- how many bytes a part has
 part_size : (s : List ℕ) {a b : ℕ} → a ≤ b → b ≤ length s → length (part s a b) ≡ b - a
@@ -56,20 +54,20 @@ room_line s h n k l = omega (arith, part_size s k l)
 
 -- ---- a text's reading, by cases
 
-module _ (w : What) (s : List ℕ) {r : Reading} where
-  pub unread_value : {v : ℕ} → r ≡ R.Value v → [] ≡ unread w s r
+module _ (w : What) (s : List ℕ) {r : Result ℕ BadNumber} where
+  pub unread_value : {v : ℕ} → r ≡ Ok v → [] ≡ unread w s r
   unfolding unread
   unread_value e = rw e
 
-  pub unread_empty : r ≡ R.Empty → finding w s Y.Empty ∷ [] ≡ unread w s r
+  pub unread_empty : r ≡ (Err BadNumber.Empty) → finding w s Y.Empty ∷ [] ≡ unread w s r
   unfolding unread
   unread_empty e = rw e
 
-  pub unread_bad : {k : ℕ} → r ≡ R.BadDigit k → finding w s (Y.BadDigit k) ∷ [] ≡ unread w s r
+  pub unread_bad : {k : ℕ} → r ≡ Err (BadNumber.BadDigit k) → finding w s (Y.BadDigit k) ∷ [] ≡ unread w s r
   unfolding unread
   unread_bad e = rw e
 
-  pub unread_wide : r ≡ R.TooWide → finding w s Y.TooWide ∷ [] ≡ unread w s r
+  pub unread_wide : r ≡ (Err BadNumber.TooWide) → finding w s Y.TooWide ∷ [] ≡ unread w s r
   unfolding unread
   unread_wide e = rw e
 
@@ -79,7 +77,7 @@ empty_place k e = absurd (let z : ◌≡◌ {A = ℕ} 0 1 = cc in omega arith)
 pub wide_place : {n : ℕ} → PlaceWithin Y.TooWide n
 wide_place k e = absurd (let z : ◌≡◌ {A = ℕ} 0 1 = cc in omega arith)
 
-pub bad_place : {n place : ℕ} {r : Reading} → ReadingWithin r n → r ≡ R.BadDigit place → PlaceWithin (Y.BadDigit place) n
+pub bad_place : {n place : ℕ} {r : Result ℕ BadNumber} → ReadingWithin r n → r ≡ Err (BadNumber.BadDigit place) → PlaceWithin (Y.BadDigit place) n
 bad_place {n} {place} h e k q = let same : place ≡ k = cc in rw same at (h place e)
 
 -- ---- keys
@@ -100,22 +98,22 @@ said_in limit p (At a b) w {h} e =
     rw (← q) (record { up = (w a b refl).0; within = (w a b refl).1; read = bad_within limit (part p a b) refl })
 said_in limit p Nothing w e = absurd (let z : ◌≡◌ {A = ℕ} 0 1 = cc in omega arith)
 
-module _ (p : List ℕ) (key : Key) {r : Answer} (told : answer_told r ≡ key_in p 0 key) where
-  pub key_text : {h : HexText} → r ≡ A.Found h → HexIn p h
+module _ (p : List ℕ) (key : Key) {r : Result (Option HexText) Refusal} (told : answer_told r ≡ key_in p 0 key) where
+  pub key_text : {h : HexText} → r ≡ Ok (Some h) → HexIn p h
   unfolding key_in
   key_text {h} e =
       said_in (limit_of key) p (last_pair p (name_of key))
       (λ a b q. let w = last_within p (name_of key) q in (omega (arith, w.0), w.1)) (sym told ∙ ap answer_told e)
 
-  pub key_found_lem : {h : HexText} → r ≡ A.Found h → unread (W.Key key) (part p h.from h.to) h.reading ≡ key_found p key
+  pub key_found_lem : {h : HexText} → r ≡ Ok (Some h) → unread (W.Key key) (part p h.from h.to) h.reading ≡ key_found p key
   unfolding key_found asked
   key_found_lem e = rw (← told, e)
 
-  pub key_absent : r ≡ A.Absent → [] ≡ key_found p key
+  pub key_absent : r ≡ (Ok None) → [] ≡ key_found p key
   unfolding key_found asked
   key_absent e = rw (← told, e)
 
-  pub key_refused : {k : ℕ} → r ≡ A.Refused k → [] ≡ key_found p key
+  pub key_refused : {k : ℕ} → r ≡ Err k → [] ≡ key_found p key
   unfolding key_found asked
   key_refused e = rw (← told, e)
 
@@ -141,7 +139,7 @@ module _ (n : ℕ) (inner : List ℕ) (d : Done) (out₀ : List ℕ) where
   pub walk_starts : Walk out₀ d 0 0
   walk_starts = record { within = omega arith; few = omega arith; found = []; gone = gone_none; rest = refl }
 
-  module _ {out exit : List ℕ} {said r : Done} {i at to : ℕ} {reading : Reading} (w : Walk out said i at) (e : EndsPiece inner at to) (is_read : reading ≡ hex_of (2 ^ 32 - 1) (part inner at to)) (now : Gone n said (unread (W.Piece i) (part inner at to) reading) out exit r) where
+  module _ {out exit : List ℕ} {said r : Done} {i at to : ℕ} {reading : Result ℕ BadNumber} (w : Walk out said i at) (e : EndsPiece inner at to) (is_read : reading ≡ hex_of (2 ^ 32 - 1) (part inner at to)) (now : Gone n said (unread (W.Piece i) (part inner at to) reading) out exit r) where
     this : List Finding
     this = unread (W.Piece i) (part inner at to) (hex_of (2 ^ 32 - 1) (part inner at to))
 
@@ -182,7 +180,7 @@ found_grouped p = go (key_found p K.Route) (key_found p K.Offset) (key_found p K
 
 module _ (t : List ℕ) where
   -- a line with a payload is not too long
-  pub line_short : {r : Payload} {place : Place} → PayloadAt t r → r ≡ P.At place → length t ≤ 4096
+  pub line_short : {r : Result Place Refusal} {place : Place} → PayloadAt t r → r ≡ Ok place → length t ≤ 4096
   unfolding payload_place
   line_short {r} {place} p e = go (frame_of t) refl (sym (ap payload_told e) ∙ p.is)
     where
@@ -192,7 +190,7 @@ module _ (t : List ℕ) where
       go (refused k) q x = absurd (let z : ◌≡◌ {A = ℕ} 0 1 = cc in omega arith)
 
   module _ {d : Done} {c : Counts} (counted : c ≡ with_line d.counts) where
-    pub line_there : {r : Payload} {place : Place} {paid : Counts} {out exit : List ℕ} {done : Done} → PayloadAt t r → r ≡ P.At place → paid ≡ with_payload c → Gone c.lines (record { sink = d.sink; counts = paid }) (found_in (part t place.from place.to)) out exit done → LineSaid t d out exit done
+    pub line_there : {r : Result Place Refusal} {place : Place} {paid : Counts} {out exit : List ℕ} {done : Done} → PayloadAt t r → r ≡ Ok place → paid ≡ with_payload c → Gone c.lines (record { sink = d.sink; counts = paid }) (found_in (part t place.from place.to)) out exit done → LineSaid t d out exit done
     unfolding findings found_at line_counts with_line
     line_there {r} {place} {paid} p e q g =
         let at_place : payload_place t ≡ is place = sym p.is ∙ ap payload_told e in
@@ -202,7 +200,7 @@ module _ (t : List ℕ) where
           counts = rw (at_place, ← counted, ← q) g.counts;
         }
 
-    pub line_refused : {r : Payload} {k : ℕ} {out : List ℕ} → PayloadAt t r → r ≡ P.Refused k → LineSaid t d out out (record { sink = d.sink; counts = c })
+    pub line_refused : {r : Result Place Refusal} {k : ℕ} {out : List ℕ} → PayloadAt t r → r ≡ Err k → LineSaid t d out out (record { sink = d.sink; counts = c })
     unfolding findings found_at line_counts rows_of tallied
     line_refused p e =
         let none : payload_place t ≡ refused _ = sym p.is ∙ ap payload_told e in

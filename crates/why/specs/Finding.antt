@@ -1,9 +1,9 @@
 -- The unreadable hex numbers of a line, in the order of their rows.
-use Rattle.std.specs.Prelude.{ℕ, ◌+◌, ◌-◌, ◌^◌, ◌<◌, ◌≡◌, List, [], ◌∷◌, ◌++◌}
+use Rattle.text.specs.declared.number.BadNumber.{BadNumber}
+use Rattle.text.specs.declared.number.BadNumber.TheVariants as BadNumber
+use Rattle.std.specs.Prelude.{ℕ, ◌+◌, ◌-◌, ◌^◌, ◌<◌, ◌≡◌, List, [], ◌∷◌, ◌++◌, Err, Ok, Result}
 use Rattle.text.specs.Told.{Told, is, absent, refused}
 use Rattle.text.specs.Number.{hex_of}
-use Rattle.text.specs.declared.number.Reading.{Reading}
-use Rattle.text.specs.declared.number.Reading.TheVariants as R
 use Rattle.pairs.specs.declared.pair.Span.{Span}
 use Rattle.pairs.specs.declared.pair.Span.TheVariants.{At, Nothing}
 use Rattle.pairs.specs.Pair.{part}
@@ -28,11 +28,11 @@ abbrev pub finding : What → List ℕ → Reason → Finding
 finding w s y = record { what = w; text = s; reason = y }
 
 -- what a text's reading leaves to tell: nothing of a number
-unfoldable pub unread : What → List ℕ → Reading → List Finding
-unread w s (R.Value v) = []
-unread w s R.Empty = finding w s Y.Empty ∷ []
-unread w s (R.BadDigit k) = finding w s (Y.BadDigit k) ∷ []
-unread w s R.TooWide = finding w s Y.TooWide ∷ []
+unfoldable pub unread : What → List ℕ → Result ℕ BadNumber → List Finding
+unread w s (Ok v) = []
+unread w s (Err BadNumber.Empty) = finding w s Y.Empty ∷ []
+unread w s (Err (BadNumber.BadDigit k)) = finding w s (Y.BadDigit k) ∷ []
+unread w s (Err BadNumber.TooWide) = finding w s Y.TooWide ∷ []
 
 -- the same of an answer about a part of the text; nothing of one that is absent
 unfoldable pub asked : What → List ℕ → Told HexText → List Finding
@@ -74,5 +74,5 @@ findings t = found_at t (payload_place t)
 -- ---- what is asked of callers
 
 -- a bad digit is in a text of n bytes
-abbrev pub ReadingWithin : Reading → ℕ → Type 0
-ReadingWithin reading n = (k : ℕ) → reading ≡ R.BadDigit k → k < n
+abbrev pub ReadingWithin : Result ℕ BadNumber → ℕ → Type 0
+ReadingWithin reading n = (k : ℕ) → reading ≡ Err (BadNumber.BadDigit k) → k < n

@@ -11,10 +11,10 @@ ghost use Rattle.pairs.specs.Data.{cut};
 use channel::sink::{Sink, say};
 use pairs::dwords::piece_end;
 use pairs::pair::Span;
-use reasons::payload::{Payload, find_data, payload_of};
-use reasons::{Answer, Key, key_in};
+use reasons::payload::{find_data, payload_of};
+use reasons::{Key, key_in};
 use std::io::Stdout;
-use text::number::{MAX_32, Reading, hex};
+use text::number::{MAX_32, hex};
 use why_rows::tally::{Counts, count_line, count_payload, count_reason};
 use why_rows::{Reason, What, put_row, put_totals};
 
@@ -34,7 +34,7 @@ pub fn say_line(output: Stdout, line: &[u8], row: &mut [u8], out: &mut [u8], don
     let counts = count_line(done.counts);
     let n = counts.lines;
     match payload_of(line) {
-        Payload::At(place) => {
+        Ok(place) => {
             let from = place.from;
             let to = place.to;
             let begun = Done {
@@ -43,7 +43,7 @@ pub fn say_line(output: Stdout, line: &[u8], row: &mut [u8], out: &mut [u8], don
             };
             say_payload(output, &line[from..to], n, row, out, begun)
         }
-        Payload::Refused(_) => Done {
+        Err(_) => Done {
             sink: sink,
             counts: counts,
         },
@@ -113,7 +113,7 @@ fn say_key(
     ensures { Gone n done (key_found payload.now key) out.old out.new result }
 {
     match key_in(payload, 0, key) {
-        Answer::Found(text) => {
+        Ok(Some(text)) => {
             let from = text.from;
             let to = text.to;
             let reading = text.reading;
@@ -128,8 +128,8 @@ fn say_key(
                 done,
             )
         }
-        Answer::Absent => done,
-        Answer::Refused(_) => done,
+        Ok(None) => done,
+        Err(_) => done,
     }
 }
 
@@ -191,7 +191,7 @@ fn say_text(
     text: &[u8],
     n: u64,
     what: What,
-    reading: Reading,
+    reading: Result<u64, BadNumber>,
     row: &mut [u8],
     out: &mut [u8],
     done: Done,
@@ -200,9 +200,9 @@ fn say_text(
     ensures { Gone n done (unread what text.now reading) out.old out.new result }
 {
     match reading {
-        Reading::Value(_) => done,
-        Reading::Empty => say_row(output, text, n, what, Reason::Empty, row, out, done),
-        Reading::BadDigit(place) => say_row(
+        Ok(_) => done,
+        Err(BadNumber::Empty) => say_row(output, text, n, what, Reason::Empty, row, out, done),
+        Err(BadNumber::BadDigit(place)) => say_row(
             output,
             text,
             n,
@@ -212,7 +212,7 @@ fn say_text(
             out,
             done,
         ),
-        Reading::TooWide => say_row(output, text, n, what, Reason::TooWide, row, out, done),
+        Err(BadNumber::TooWide) => say_row(output, text, n, what, Reason::TooWide, row, out, done),
     }
 }
 

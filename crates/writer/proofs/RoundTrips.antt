@@ -1,5 +1,8 @@
 -- The promises of writing: 37 and 36 are told exactly where their conditions hold; what is written reads back to the same entry; every record is what writing its entry
 -- gives; a refusal changes nothing; no second answer. Assumes nothing.
+use Rattle.std.specs.Prelude.{Err, Ok, Result}
+use Rattle.refusal.specs.declared.Refusal.{Refusal}
+use Rattle.refusal.specs.declared.Refusal.TheVariants as Refusal
 use Prim.Native.Nat.{ℕ, suc, ◌+◌, ◌-◌, ◌^◌, ◌≤◌, ◌<◌}
 use mathlib.Core.Path.{◌≡◌, ◌∙◌, sym, ap, refl}
 use mathlib.Core.Bool.{Bool, true, false, cond, false≢true}
@@ -14,7 +17,7 @@ use lib.Seq.{take-append_seam, get_or-take}
 use Rattle.text.specs.Class.{is_word}
 use Rattle.text.specs.Told as T
 use Rattle.text.proofs.Told.{by_cases, fixed_by_told}
-use Rattle.tlv.specs.Number.{Bytes as AreBytes}
+use Rattle.tlv.specs.Number.{Ok as AreBytes}
 use Rattle.tlv.specs.Grammar.{All}
 use Rattle.tlv.specs.Reading.{between}
 use Rattle.tlv.proofs.Places.{between_is, bytes_take}
@@ -29,8 +32,6 @@ use Rattle.record.proofs.Bodies.{fits_text_is, fits_text_all}
 use Rattle.record.proofs.Complete.{task_letter, function_letter}
 use Rattle.record.proofs.Sound.{task_byte, function_byte}
 use Rattle.record.proofs.Records.{Accepts, record_accepted_exactly, record_at_most_5227}
-use Rattle.writer.specs.declared.Written.{Written}
-use Rattle.writer.specs.declared.Written.TheVariants.{Bytes, Refused}
 use Rattle.writer.specs.Ranges.{fits_part, fits_texts, fits_numbers, writable}
 use Rattle.writer.specs.Typed.{Typed}
 use Rattle.writer.specs.Writing.{bytes_of, written_told, write_of, buffer_by, Writing}
@@ -142,12 +143,12 @@ module _ (text : List ℕ) (e : Entry) (dwords : List ℕ) where
   writable_exactly t = (writable_is t, writable_all)
 
 -- two answers that tell the same are the same
-pub one_written : (a b : Written) → written_told a ≡ written_told b → a ≡ b
-one_written = fixed_by_told written_told (by_cases Bytes (Refused 0) Refused) same
+pub one_written : (a b : Result ℕ Refusal) → written_told a ≡ written_told b → a ≡ b
+one_written = fixed_by_told written_told (by_cases Ok (Err 0) Err) same
   where
-    same : (a : Written) → by_cases Bytes (Refused 0) Refused (written_told a) ≡ a
-    same (Bytes n) = refl
-    same (Refused k) = refl
+    same : (a : Result ℕ Refusal) → by_cases Ok (Err 0) Err (written_told a) ≡ a
+    same (Ok n) = refl
+    same (Err k) = refl
 
 -- an answer that is bytes: the entry was writable, and the bytes are the record's
 bytes_answered : (text : List ℕ) (e : Entry) (dwords : List ℕ) (room n : ℕ) → write_of text e dwords room ≡ T.is n
@@ -165,7 +166,7 @@ bytes_answered text e dwords room n h =
 
 -- what was written is a record, and the record of what the entry says
 pub written_is_record : (text : List ℕ) (e : Entry) (dwords out : List ℕ) (n : ℕ) (left : List ℕ)
-    → Typed e dwords → Writing text e dwords out (Bytes n) left → IsRecord (take n left) (value_of e text dwords)
+    → Typed e dwords → Writing text e dwords out (Ok n) left → IsRecord (take n left) (value_of e text dwords)
 unfolding bytes_of buffer_by
 written_is_record text e dwords out n left t w =
     let h = bytes_answered text e dwords (length out) n (sym w.answer) in
@@ -183,7 +184,7 @@ pub record ReadsBack (text : List ℕ) (e : Entry) (dwords t slots : List ℕ) :
   pub same : SameEntry e text dwords entry t (over (dwords_of t) slots)
 
 pub record_reads_back : (text : List ℕ) (e : Entry) (dwords out : List ℕ) (n : ℕ) (left slots : List ℕ)
-    → Typed e dwords → AreBytes left → Writing text e dwords out (Bytes n) left → 256 ≤ length slots
+    → Typed e dwords → AreBytes left → Writing text e dwords out (Ok n) left → 256 ≤ length slots
     → ReadsBack text e dwords (take n left) slots
 record_reads_back text e dwords out n left slots t bytes w room =
     let h = bytes_answered text e dwords (length out) n (sym w.answer) in
@@ -213,21 +214,21 @@ record_writes_back t slots bytes enough v a room h =
 
 -- an entry that keeps the ranges, its parts in what is lent, is written where 5,227 bytes are lent: the answer is the record's length, and the record lies
 -- over the first bytes, all others as found
-pub writable_is_written : (text : List ℕ) (e : Entry) (dwords out : List ℕ) {r : Written} {left : List ℕ}
+pub writable_is_written : (text : List ℕ) (e : Entry) (dwords out : List ℕ) {r : Result ℕ Refusal} {left : List ℕ}
     → Writable text e dwords → 5227 ≤ length out → Writing text e dwords out r left
-    → (r ≡ Bytes (length (bytes_of text e dwords))) × (left ≡ over (bytes_of text e dwords) out)
+    → (r ≡ Ok (length (bytes_of text e dwords))) × (left ≡ over (bytes_of text e dwords) out)
 unfolding write_of bytes_of buffer_by
 writable_is_written text e dwords out {r} {left} w room c =
     let short : length (record_bytes (value_of e text dwords)) ≤ 5227 =
     record_at_most_5227 (record_bytes (value_of e text dwords)) (value_of e text dwords) (record { ranged = w.ranged; bytes = refl }) in
     let told : written_told r ≡ T.is (length (record_bytes (value_of e text dwords))) =
     c.answer ∙ rw (writable_all text e dwords w, le-leb (length (record_bytes (value_of e text dwords))) (length out) (omega (arith, short))) in
-    let answer : r ≡ Bytes (length (record_bytes (value_of e text dwords))) = one_written r (Bytes (length (record_bytes (value_of e text dwords)))) told in
+    let answer : r ≡ Ok (length (record_bytes (value_of e text dwords))) = one_written r (Ok (length (record_bytes (value_of e text dwords)))) told in
     (answer, c.buffer ∙ rw answer)
 
 -- a refusal changes nothing
 pub refused_writing_changes_nothing : (text : List ℕ) (e : Entry) (dwords out : List ℕ) (k : ℕ) (left : List ℕ)
-    → Writing text e dwords out (Refused k) left → left ≡ out
+    → Writing text e dwords out (Err k) left → left ≡ out
 unfolding buffer_by
 refused_writing_changes_nothing text e dwords out k left w = w.buffer
 
@@ -266,19 +267,19 @@ write_refused_exactly text e dwords typed room k = (is, all)
         rw (writable_all text e dwords w, lt-leb (length (record_bytes (value_of e text dwords))) room l, q)
 
 -- no second answer satisfies the contract, buffer included
-pub no_second_writing : (text : List ℕ) (e : Entry) (dwords out : List ℕ) {r s : Written} {left other : List ℕ}
+pub no_second_writing : (text : List ℕ) (e : Entry) (dwords out : List ℕ) {r s : Result ℕ Refusal} {left other : List ℕ}
     → Writing text e dwords out r left → Writing text e dwords out s other → (r ≡ s) × (left ≡ other)
 no_second_writing text e dwords out {r} {s} a b =
     let same : written_told r ≡ written_told s = a.answer ∙ sym b.answer in
     (one_written r s same, a.buffer ∙ rw same (sym b.buffer))
 
 -- every call has an answer: some answer tells what is told
-pub some_written : (text : List ℕ) (e : Entry) (dwords : List ℕ) (room : ℕ) → (r : Written) × (written_told r ≡ write_of text e dwords room)
+pub some_written : (text : List ℕ) (e : Entry) (dwords : List ℕ) (room : ℕ) → (r : Result ℕ Refusal) × (written_told r ≡ write_of text e dwords room)
 unfolding write_of
 some_written text e dwords room = go (writable text e dwords) (leb (length (bytes_of text e dwords)) room)
   where
     go : (x y : Bool)
-        → (r : Written) × (written_told r ≡ cond x (cond y (T.is (length (bytes_of text e dwords))) (T.refused 36)) (T.refused 37))
-    go false y = (Refused 37, refl)
-    go true false = (Refused 36, refl)
-    go true true = (Bytes (length (bytes_of text e dwords)), refl)
+        → (r : Result ℕ Refusal) × (written_told r ≡ cond x (cond y (T.is (length (bytes_of text e dwords))) (T.refused 36)) (T.refused 37))
+    go false y = (Err Refusal.BadEntry, refl)
+    go true false = (Err Refusal.ShortBuffer, refl)
+    go true true = (Ok (length (bytes_of text e dwords)), refl)

@@ -1,10 +1,13 @@
 -- The fields written tag by tag are the record's rows, the size computed is the record's length, and each way out is one of the ways to an answer.
 -- Assumes nothing.
+use Rattle.std.specs.Prelude.{Err, None, Ok, Option, Some}
+use Rattle.refusal.specs.declared.Refusal.{Refusal}
+use Rattle.refusal.specs.declared.Refusal.TheVariants as Refusal
 use Prim.Native.Nat.{ℕ, zero, suc, ◌+◌, ◌-◌, ◌≤◌, ◌<◌}
 use mathlib.Core.Path.{◌≡◌, ◌∙◌, sym, ap, refl}
 use mathlib.Core.Bool.{true, false, cond, ◌&&◌}
 use mathlib.Core.List.{List, [], ◌∷◌, ◌++◌}
-use mathlib.Core.Option.{Option, some, none, map}
+use mathlib.Core.Option.{map}
 use native.Mathlib.Omega.{arith}
 use borrow.Author.Tests.{leb-true, le-leb, lt-leb}
 use lib.Dec.{leb}
@@ -17,11 +20,7 @@ use Rattle.tlv.specs.Reading.{between}
 use Rattle.tlv.proofs.Numbers.{number_bytes_length}
 use Rattle.tlv.proofs.Pieces.{field_bytes_length}
 use Rattle.entry.specs.declared.Entry.{Entry}
-use Rattle.entry.specs.declared.optional.MaybeByte.{MaybeByte}
-use Rattle.entry.specs.declared.optional.MaybeByte.TheVariants as B
-use Rattle.entry.specs.declared.optional.MaybeWord.{MaybeWord}
-use Rattle.entry.specs.declared.optional.MaybeWord.TheVariants as W
-use Rattle.entry.specs.Entry.{part_of, byte_value, word_value, value_of, Lies}
+use Rattle.entry.specs.Entry.{part_of, value_of, Lies}
 use Rattle.record.specs.declared.rule.Letters.TheVariants as L
 use Rattle.record.specs.Grammar.{Row, placed, present, rows_of, record_bytes, dwords_bytes, flag}
 use Rattle.record.specs.Rule.{is_letter, fits_text}
@@ -29,7 +28,6 @@ use Rattle.record.proofs.Rows.{rows_from, size_of, present_length}
 use Rattle.record.proofs.Slots.{sets_over}
 use Rattle.writer.specs.declared.item.Item.{Item}
 use Rattle.writer.specs.declared.item.Item.TheVariants.{Nothing}
-use Rattle.writer.specs.declared.Written.TheVariants.{Bytes, Refused}
 use Rattle.writer.specs.Put.{Put}
 use Rattle.writer.specs.Item.{
   flag_item,
@@ -108,45 +106,45 @@ all_at P (x ∷ l) a d zero = a.0
 all_at P (x ∷ l) a d (suc n) = all_at P l a.1 d n
 
 module _ (text dwords : List ℕ) where
-  byte_lies : (m : MaybeByte) → ItemLies (byte_item m) text dwords
+  byte_lies : (m : Option ℕ) → ItemLies (byte_item m) text dwords
   unfolding byte_item ItemLies
-  byte_lies (B.Is b) = omega arith
-  byte_lies B.Absent = tt
+  byte_lies (Some b) = omega arith
+  byte_lies None = tt
 
-  word_lies : (m : MaybeWord) → ItemLies (word_item m) text dwords
+  word_lies : (m : Option ℕ) → ItemLies (word_item m) text dwords
   unfolding word_item ItemLies
-  word_lies (W.Is w) = omega arith
-  word_lies W.Absent = tt
+  word_lies (Some w) = omega arith
+  word_lies None = tt
 
-  byte_body : (m : MaybeByte) → map (number_bytes 1) (byte_value m) ≡ body_of (byte_item m) text dwords
-  unfolding byte_item byte_value
-  byte_body (B.Is b) = refl
-  byte_body B.Absent = refl
+  byte_body : (m : Option ℕ) → map (number_bytes 1) m ≡ body_of (byte_item m) text dwords
+  unfolding byte_item
+  byte_body (Some b) = refl
+  byte_body None = refl
 
-  word_body : (m : MaybeWord) → map (number_bytes 2) (word_value m) ≡ body_of (word_item m) text dwords
-  unfolding word_item word_value
-  word_body (W.Is w) = refl
-  word_body W.Absent = refl
+  word_body : (m : Option ℕ) → map (number_bytes 2) m ≡ body_of (word_item m) text dwords
+  unfolding word_item
+  word_body (Some w) = refl
+  word_body None = refl
 
-byte_size_lem : (m : MaybeByte) → size_of (map (number_bytes 1) (byte_value m)) ≡ byte_size m
-unfolding byte_size byte_value
-byte_size_lem (B.Is b) = omega (arith, number_bytes_length 1 b)
-byte_size_lem B.Absent = refl
-
-word_size_lem : (m : MaybeWord) → size_of (map (number_bytes 2) (word_value m)) ≡ word_size m
-unfolding word_size word_value
-word_size_lem (W.Is w) = omega (arith, number_bytes_length 2 w)
-word_size_lem W.Absent = refl
-
-byte_small : (m : MaybeByte) → byte_size m ≤ 4
+byte_size_lem : (m : Option ℕ) → size_of (map (number_bytes 1) (m)) ≡ byte_size m
 unfolding byte_size
-byte_small (B.Is b) = omega arith
-byte_small B.Absent = omega arith
+byte_size_lem (Some b) = omega (arith, number_bytes_length 1 b)
+byte_size_lem None = refl
 
-word_small : (m : MaybeWord) → word_size m ≤ 5
+word_size_lem : (m : Option ℕ) → size_of (map (number_bytes 2) (m)) ≡ word_size m
 unfolding word_size
-word_small (W.Is w) = omega arith
-word_small W.Absent = omega arith
+word_size_lem (Some w) = omega (arith, number_bytes_length 2 w)
+word_size_lem None = refl
+
+byte_small : (m : Option ℕ) → byte_size m ≤ 4
+unfolding byte_size
+byte_small (Some b) = omega arith
+byte_small None = omega arith
+
+word_small : (m : Option ℕ) → word_size m ≤ 5
+unfolding word_size
+word_small (Some w) = omega arith
+word_small None = omega arith
 
 module _ (text : List ℕ) (e : Entry) (dwords : List ℕ) where
   -- the rows of the entry's value are the bodies of its items
@@ -154,17 +152,17 @@ module _ (text : List ℕ) (e : Entry) (dwords : List ℕ) where
   unfolding rows_of value_of item_of flag_item
   rows_are =
       λ i.
-      record { tag = 0x01; body = some (part_of text e.task_at e.task_len) }
-      ∷ record { tag = 0x02; body = some (number_bytes 4 e.pid) }
-      ∷ record { tag = 0x03; body = some (number_bytes 2 e.cpu) }
-      ∷ record { tag = 0x04; body = some (number_bytes 8 e.seconds) }
-      ∷ record { tag = 0x05; body = some (number_bytes 8 e.microseconds) }
-      ∷ record { tag = 0x06; body = some (part_of text e.function_at e.function_len) }
-      ∷ record { tag = 0x07; body = some (number_bytes 1 e.kind) }
-      ∷ record { tag = 0x08; body = some (number_bytes 2 e.size) }
-      ∷ record { tag = 0x09; body = some (number_bytes 1 (flag e.dropped)) }
-      ∷ record { tag = 0x0A; body = some (number_bytes 4 e.domain) }
-      ∷ record { tag = 0x0B; body = some (number_bytes 8 e.route) }
+      record { tag = 0x01; body = Some (part_of text e.task_at e.task_len) }
+      ∷ record { tag = 0x02; body = Some (number_bytes 4 e.pid) }
+      ∷ record { tag = 0x03; body = Some (number_bytes 2 e.cpu) }
+      ∷ record { tag = 0x04; body = Some (number_bytes 8 e.seconds) }
+      ∷ record { tag = 0x05; body = Some (number_bytes 8 e.microseconds) }
+      ∷ record { tag = 0x06; body = Some (part_of text e.function_at e.function_len) }
+      ∷ record { tag = 0x07; body = Some (number_bytes 1 e.kind) }
+      ∷ record { tag = 0x08; body = Some (number_bytes 2 e.size) }
+      ∷ record { tag = 0x09; body = Some (number_bytes 1 (flag e.dropped)) }
+      ∷ record { tag = 0x0A; body = Some (number_bytes 4 e.domain) }
+      ∷ record { tag = 0x0B; body = Some (number_bytes 8 e.route) }
       ∷ record { tag = 0x0C; body = word_body text dwords e.offset i }
       ∷ record { tag = 0x0D; body = byte_body text dwords e.code i }
       ∷ record { tag = 0x0E; body = word_body text dwords e.len i }
@@ -172,7 +170,7 @@ module _ (text : List ℕ) (e : Entry) (dwords : List ℕ) where
       ∷ record { tag = 0x10; body = byte_body text dwords e.config i }
       ∷ record { tag = 0x11; body = byte_body text dwords e.seq i }
       ∷ record { tag = 0x12; body = byte_body text dwords e.unplug i }
-      ∷ record { tag = 0x13; body = some (dwords_bytes (part_of dwords 0 e.dwords)) }
+      ∷ record { tag = 0x13; body = Some (dwords_bytes (part_of dwords 0 e.dwords)) }
       ∷ []
 
   fields_from_lem : (n tag : ℕ) → fields_from n tag e text dwords ≡ fields_bytes (present (rows_from n tag (λ k. body_of (item_of e k) text dwords)))
@@ -183,8 +181,8 @@ module _ (text : List ℕ) (e : Entry) (dwords : List ℕ) where
       go : (o : Option (List ℕ)) → fields_from n (suc tag) e text dwords ≡ fields_bytes (present (rows_from n (suc tag) (λ k. body_of (item_of e k) text dwords)))
           → field_for tag o ++ fields_from n (suc tag) e text dwords
           ≡ fields_bytes (placed tag o (present (rows_from n (suc tag) (λ k. body_of (item_of e k) text dwords))))
-      go none h = h
-      go (some b) h = ap (λ (l : List ℕ). field_bytes tag b ++ l) h
+      go None h = h
+      go (Some b) h = ap (λ (l : List ℕ). field_bytes tag b ++ l) h
 
   -- the fields written are the record's fields
   pub fields_are : fields_from 19 1 e text dwords ≡ fields_bytes (present (rows_of (value_of e text dwords)))
@@ -248,7 +246,7 @@ module _ (text : List ℕ) (e : Entry) (dwords : List ℕ) where
 -- ---- the ways to an answer
 
 module _ (text : List ℕ) (e : Entry) (dwords out : List ℕ) where
-  pub refused_37 : writable text e dwords ≡ false → Writing text e dwords out (Refused 37) out
+  pub refused_37 : writable text e dwords ≡ false → Writing text e dwords out (Err Refusal.BadEntry) out
   unfolding write_of buffer_by
   refused_37 h = record { answer = rw h; buffer = refl }
 
@@ -266,14 +264,14 @@ module _ (text : List ℕ) (e : Entry) (dwords out : List ℕ) where
         → ItemsLie e text dwords × (n - 3 < 65536) × (3 + length (fields_from 19 1 e text dwords) ≤ length out)
     record_asks n s k = (items_lie text e dwords f, omega (arith, (size_small text e dwords f).1), omega (arith, size_is text e dwords f))
 
-    pub refused_36 : (n : ℕ) → n ≡ record_size e → length out < n → Writing text e dwords out (Refused 36) out
+    pub refused_36 : (n : ℕ) → n ≡ record_size e → length out < n → Writing text e dwords out (Err Refusal.ShortBuffer) out
     unfolding write_of buffer_by
     refused_36 n s k =
         let l : length (bytes_of text e dwords) ≡ n = length_is text e dwords f ∙ sym s in
         record { answer = rw (h, l, lt-leb n (length out) k); buffer = refl }
 
     pub written : (n : ℕ) → n ≡ record_size e → n ≤ length out → {r : ℕ} {left : List ℕ}
-        → Put out 0 (head_bytes 0xA1 (n - 3) ++ fields_from 19 1 e text dwords) r left → Writing text e dwords out (Bytes r) left
+        → Put out 0 (head_bytes 0xA1 (n - 3) ++ fields_from 19 1 e text dwords) r left → Writing text e dwords out (Ok r) left
     unfolding write_of buffer_by
     written n s k {r} {left} p =
         let l : length (bytes_of text e dwords) ≡ n = length_is text e dwords f ∙ sym s in

@@ -1,14 +1,9 @@
 -- The body of each tag, from the entry.
 -- Assumes nothing.
-use Rattle.std.specs.Prelude.{ℕ, zero, suc, ◌+◌, ◌*◌, ◌/◌, ◌%◌, ◌≤◌, ◌<◌, Bool, List, [], ◌∷◌, ◌++◌, length, get_or}
-use Rattle.std.proofs.Math.Option.{Option, some, none}
+use Rattle.std.specs.Prelude.{ℕ, zero, suc, ◌+◌, ◌*◌, ◌/◌, ◌%◌, ◌≤◌, ◌<◌, Bool, List, [], ◌∷◌, ◌++◌, length, get_or, None, Option, Some}
 use Rattle.tlv.specs.Number.{number_bytes}
 use Rattle.tlv.specs.Grammar.{field_bytes}
 use Rattle.entry.specs.declared.Entry.{Entry}
-use Rattle.entry.specs.declared.optional.MaybeByte.{MaybeByte}
-use Rattle.entry.specs.declared.optional.MaybeByte.TheVariants as B
-use Rattle.entry.specs.declared.optional.MaybeWord.{MaybeWord}
-use Rattle.entry.specs.declared.optional.MaybeWord.TheVariants as W
 use Rattle.entry.specs.Entry.{part_of}
 use Rattle.record.specs.Grammar.{flag, dwords_bytes}
 use Rattle.writer.specs.declared.item.Item.{Item}
@@ -18,13 +13,13 @@ use Rattle.writer.specs.declared.item.Item.TheVariants.{Text, Number, Dwords, No
 unfoldable pub flag_item : Bool → Item
 flag_item b = Number 1 (flag b)
 
-unfoldable pub byte_item : MaybeByte → Item
-byte_item (B.Is b) = Number 1 b
-byte_item B.Absent = Nothing
+unfoldable pub byte_item : Option ℕ → Item
+byte_item (Some b) = Number 1 b
+byte_item None = Nothing
 
-unfoldable pub word_item : MaybeWord → Item
-word_item (W.Is w) = Number 2 w
-word_item W.Absent = Nothing
+unfoldable pub word_item : Option ℕ → Item
+word_item (Some w) = Number 2 w
+word_item None = Nothing
 
 -- the bodies of tags 00, 01, 02 and so on; no record has the tag 00
 abbrev pub items : Entry → List Item
@@ -57,10 +52,10 @@ item_of e tag = get_or (items e) tag Nothing
 
 -- what a body is, given the text and the dwords
 abbrev pub body_of : Item → List ℕ → List ℕ → Option (List ℕ)
-body_of (Text from len) text dwords = some (part_of text from len)
-body_of (Number width n) text dwords = some (number_bytes width n)
-body_of (Dwords n) text dwords = some (dwords_bytes (part_of dwords 0 n))
-body_of Nothing text dwords = none
+body_of (Text from len) text dwords = Some (part_of text from len)
+body_of (Number width n) text dwords = Some (number_bytes width n)
+body_of (Dwords n) text dwords = Some (dwords_bytes (part_of dwords 0 n))
+body_of Nothing text dwords = None
 
 -- tag and length of a field
 unfoldable pub head_bytes : ℕ → ℕ → List ℕ
@@ -68,8 +63,8 @@ head_bytes tag size = tag ∷ size % 256 ∷ size / 256 ∷ []
 
 -- a field's bytes, none where it is absent
 abbrev pub field_for : ℕ → Option (List ℕ) → List ℕ
-field_for tag none = []
-field_for tag (some body) = field_bytes tag body
+field_for tag None = []
+field_for tag (Some body) = field_bytes tag body
 
 unfoldable pub item_bytes : ℕ → Item → List ℕ → List ℕ → List ℕ
 item_bytes tag item text dwords = field_for tag (body_of item text dwords)
@@ -90,13 +85,13 @@ abbrev pub ItemsLie : Entry → List ℕ → List ℕ → Type 0
 ItemsLie e text dwords = (tag : ℕ) → ItemLies (item_of e tag) text dwords
 
 -- the sizes of optional fields
-unfoldable pub byte_size : MaybeByte → ℕ
-byte_size (B.Is b) = 4
-byte_size B.Absent = 0
+unfoldable pub byte_size : Option ℕ → ℕ
+byte_size (Some b) = 4
+byte_size None = 0
 
-unfoldable pub word_size : MaybeWord → ℕ
-word_size (W.Is w) = 5
-word_size W.Absent = 0
+unfoldable pub word_size : Option ℕ → ℕ
+word_size (Some w) = 5
+word_size None = 0
 
 abbrev pub optional_size : Entry → ℕ
 optional_size e =

@@ -3,7 +3,6 @@ ghost use Rattle.std.specs.Prelude.{◌≡◌, ◌≤◌};
 ghost use Rattle.writer.specs.Item.{item_of, flag_item, byte_item, word_item, record_size, optional_size, byte_size, word_size};
 
 use entry::Entry;
-use entry::optional::{MaybeByte, MaybeWord};
 
 // What a field's body is made from.
 #[derive(Clone, Copy)]
@@ -86,21 +85,21 @@ fn flag(b: bool) -> Item
     if b { number(1, 1) } else { number(1, 0) }
 }
 
-fn byte(m: MaybeByte) -> Item
+fn byte(m: Option<u8>) -> Item
     ensures { result ≡ byte_item m }
 {
     match m {
-        MaybeByte::Is(b) => number(1, wide8(b)),
-        MaybeByte::Absent => Item::Nothing,
+        Some(b) => number(1, wide8(b)),
+        None => Item::Nothing,
     }
 }
 
-fn word(m: MaybeWord) -> Item
+fn word(m: Option<u16>) -> Item
     ensures { result ≡ word_item m }
 {
     match m {
-        MaybeWord::Is(w) => number(2, wide16(w)),
-        MaybeWord::Absent => Item::Nothing,
+        Some(w) => number(2, wide16(w)),
+        None => Item::Nothing,
     }
 }
 
@@ -145,20 +144,20 @@ fn optional_size(e: Entry) -> usize
     words + bytes + byte_size(seq) + byte_size(unplug)
 }
 
-fn byte_size(m: MaybeByte) -> usize
+fn byte_size(m: Option<u8>) -> usize
     ensures { (result ≡ byte_size m) × (result ≤ 4) }
 {
     match m {
-        MaybeByte::Is(_) => 4,
-        MaybeByte::Absent => 0,
+        Some(_) => 4,
+        None => 0,
     }
 }
 
-fn word_size(m: MaybeWord) -> usize
+fn word_size(m: Option<u16>) -> usize
     ensures { (result ≡ word_size m) × (result ≤ 5) }
 {
     match m {
-        MaybeWord::Is(_) => 5,
-        MaybeWord::Absent => 0,
+        Some(_) => 5,
+        None => 0,
     }
 }

@@ -18,26 +18,19 @@ use crate::check::is_writable;
 use crate::item::record_size;
 use crate::small::put_record;
 use entry::Entry;
-use refusal::{BAD_ENTRY, SHORT_BUFFER};
-
-// How many bytes were written, or document 01's number.
-#[derive(Clone, Copy)]
-pub enum Written {
-    Bytes(usize),
-    Refused(u8),
-}
+use refusal::Refusal;
 
 // The record of the entry, whose task and function lie in the text and whose dwords are the first of the dwords, into the first bytes of the
 // buffer; no others change. Refusals: 37, then 36. They leave the buffer as found.
-pub fn write(text: &[u8], e: Entry, dwords: &[u32], out: &mut [u8]) -> Written
+pub fn write(text: &[u8], e: Entry, dwords: &[u32], out: &mut [u8]) -> Result<usize, Refusal>
     ensures { Writing text.now e dwords.now out.old result out.new }
 {
     if !is_writable(text, e, dwords) {
-        return Written::Refused(BAD_ENTRY);
+        return Err(Refusal::BadEntry);
     }
     let size = record_size(e);
     if out.len() < size {
-        return Written::Refused(SHORT_BUFFER);
+        return Err(Refusal::ShortBuffer);
     }
-    Written::Bytes(put_record(out, size - 3, text, e, dwords))
+    Ok(put_record(out, size - 3, text, e, dwords))
 }

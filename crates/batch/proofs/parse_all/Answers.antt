@@ -10,5 +10,5 @@ parse_each-requires c = sym c.check-checked.ensures ∙ ap check_told c.in-Accep
 pub returns-in-Accepted : goal.returns-in-Accepted
 returns-in-Accepted c = c.parse_each.ensures
 
-pub returns-in-Refused : goal.returns-in-Refused
-returns-in-Refused c = refused_batch c.args.book.now (refused_20 c.args.book.now (sym c.check-checked.ensures ∙ ap check_told c.in-Refused.is)) c.args.kinds.now c.args.counts.now c.args.dwords.now c.args.places.now c.args.codes.now c.refuse_each.ensures
+pub returns-in-Err : goal.returns-in-Err
+returns-in-Err c = refused_batch c.args.book.now (refused_20 c.args.book.now (sym c.check-checked.ensures ∙ ap check_told c.in-Err.is)) c.args.kinds.now c.args.counts.now c.args.dwords.now c.args.places.now c.args.codes.now c.refuse_each.ensures

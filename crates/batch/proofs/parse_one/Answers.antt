@@ -8,14 +8,14 @@ use lib.ListN.{length}
 use mathlib.Core.Path.{sym, ap, ◌∙◌}
 use Rattle.batch.proofs.parse_one.Goals as goal
 
-pub shape_of-places-in-Packet : goal.shape_of-places-in-Packet
-shape_of-places-in-Packet c = ap length (c.parse_checked-answer.ensures.places ∙ ap (λ (r : Told Packet). list_by r (places_of c.args.kind c.args.book.now c.args.dwords.now) c.args.places.now) c.parse_checked-answer.ensures.answer) ∙ length_listed c.args.kind c.args.book.now c.args.dwords.now c.args.places.now
+pub shape_of-places-in-Ok : goal.shape_of-places-in-Ok
+shape_of-places-in-Ok c = ap length (c.parse_checked-answer.ensures.places ∙ ap (λ (r : Told Packet). list_by r (places_of c.args.kind c.args.book.now c.args.dwords.now) c.args.places.now) c.parse_checked-answer.ensures.answer) ∙ length_listed c.args.kind c.args.book.now c.args.dwords.now c.args.places.now
 
-pub returns-in-Packet : goal.returns-in-Packet
-returns-in-Packet c = record { code = c.start_code.ensures ∙ ap code_of (ap answer_told (sym c.in-Packet.is) ∙ c.parse_checked-answer.ensures.answer); places = c.parse_checked-answer.ensures.places ∙ ap (λ (r : Told Packet). list_by r (places_of c.args.kind c.args.book.now c.args.dwords.now) c.args.places.now) c.parse_checked-answer.ensures.answer }
+pub returns-in-Ok : goal.returns-in-Ok
+returns-in-Ok c = record { code = c.start_code.ensures ∙ ap code_of (ap answer_told (sym c.in-Ok.is) ∙ c.parse_checked-answer.ensures.answer); places = c.parse_checked-answer.ensures.places ∙ ap (λ (r : Told Packet). list_by r (places_of c.args.kind c.args.book.now c.args.dwords.now) c.args.places.now) c.parse_checked-answer.ensures.answer }
 
-pub shape_of-places-in-Refused : goal.shape_of-places-in-Refused
-shape_of-places-in-Refused c = ap length (c.parse_checked-answer.ensures.places ∙ ap (λ (r : Told Packet). list_by r (places_of c.args.kind c.args.book.now c.args.dwords.now) c.args.places.now) c.parse_checked-answer.ensures.answer) ∙ length_listed c.args.kind c.args.book.now c.args.dwords.now c.args.places.now
+pub shape_of-places-in-Err : goal.shape_of-places-in-Err
+shape_of-places-in-Err c = ap length (c.parse_checked-answer.ensures.places ∙ ap (λ (r : Told Packet). list_by r (places_of c.args.kind c.args.book.now c.args.dwords.now) c.args.places.now) c.parse_checked-answer.ensures.answer) ∙ length_listed c.args.kind c.args.book.now c.args.dwords.now c.args.places.now
 
-pub returns-in-Refused : goal.returns-in-Refused
-returns-in-Refused c = record { code = ap code_of (ap answer_told (sym c.in-Refused.is) ∙ c.parse_checked-answer.ensures.answer); places = c.parse_checked-answer.ensures.places ∙ ap (λ (r : Told Packet). list_by r (places_of c.args.kind c.args.book.now c.args.dwords.now) c.args.places.now) c.parse_checked-answer.ensures.answer }
+pub returns-in-Err : goal.returns-in-Err
+returns-in-Err c = record { code = ap code_of (ap answer_told (sym c.in-Err.is) ∙ c.parse_checked-answer.ensures.answer); places = c.parse_checked-answer.ensures.places ∙ ap (λ (r : Told Packet). list_by r (places_of c.args.kind c.args.book.now c.args.dwords.now) c.args.places.now) c.parse_checked-answer.ensures.answer }

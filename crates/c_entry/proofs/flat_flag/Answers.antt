@@ -2,10 +2,10 @@
 use Rattle.c_entry.specs.Flat.{flat_flag}
 use Rattle.c_entry.proofs.flat_flag.Goals as goal
 
-pub returns-in-Is : goal.returns-in-Is
+pub returns-in-Some : goal.returns-in-Some
 unfolding flat_flag
-returns-in-Is c = rw c.in-Is.is
+returns-in-Some c = rw c.in-Some.is
 
-pub returns-in-Absent : goal.returns-in-Absent
+pub returns-in-None : goal.returns-in-None
 unfolding flat_flag
-returns-in-Absent c = rw c.in-Absent.is
+returns-in-None c = rw c.in-None.is

@@ -6,6 +6,6 @@ pub returns-in-Entry : goal.returns-in-Entry
 unfolding answer_by
 returns-in-Entry c = rw c.in-Entry.is (λ i. record { number = 0; entry = c.flatten.ensures i })
 
-pub returns-in-Refused : goal.returns-in-Refused
+pub returns-in-Err : goal.returns-in-Err
 unfolding answer_by
-returns-in-Refused c = rw c.in-Refused.is (λ i. record { number = c.in-Refused.number; entry = c.blank_entry.ensures i })
+returns-in-Err c = rw c.in-Err.is (λ i. record { number = c.in-Err.number; entry = c.blank_entry.ensures i })

@@ -6,5 +6,5 @@ use Rattle.capi.proofs.ck_book_check.Goals as goal
 pub returns-in-Accepted : goal.returns-in-Accepted
 returns-in-Accepted c = rw (sym c.check.ensures ∙ ap check_told c.in-Accepted.is)
 
-pub returns-in-Refused : goal.returns-in-Refused
-returns-in-Refused c = rw (sym c.check.ensures ∙ ap check_told c.in-Refused.is)
+pub returns-in-Err : goal.returns-in-Err
+returns-in-Err c = rw (sym c.check.ensures ∙ ap check_told c.in-Err.is)

@@ -5,5 +5,5 @@ use Rattle.capi.proofs.ck_record_write.Goals as goal
 pub returns-in-Entry : goal.returns-in-Entry
 returns-in-Entry c = wrote_entry _ _ _ _ c.raise.ensures c.in-Entry.is c.write.ensures c.written_of.ensures
 
-pub returns-in-OutOfRange : goal.returns-in-OutOfRange
-returns-in-OutOfRange c = wrote_nothing _ _ _ _ c.raise.ensures c.in-OutOfRange.is c.written_of-in-OutOfRange.ensures
+pub returns-in-None : goal.returns-in-None
+returns-in-None c = wrote_nothing _ _ _ _ c.raise.ensures c.in-None.is c.written_of-in-None.ensures

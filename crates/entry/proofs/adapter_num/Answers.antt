@@ -5,16 +5,16 @@ use Rattle.entry.proofs.adapter_num.Goals as goal
 
 pub returns-then-c-eq33 : goal.returns-then-c-eq33
 unfolding adapter_of
-returns-then-c-eq33 c = rw (c.in-Is.is, eq-eqb _ _ c.if-c-eq33.true)
+returns-then-c-eq33 c = rw (c.in-Some.is, eq-eqb _ _ c.if-c-eq33.true)
 
 pub returns-then-c-eq36 : goal.returns-then-c-eq36
 unfolding adapter_of
-returns-then-c-eq36 c = rw (c.in-Is.is, ne_eqb _ _ c.if-c-eq33.false, eq-eqb _ _ c.if-c-eq36.true)
+returns-then-c-eq36 c = rw (c.in-Some.is, ne_eqb _ _ c.if-c-eq33.false, eq-eqb _ _ c.if-c-eq36.true)
 
 pub returns-else-c-eq36 : goal.returns-else-c-eq36
 unfolding adapter_of
-returns-else-c-eq36 c = rw (c.in-Is.is, ne_eqb _ _ c.if-c-eq33.false, ne_eqb _ _ c.if-c-eq36.false)
+returns-else-c-eq36 c = rw (c.in-Some.is, ne_eqb _ _ c.if-c-eq33.false, ne_eqb _ _ c.if-c-eq36.false)
 
-pub returns-in-Absent : goal.returns-in-Absent
+pub returns-in-None : goal.returns-in-None
 unfolding adapter_of
-returns-in-Absent c = rw c.in-Absent.is
+returns-in-None c = rw c.in-None.is

@@ -2,10 +2,10 @@
 use Rattle.entry.specs.Entry.{event_of_code}
 use Rattle.entry.proofs.event.Goals as goal
 
-pub returns-in-Is : goal.returns-in-Is
+pub returns-in-Some : goal.returns-in-Some
 unfolding event_of_code
-returns-in-Is c = rw (c.in-Is.is, c.from_code.ensures)
+returns-in-Some c = rw (c.in-Some.is, c.from_code.ensures)
 
-pub returns-in-Absent : goal.returns-in-Absent
+pub returns-in-None : goal.returns-in-None
 unfolding event_of_code
-returns-in-Absent c = rw c.in-Absent.is
+returns-in-None c = rw c.in-None.is

@@ -3,8 +3,8 @@ use Rattle.intake.proofs.Asking.{what_accepted, what_refused}
 use mathlib.Core.Path.{refl}
 use Rattle.intake.proofs.what_is.Goals as goal
 
-pub returns-in-Entry : goal.returns-in-Entry
-returns-in-Entry c = what_accepted c.args.text.now _ c.read.ensures refl c.in-Entry.is c.grammar_of.ensures
+pub returns-in-Ok : goal.returns-in-Ok
+returns-in-Ok c = what_accepted c.args.text.now _ c.read.ensures refl c.in-Ok.is c.grammar_of.ensures
 
-pub returns-in-Refused : goal.returns-in-Refused
-returns-in-Refused c = what_refused c.args.text.now _ c.read.ensures refl c.in-Refused.is
+pub returns-in-Err : goal.returns-in-Err
+returns-in-Err c = what_refused c.args.text.now _ c.read.ensures refl c.in-Err.is

@@ -4,5 +4,5 @@ use mathlib.Core.Path.{sym}
 use native.Mathlib.Omega.{arith}
 use Rattle.oracle_packet_rows.proofs.put_answer.Goals as goal
 
-pub slice_bounds-put_row-end-in-Packet : goal.slice_bounds-put_row-end-in-Packet
-slice_bounds-put_row-end-in-Packet c = sym (length-take-le _ _ (omega arith))
+pub slice_bounds-put_row-end-in-Ok : goal.slice_bounds-put_row-end-in-Ok
+slice_bounds-put_row-end-in-Ok c = sym (length-take-le _ _ (omega arith))

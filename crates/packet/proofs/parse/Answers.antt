@@ -10,5 +10,5 @@ parse_checked-requires c = sym c.check-checked.ensures ∙ ap check_told c.in-Ac
 pub returns-in-Accepted : goal.returns-in-Accepted
 returns-in-Accepted c = c.parse_checked.ensures
 
-pub returns-in-Refused : goal.returns-in-Refused
-returns-in-Refused c = parsed_20 c.args.kind c.args.book.now c.args.dwords.now c.args.places.now (sym c.check-checked.ensures ∙ ap check_told c.in-Refused.is)
+pub returns-in-Err : goal.returns-in-Err
+returns-in-Err c = parsed_20 c.args.kind c.args.book.now c.args.dwords.now c.args.places.now (sym c.check-checked.ensures ∙ ap check_told c.in-Err.is)

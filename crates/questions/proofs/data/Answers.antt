@@ -19,10 +19,10 @@ returns-in_default c =
     (own_cut 0 refl refl (omega arith) (omega arith) (sym (no_start kind s ds c.data_start-start.result c.in_default.not-Is) ∙ ap (view_at kind s ds) told))
 
 pub slice_bounds-result-count : goal.slice_bounds-result-count
-slice_bounds-result-count c = start_fits c.args.kind c.args.book.now c.args.dwords.now _ (ap word_told (sym c.in-Is.is) ∙ c.data_start-start.ensures)
+slice_bounds-result-count c = start_fits c.args.kind c.args.book.now c.args.dwords.now _ (ap word_told (sym c.in-Ok.is) ∙ c.data_start-start.ensures)
 
 pub slice_bounds-result-start : goal.slice_bounds-result-start
-slice_bounds-result-start c = omega (arith, start_fits c.args.kind c.args.book.now c.args.dwords.now _ (ap word_told (sym c.in-Is.is) ∙ c.data_start-start.ensures))
+slice_bounds-result-start c = omega (arith, start_fits c.args.kind c.args.book.now c.args.dwords.now _ (ap word_told (sym c.in-Ok.is) ∙ c.data_start-start.ensures))
 
 pub returns : goal.returns
 unfolding view_of
@@ -30,6 +30,6 @@ returns c =
     let kind = c.args.kind in
     let s = c.args.book.now in
     let ds = c.args.dwords.now in
-    let told = ap word_told (sym c.in-Is.is) ∙ c.data_start-start.ensures in
+    let told = ap word_told (sym c.in-Ok.is) ∙ c.data_start-start.ensures in
     own_from (ap view_place told)
-    (own_rest (start_fits kind s ds _ told) refl refl (omega arith) (rest_is c.in-Is.n ds ∙ ap (view_at kind s ds) told))
+    (own_rest (start_fits kind s ds _ told) refl refl (omega arith) (rest_is c.in-Ok.n ds ∙ ap (view_at kind s ds) told))

@@ -12,15 +12,15 @@ use mathlib.Core.Path.{sym, ◌∙◌}
 use Rattle.questions.proofs.data_address.Goals as goal
 
 pub slice_bounds-places-end : goal.slice_bounds-places-end
-slice_bounds-places-end c = (accepted c.parse-parsed.ensures refl c.in-Packet.is).fit
+slice_bounds-places-end c = (accepted c.parse-parsed.ensures refl c.in-Ok.is).fit
 
 pub slice_bounds-address_in-end : goal.slice_bounds-address_in-end
-slice_bounds-address_in-end c = sym (length-take-le (length c.args.dwords.now) _ (accepted c.parse-parsed.ensures refl c.in-Packet.is).fit)
+slice_bounds-address_in-end c = sym (length-take-le (length c.args.dwords.now) _ (accepted c.parse-parsed.ensures refl c.in-Ok.is).fit)
 
-pub returns-in-Packet : goal.returns-in-Packet
+pub returns-in-Ok : goal.returns-in-Ok
 unfolding address_of
-returns-in-Packet c = c.address_in.ensures ∙ answers_over c.parse-parsed.ensures refl c.in-Packet.is (λ (ps : List ℕ). address_in c.args.book.now c.args.dwords.now ps c.args.kind)
+returns-in-Ok c = c.address_in.ensures ∙ answers_over c.parse-parsed.ensures refl c.in-Ok.is (λ (ps : List ℕ). address_in c.args.book.now c.args.dwords.now ps c.args.kind)
 
-pub returns-in-Refused : goal.returns-in-Refused
+pub returns-in-Err : goal.returns-in-Err
 unfolding address_of
-returns-in-Refused c = refused_first c.parse-parsed.ensures refl c.in-Refused.is (address_in c.args.book.now c.args.dwords.now (places_of c.args.kind c.args.book.now c.args.dwords.now) c.args.kind)
+returns-in-Err c = refused_first c.parse-parsed.ensures refl c.in-Err.is (address_in c.args.book.now c.args.dwords.now (places_of c.args.kind c.args.book.now c.args.dwords.now) c.args.kind)

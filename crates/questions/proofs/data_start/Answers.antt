@@ -8,10 +8,10 @@ use mathlib.Core.Path.{refl}
 use mathlib.Core.Path.{◌∙◌}
 use Rattle.questions.proofs.data_start.Goals as goal
 
-pub returns-in-Packet : goal.returns-in-Packet
+pub returns-in-Ok : goal.returns-in-Ok
 unfolding start_of packet_of
-returns-in-Packet c = c.start_in.ensures ∙ answers_of c.parse-parsed.ensures refl c.in-Packet.is (λ (p : Packet). maybe_word p.start)
+returns-in-Ok c = c.start_in.ensures ∙ answers_of c.parse-parsed.ensures refl c.in-Ok.is (λ (p : Packet). maybe_word p.start)
 
-pub returns-in-Refused : goal.returns-in-Refused
+pub returns-in-Err : goal.returns-in-Err
 unfolding start_of packet_of
-returns-in-Refused c = refused_first c.parse-parsed.ensures refl c.in-Refused.is (maybe_word (packet_of c.args.kind c.args.book.now c.args.dwords.now).start)
+returns-in-Err c = refused_first c.parse-parsed.ensures refl c.in-Err.is (maybe_word (packet_of c.args.kind c.args.book.now c.args.dwords.now).start)

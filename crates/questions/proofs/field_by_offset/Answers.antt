@@ -12,15 +12,15 @@ use mathlib.Core.Path.{sym, ◌∙◌}
 use Rattle.questions.proofs.field_by_offset.Goals as goal
 
 pub slice_bounds-places-end : goal.slice_bounds-places-end
-slice_bounds-places-end c = (accepted c.parse-parsed.ensures refl c.in-Packet.is).fit
+slice_bounds-places-end c = (accepted c.parse-parsed.ensures refl c.in-Ok.is).fit
 
 pub slice_bounds-field_at-end : goal.slice_bounds-field_at-end
-slice_bounds-field_at-end c = sym (length-take-le (length c.args.dwords.now) _ (accepted c.parse-parsed.ensures refl c.in-Packet.is).fit)
+slice_bounds-field_at-end c = sym (length-take-le (length c.args.dwords.now) _ (accepted c.parse-parsed.ensures refl c.in-Ok.is).fit)
 
-pub returns-in-Packet : goal.returns-in-Packet
+pub returns-in-Ok : goal.returns-in-Ok
 unfolding field_by_offset
-returns-in-Packet c = c.field_at.ensures ∙ answers_over c.parse-parsed.ensures refl c.in-Packet.is (λ (ps : List ℕ). field_at c.args.book.now c.args.dwords.now ps c.args.kind c.args.offset)
+returns-in-Ok c = c.field_at.ensures ∙ answers_over c.parse-parsed.ensures refl c.in-Ok.is (λ (ps : List ℕ). field_at c.args.book.now c.args.dwords.now ps c.args.kind c.args.offset)
 
-pub returns-in-Refused : goal.returns-in-Refused
+pub returns-in-Err : goal.returns-in-Err
 unfolding field_by_offset
-returns-in-Refused c = refused_first c.parse-parsed.ensures refl c.in-Refused.is (field_at c.args.book.now c.args.dwords.now (places_of c.args.kind c.args.book.now c.args.dwords.now) c.args.kind c.args.offset)
+returns-in-Err c = refused_first c.parse-parsed.ensures refl c.in-Err.is (field_at c.args.book.now c.args.dwords.now (places_of c.args.kind c.args.book.now c.args.dwords.now) c.args.kind c.args.offset)

@@ -12,15 +12,15 @@ use mathlib.Core.Path.{sym, ◌∙◌}
 use Rattle.questions.proofs.packet_type.Goals as goal
 
 pub slice_bounds-places-end : goal.slice_bounds-places-end
-slice_bounds-places-end c = (accepted c.parse-parsed.ensures refl c.in-Packet.is).fit
+slice_bounds-places-end c = (accepted c.parse-parsed.ensures refl c.in-Ok.is).fit
 
 pub slice_bounds-type_in-end : goal.slice_bounds-type_in-end
-slice_bounds-type_in-end c = sym (length-take-le (length c.args.dwords.now) _ (accepted c.parse-parsed.ensures refl c.in-Packet.is).fit)
+slice_bounds-type_in-end c = sym (length-take-le (length c.args.dwords.now) _ (accepted c.parse-parsed.ensures refl c.in-Ok.is).fit)
 
-pub returns-in-Packet : goal.returns-in-Packet
+pub returns-in-Ok : goal.returns-in-Ok
 unfolding type_of
-returns-in-Packet c = c.type_in.ensures ∙ answers_over c.parse-parsed.ensures refl c.in-Packet.is (λ (ps : List ℕ). type_in c.args.book.now c.args.dwords.now ps)
+returns-in-Ok c = c.type_in.ensures ∙ answers_over c.parse-parsed.ensures refl c.in-Ok.is (λ (ps : List ℕ). type_in c.args.book.now c.args.dwords.now ps)
 
-pub returns-in-Refused : goal.returns-in-Refused
+pub returns-in-Err : goal.returns-in-Err
 unfolding type_of
-returns-in-Refused c = refused_first c.parse-parsed.ensures refl c.in-Refused.is (type_in c.args.book.now c.args.dwords.now (places_of c.args.kind c.args.book.now c.args.dwords.now))
+returns-in-Err c = refused_first c.parse-parsed.ensures refl c.in-Err.is (type_in c.args.book.now c.args.dwords.now (places_of c.args.kind c.args.book.now c.args.dwords.now))

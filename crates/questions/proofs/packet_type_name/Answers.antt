@@ -17,5 +17,5 @@ pub returns : goal.returns
 unfolding type_name
 returns c =
     let s = c.args.book.now in
-    let told = ap type_told (sym c.in-Is.is) ∙ c.packet_type-told.ensures in
+    let told = ap type_told (sym c.in-Ok.is) ∙ c.packet_type-told.ensures in
     text_is _ _ (ap (name_by c.args.kind s c.args.dwords.now) told) (ap (λ (t : Told PacketType). name_place s (named_place t)) told) c.name_in.ensures

@@ -8,10 +8,10 @@ use mathlib.Core.Path.{refl}
 use mathlib.Core.Path.{◌∙◌}
 use Rattle.questions.proofs.uuid.Goals as goal
 
-pub returns-in-Packet : goal.returns-in-Packet
+pub returns-in-Ok : goal.returns-in-Ok
 unfolding uuid_answer packet_of
-returns-in-Packet c = c.uuid_kept.ensures ∙ answers_of c.parse-parsed.ensures refl c.in-Packet.is (λ (p : Packet). maybe_uuid p.uuid)
+returns-in-Ok c = c.uuid_kept.ensures ∙ answers_of c.parse-parsed.ensures refl c.in-Ok.is (λ (p : Packet). maybe_uuid p.uuid)
 
-pub returns-in-Refused : goal.returns-in-Refused
+pub returns-in-Err : goal.returns-in-Err
 unfolding uuid_answer packet_of
-returns-in-Refused c = refused_first c.parse-parsed.ensures refl c.in-Refused.is (maybe_uuid (packet_of c.args.kind c.args.book.now c.args.dwords.now).uuid)
+returns-in-Err c = refused_first c.parse-parsed.ensures refl c.in-Err.is (maybe_uuid (packet_of c.args.kind c.args.book.now c.args.dwords.now).uuid)

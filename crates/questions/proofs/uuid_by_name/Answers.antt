@@ -12,15 +12,15 @@ use mathlib.Core.Path.{sym, ◌∙◌}
 use Rattle.questions.proofs.uuid_by_name.Goals as goal
 
 pub slice_bounds-places-end : goal.slice_bounds-places-end
-slice_bounds-places-end c = (accepted c.parse-parsed.ensures refl c.in-Packet.is).fit
+slice_bounds-places-end c = (accepted c.parse-parsed.ensures refl c.in-Ok.is).fit
 
 pub slice_bounds-uuid_in-end : goal.slice_bounds-uuid_in-end
-slice_bounds-uuid_in-end c = sym (length-take-le (length c.args.dwords.now) _ (accepted c.parse-parsed.ensures refl c.in-Packet.is).fit)
+slice_bounds-uuid_in-end c = sym (length-take-le (length c.args.dwords.now) _ (accepted c.parse-parsed.ensures refl c.in-Ok.is).fit)
 
-pub returns-in-Packet : goal.returns-in-Packet
+pub returns-in-Ok : goal.returns-in-Ok
 unfolding uuid_by_name
-returns-in-Packet c = c.uuid_in.ensures ∙ answers_over c.parse-parsed.ensures refl c.in-Packet.is (λ (ps : List ℕ). uuid_in c.args.book.now c.args.dwords.now ps c.args.name.now)
+returns-in-Ok c = c.uuid_in.ensures ∙ answers_over c.parse-parsed.ensures refl c.in-Ok.is (λ (ps : List ℕ). uuid_in c.args.book.now c.args.dwords.now ps c.args.name.now)
 
-pub returns-in-Refused : goal.returns-in-Refused
+pub returns-in-Err : goal.returns-in-Err
 unfolding uuid_by_name
-returns-in-Refused c = refused_first c.parse-parsed.ensures refl c.in-Refused.is (uuid_in c.args.book.now c.args.dwords.now (places_of c.args.kind c.args.book.now c.args.dwords.now) c.args.name.now)
+returns-in-Err c = refused_first c.parse-parsed.ensures refl c.in-Err.is (uuid_in c.args.book.now c.args.dwords.now (places_of c.args.kind c.args.book.now c.args.dwords.now) c.args.name.now)

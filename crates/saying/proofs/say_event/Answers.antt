@@ -12,10 +12,10 @@ slice_bounds-bytes-end c = name_within _ c.name_of-name.ensures
 pub slice_bounds-say-end : goal.slice_bounds-say-end
 slice_bounds-say-end c = sym (length-take-le _ _ (name_within _ c.name_of-name.ensures))
 
-pub returns-in-Is : goal.returns-in-Is
+pub returns-in-Some : goal.returns-in-Some
 unfolding event_text
-returns-in-Is c = rw c.in-Is.is (told_then (said_told c.say-worded.ensures) (told_same (name_start _ c.name_of-name.ensures) (said_told c.say.ensures)))
+returns-in-Some c = rw c.in-Some.is (told_then (said_told c.say-worded.ensures) (told_same (name_start _ c.name_of-name.ensures) (said_told c.say.ensures)))
 
-pub returns-in-Absent : goal.returns-in-Absent
+pub returns-in-None : goal.returns-in-None
 unfolding event_text
-returns-in-Absent c = rw c.in-Absent.is nothing_told
+returns-in-None c = rw c.in-None.is nothing_told

@@ -6,10 +6,10 @@ use mathlib.Core.Path.{sym, ap, ◌∙◌}
 use Rattle.scan.proofs.parse.Goals as goal
 
 pub parse_parted-requires : goal.parse_parted-requires
-parse_parted-requires c = frame_colon_within _ (sym c.read_frame.ensures ∙ ap frame_told c.in-Colon.is)
+parse_parted-requires c = frame_colon_within _ (sym c.read_frame.ensures ∙ ap frame_told c.in-Ok.is)
 
-pub returns-in-Colon : goal.returns-in-Colon
-returns-in-Colon c = line_read _ _ _ (sym c.read_frame.ensures ∙ ap frame_told c.in-Colon.is) c.parse_parted.ensures
+pub returns-in-Ok : goal.returns-in-Ok
+returns-in-Ok c = line_read _ _ _ (sym c.read_frame.ensures ∙ ap frame_told c.in-Ok.is) c.parse_parted.ensures
 
-pub returns-in-Refused : goal.returns-in-Refused
-returns-in-Refused c = line_refused _ _ _ (sym c.read_frame.ensures ∙ ap frame_told c.in-Refused.is)
+pub returns-in-Err : goal.returns-in-Err
+returns-in-Err c = line_refused _ _ _ (sym c.read_frame.ensures ∙ ap frame_told c.in-Err.is)

@@ -37,6 +37,6 @@ returns-in-Got c =
     parted_read _ _ _ _ (ap head_of (sym (between (take c.args.colon c.args.line.now) c.run_end-start.ensures.is c.run_start-size.ensures.is)) ∙ sym c.read_head.ensures ∙ ap head_told c.in-Got.is)
     (payload_same (between (take c.args.colon c.args.line.now) c.run_end-start.ensures.is c.run_start-size.ensures.is) c.run_end-start.ensures.is (c.strip-payload.ensures.is ∙ ap stripped (rest_is (c.args.colon + 1) c.args.line.now)) c.parse_payload.ensures)
 
-pub returns-in-Refused : goal.returns-in-Refused
+pub returns-in-Err : goal.returns-in-Err
 unfolding in_class
-returns-in-Refused c = parted_refused _ _ _ _ (ap head_of (sym (between (take c.args.colon c.args.line.now) c.run_end-start.ensures.is c.run_start-size.ensures.is)) ∙ sym c.read_head.ensures ∙ ap head_told c.in-Refused.is)
+returns-in-Err c = parted_refused _ _ _ _ (ap head_of (sym (between (take c.args.colon c.args.line.now) c.run_end-start.ensures.is c.run_start-size.ensures.is)) ∙ sym c.read_head.ensures ∙ ap head_told c.in-Err.is)

@@ -21,10 +21,10 @@ returns-in-Got-read_data c =
     let got = ap (body_of _) (sym (rest_is c.args.head.function c.args.header.now)) ∙ sym c.read_body.ensures ∙ ap body_told c.in-Got.is in
     payload_read _ _ _ _ _ _ got c.read_data.ensures c.in-Got-read_data.is c.assemble.ensures
 
-pub returns-in-Refused-read_data : goal.returns-in-Refused-read_data
-returns-in-Refused-read_data c =
+pub returns-in-Err-read_data : goal.returns-in-Err-read_data
+returns-in-Err-read_data c =
     let got = ap (body_of _) (sym (rest_is c.args.head.function c.args.header.now)) ∙ sym c.read_body.ensures ∙ ap body_told c.in-Got.is in
-    data_refused _ _ _ _ _ _ got c.read_data.ensures c.in-Refused-read_data.is
+    data_refused _ _ _ _ _ _ got c.read_data.ensures c.in-Err-read_data.is
 
-pub returns-in-Refused : goal.returns-in-Refused
-returns-in-Refused c = payload_refused _ _ _ _ _ _ (ap (body_of _) (sym (rest_is c.args.head.function c.args.header.now)) ∙ sym c.read_body.ensures ∙ ap body_told c.in-Refused.is)
+pub returns-in-Err : goal.returns-in-Err
+returns-in-Err c = payload_refused _ _ _ _ _ _ (ap (body_of _) (sym (rest_is c.args.head.function c.args.header.now)) ∙ sym c.read_body.ensures ∙ ap body_told c.in-Err.is)

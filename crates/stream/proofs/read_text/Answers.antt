@@ -2,8 +2,8 @@
 use Rattle.stream.proofs.Steps.{read_entry, read_refused}
 use Rattle.stream.proofs.read_text.Goals as goal
 
-pub returns-in-Entry : goal.returns-in-Entry
-returns-in-Entry c = read_entry _ _ _ _ c.read.ensures c.in-Entry.is
+pub returns-in-Ok : goal.returns-in-Ok
+returns-in-Ok c = read_entry _ _ _ _ c.read.ensures c.in-Ok.is
 
-pub returns-in-Refused : goal.returns-in-Refused
-returns-in-Refused c = read_refused _ _ _ _ c.read.ensures c.in-Refused.is
+pub returns-in-Err : goal.returns-in-Err
+returns-in-Err c = read_refused _ _ _ _ c.read.ensures c.in-Err.is

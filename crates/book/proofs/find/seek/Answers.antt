@@ -30,22 +30,22 @@ inner-requires c =
     let f = field_found c.args.book.now c.args.place (sym c.field_at-step.ensures ∙ c.in-Field.is) in
     rw (length-take c.in-Field.to c.args.book.now) (omega arith)
 
-pub returns-in-At : goal.returns-in-At
+pub returns-in-Some : goal.returns-in-Some
 unfolding seek_of first_wanted
-returns-in-At c =
+returns-in-Some c =
     let s : List ℕ = c.args.book.now in
     let u : List ℕ = take c.in-Field.to s in
     let is : field_at s c.args.place ≡ _ = sym c.field_at-step.ensures ∙ c.in-Field.is in
     let found : first_wanted c.args.want c.args.key.now u (inner_from c.in-Field.tag u c.in-Field.from) ≡ _ =
-    ap (first_wanted c.args.want c.args.key.now u) (sym c.inner.ensures) ∙ sym c.first-found.ensures ∙ c.in-At.is in
+    ap (first_wanted c.args.want c.args.key.now u) (sym c.inner.ensures) ∙ sym c.first-found.ensures ∙ c.in-Some.is in
     (sym (rw is (ap place_of found)), omega (arith, (first_bounds (wanted c.args.want c.args.key.now u) u _ _ found).1, length-take c.in-Field.to s))
 
-pub returns-in-Nothing : goal.returns-in-Nothing
+pub returns-in-None : goal.returns-in-None
 unfolding seek_of
-returns-in-Nothing c =
+returns-in-None c =
     let s : List ℕ = c.args.book.now in
     let u : List ℕ = take c.in-Field.to s in
     let is : field_at s c.args.place ≡ _ = sym c.field_at-step.ensures ∙ c.in-Field.is in
     let found : first_wanted c.args.want c.args.key.now u (inner_from c.in-Field.tag u c.in-Field.from) ≡ _ =
-    ap (first_wanted c.args.want c.args.key.now u) (sym c.inner.ensures) ∙ sym c.first-found.ensures ∙ c.in-Nothing.is in
+    ap (first_wanted c.args.want c.args.key.now u) (sym c.inner.ensures) ∙ sym c.first-found.ensures ∙ c.in-None.is in
     (sym (rw is (ap place_of found)), search rules)

@@ -7,10 +7,10 @@ use Rattle.capi.proofs.hexes.ck_hex_key.Goals as goal
 pub hex_answer-requires : goal.hex_answer-requires
 hex_answer-requires c = λ text e. (key_in_line _ _ text (sym c.ask_key.ensures ∙ e)).0
 
-pub returns-in-Is : goal.returns-in-Is
+pub returns-in-Some : goal.returns-in-Some
 unfolding key_told
-returns-in-Is c = c.hex_answer.ensures ∙ ap hex_by (c.ask_key.ensures ∙ rw (sym c.key_of.ensures ∙ c.in-Is.is))
+returns-in-Some c = c.hex_answer.ensures ∙ ap hex_by (c.ask_key.ensures ∙ rw (sym c.key_of.ensures ∙ c.in-Some.is))
 
-pub returns-in-Other : goal.returns-in-Other
+pub returns-in-None : goal.returns-in-None
 unfolding key_told
-returns-in-Other c = c.other_key.ensures ∙ ap hex_by (rw (sym c.key_of.ensures ∙ c.in-Other.is))
+returns-in-None c = c.other_key.ensures ∙ ap hex_by (rw (sym c.key_of.ensures ∙ c.in-None.is))

@@ -5,16 +5,16 @@ use mathlib.Core.Path.{ap, ◌∙◌}
 use Rattle.capi.proofs.hexes.hex_answer.Goals as goal
 
 pub text_answer-requires : goal.text_answer-requires
-text_answer-requires c = c.requires _ (ap answer_told c.in-Found.is)
+text_answer-requires c = c.requires _ (ap answer_told c.in-Ok.is)
 
-pub returns-in-Found : goal.returns-in-Found
+pub returns-in-Ok : goal.returns-in-Ok
 unfolding hex_by
-returns-in-Found c = c.text_answer.ensures ∙ rw c.in-Found.is
+returns-in-Ok c = c.text_answer.ensures ∙ rw c.in-Ok.is
 
-pub returns-in-Absent : goal.returns-in-Absent
+pub returns-in-Ok : goal.returns-in-Ok
 unfolding hex_by
-returns-in-Absent c = c.no_text.ensures ∙ rw c.in-Absent.is
+returns-in-Ok c = c.no_text.ensures ∙ rw c.in-Ok.is
 
-pub returns-in-Refused : goal.returns-in-Refused
+pub returns-in-Err : goal.returns-in-Err
 unfolding hex_by
-returns-in-Refused c = c.no_text-in-Refused.ensures ∙ rw c.in-Refused.is
+returns-in-Err c = c.no_text-in-Err.ensures ∙ rw c.in-Err.is

@@ -4,10 +4,10 @@ use Rattle.reasons.specs.Reasons.{payload_told}
 use mathlib.Core.Path.{sym, ap, ◌∙◌}
 use Rattle.capi.proofs.hexes.other_key.Goals as goal
 
-pub returns-in-At : goal.returns-in-At
+pub returns-in-Ok : goal.returns-in-Ok
 unfolding hex_by other_key
-returns-in-At c = c.no_text.ensures ∙ rw (sym c.payload_of.ensures.is ∙ ap payload_told c.in-At.is)
+returns-in-Ok c = c.no_text.ensures ∙ rw (sym c.payload_of.ensures.is ∙ ap payload_told c.in-Ok.is)
 
-pub returns-in-Refused : goal.returns-in-Refused
+pub returns-in-Err : goal.returns-in-Err
 unfolding hex_by other_key
-returns-in-Refused c = c.no_text-in-Refused.ensures ∙ rw (sym c.payload_of.ensures.is ∙ ap payload_told c.in-Refused.is)
+returns-in-Err c = c.no_text-in-Err.ensures ∙ rw (sym c.payload_of.ensures.is ∙ ap payload_told c.in-Err.is)

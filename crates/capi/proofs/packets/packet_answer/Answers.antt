@@ -4,10 +4,10 @@ use Rattle.packet.specs.Packet.{answer_told}
 use mathlib.Core.Path.{sym, ap, ◌∙◌}
 use Rattle.capi.proofs.packets.packet_answer.Goals as goal
 
-pub returns-in-Packet : goal.returns-in-Packet
+pub returns-in-Ok : goal.returns-in-Ok
 unfolding packet_by
-returns-in-Packet c = c.made.ensures ∙ ap packet_by (ap answer_told (sym c.in-Packet.is))
+returns-in-Ok c = c.made.ensures ∙ ap packet_by (ap answer_told (sym c.in-Ok.is))
 
-pub returns-in-Refused : goal.returns-in-Refused
+pub returns-in-Err : goal.returns-in-Err
 unfolding packet_by
-returns-in-Refused c = c.with_uuid.ensures ∙ ap packet_by (ap answer_told (sym c.in-Refused.is))
+returns-in-Err c = c.with_uuid.ensures ∙ ap packet_by (ap answer_told (sym c.in-Err.is))

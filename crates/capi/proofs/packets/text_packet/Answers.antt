@@ -4,10 +4,10 @@ use Rattle.packet.specs.Packet.{answer_told}
 use mathlib.Core.Path.{sym, ap, ◌∙◌}
 use Rattle.capi.proofs.packets.text_packet.Goals as goal
 
-pub returns-in-Packet : goal.returns-in-Packet
+pub returns-in-Ok : goal.returns-in-Ok
 unfolding text_by
-returns-in-Packet c = c.of_packet.ensures ∙ ap text_by (ap answer_told (sym c.in-Packet.is))
+returns-in-Ok c = c.of_packet.ensures ∙ ap text_by (ap answer_told (sym c.in-Ok.is))
 
-pub returns-in-Refused : goal.returns-in-Refused
+pub returns-in-Err : goal.returns-in-Err
 unfolding text_by
-returns-in-Refused c = (λ i. record { kind = 0; dwords = 0; packet = c.packet_answer.ensures i }) ∙ ap text_by (ap answer_told (sym c.in-Refused.is))
+returns-in-Err c = (λ i. record { kind = 0; dwords = 0; packet = c.packet_answer.ensures i }) ∙ ap text_by (ap answer_told (sym c.in-Err.is))

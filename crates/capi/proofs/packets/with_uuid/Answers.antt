@@ -2,8 +2,8 @@
 use mathlib.Core.Path.{◌∙◌}
 use Rattle.capi.proofs.packets.with_uuid.Goals as goal
 
-pub returns-in-Is : goal.returns-in-Is
-returns-in-Is c = c.whole.ensures ∙ rw (c.in-Is.is, c.flat_word.ensures)
+pub returns-in-Some : goal.returns-in-Some
+returns-in-Some c = c.whole.ensures ∙ rw (c.in-Some.is, c.flat_word.ensures)
 
-pub returns-in-Absent : goal.returns-in-Absent
-returns-in-Absent c = c.whole-in-Absent.ensures ∙ rw (c.in-Absent.is, c.flat_word-in-Absent.ensures)
+pub returns-in-None : goal.returns-in-None
+returns-in-None c = c.whole-in-None.ensures ∙ rw (c.in-None.is, c.flat_word-in-None.ensures)

@@ -2,10 +2,10 @@ use Rattle.capi.specs.Requests.{count_by}
 use Rattle.pending.specs.Table.{waiting_told}
 use Rattle.capi.proofs.requests.count_answer.Goals as goal
 
-pub returns-in-Count : goal.returns-in-Count
+pub returns-in-Ok : goal.returns-in-Ok
 unfolding count_by waiting_told
-returns-in-Count c = rw c.in-Count.is
+returns-in-Ok c = rw c.in-Ok.is
 
-pub returns-in-Refused : goal.returns-in-Refused
+pub returns-in-Err : goal.returns-in-Err
 unfolding count_by waiting_told
-returns-in-Refused c = rw c.in-Refused.is
+returns-in-Err c = rw c.in-Err.is

@@ -2,14 +2,14 @@ use Rattle.capi.specs.Requests.{place_by}
 use Rattle.pending.specs.Table.{place_told}
 use Rattle.capi.proofs.requests.place_answer.Goals as goal
 
-pub returns-in-At : goal.returns-in-At
+pub returns-in-Ok : goal.returns-in-Ok
 unfolding place_by place_told
-returns-in-At c = rw c.in-At.is
+returns-in-Ok c = rw c.in-Ok.is
 
-pub returns-in-Nowhere : goal.returns-in-Nowhere
+pub returns-in-Ok : goal.returns-in-Ok
 unfolding place_by place_told
-returns-in-Nowhere c = rw c.in-Nowhere.is
+returns-in-Ok c = rw c.in-Ok.is
 
-pub returns-in-Refused : goal.returns-in-Refused
+pub returns-in-Err : goal.returns-in-Err
 unfolding place_by place_told
-returns-in-Refused c = rw c.in-Refused.is
+returns-in-Err c = rw c.in-Err.is

@@ -29,6 +29,6 @@ pub returns-in-Stray : goal.returns-in-Stray
 unfolding step_by
 returns-in-Stray c = rw (c.in-Stray.is, ← c.reported-in-Stray.ensures)
 
-pub returns-in-Refused : goal.returns-in-Refused
+pub returns-in-Err : goal.returns-in-Err
 unfolding step_by
-returns-in-Refused c = rw c.in-Refused.is
+returns-in-Err c = rw c.in-Err.is

@@ -8,5 +8,5 @@ returns-in-Is c = c.whole_field.ensures ∙ rw c.in-Is.is
 pub returns-in-Absent : goal.returns-in-Absent
 returns-in-Absent c = c.no_field.ensures ∙ rw c.in-Absent.is
 
-pub returns-in-Refused : goal.returns-in-Refused
-returns-in-Refused c = c.no_field-in-Refused.ensures ∙ rw c.in-Refused.is
+pub returns-in-Err : goal.returns-in-Err
+returns-in-Err c = c.no_field-in-Err.ensures ∙ rw c.in-Err.is

@@ -8,5 +8,5 @@ returns-in-Is c = c.uuid_of.ensures ∙ rw c.in-Is.is
 pub returns-in-Absent : goal.returns-in-Absent
 returns-in-Absent c = c.uuid_of-in-Absent.ensures ∙ rw (c.in-Absent.is, c.no_uuid.ensures)
 
-pub returns-in-Refused : goal.returns-in-Refused
-returns-in-Refused c = c.uuid_of-in-Refused.ensures ∙ rw (c.in-Refused.is, c.no_uuid-in-Refused.ensures)
+pub returns-in-Err : goal.returns-in-Err
+returns-in-Err c = c.uuid_of-in-Err.ensures ∙ rw (c.in-Err.is, c.no_uuid-in-Err.ensures)

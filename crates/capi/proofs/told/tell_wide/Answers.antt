@@ -5,5 +5,5 @@ use Rattle.capi.proofs.told.tell_wide.Goals as goal
 pub returns-in-Is : goal.returns-in-Is
 returns-in-Is c = c.value_of.ensures ∙ rw c.in-Is.is
 
-pub returns-in-Refused : goal.returns-in-Refused
-returns-in-Refused c = c.value_of-in-Refused.ensures ∙ rw c.in-Refused.is
+pub returns-in-Err : goal.returns-in-Err
+returns-in-Err c = c.value_of-in-Err.ensures ∙ rw c.in-Err.is

@@ -1,8 +1,8 @@
 -- `field::table::is_in_header` meets its contract, by the table that is found. Assumes nothing.
+use Rattle.std.specs.Prelude.{Option, ℕ}
 use Rattle.field.specs.Source.{stands_in}
-use Rattle.text.specs.declared.place.Found.{Found}
 use mathlib.Core.Path.{ap, ◌∙◌}
 use Rattle.field.proofs.table.is_in_header.Goals as goal
 
 pub returns : goal.returns
-returns c = c.is_in.ensures ∙ ap (λ (t : Found). stands_in c.args.book.now t c.args.entry) c.uuid_table-header.ensures
+returns c = c.is_in.ensures ∙ ap (λ (t : Option ℕ). stands_in c.args.book.now t c.args.entry) c.uuid_table-header.ensures

@@ -2,11 +2,11 @@
 use Rattle.filters.proofs.UnitTexts.{count_entry, count_refused, count_none}
 use Rattle.filters.proofs.row.count.Goals as goal
 
-pub returns-in-Entry : goal.returns-in-Entry
-returns-in-Entry c = count_entry _ c.in-Entry.is c.more.ensures c.more-in-Entry.ensures
+pub returns-in-Ok : goal.returns-in-Ok
+returns-in-Ok c = count_entry _ c.in-Ok.is c.more.ensures c.more-in-Ok.ensures
 
-pub returns-in-Refused : goal.returns-in-Refused
-returns-in-Refused c = count_refused _ c.in-Refused.is c.more-in-Refused.ensures
+pub returns-in-Err : goal.returns-in-Err
+returns-in-Err c = count_refused _ c.in-Err.is c.more-in-Err.ensures
 
-pub returns-in-Nothing : goal.returns-in-Nothing
-returns-in-Nothing c = count_none _ c.in-Nothing.is
+pub returns-in-Ok : goal.returns-in-Ok
+returns-in-Ok c = count_none _ c.in-Ok.is

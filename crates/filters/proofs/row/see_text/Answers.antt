@@ -3,8 +3,8 @@ use Rattle.filters.proofs.UnitTexts.{text_entry, text_refused}
 use mathlib.Core.Path.{refl}
 use Rattle.filters.proofs.row.see_text.Goals as goal
 
-pub returns-in-Entry : goal.returns-in-Entry
-returns-in-Entry c = text_entry {k = 256} refl _ c.parse.ensures.answer c.in-Entry.is
+pub returns-in-Ok : goal.returns-in-Ok
+returns-in-Ok c = text_entry {k = 256} refl _ c.parse.ensures.answer c.in-Ok.is
 
-pub returns-in-Refused : goal.returns-in-Refused
-returns-in-Refused c = text_refused {k = 256} refl _ c.parse.ensures.answer c.in-Refused.is
+pub returns-in-Err : goal.returns-in-Err
+returns-in-Err c = text_refused {k = 256} refl _ c.parse.ensures.answer c.in-Err.is

@@ -8,10 +8,10 @@ pub loop-k-init : goal.loop-k-init
 loop-k-init c = seeking_starts _
 
 pub is_cpu-requires : goal.is_cpu-requires
-is_cpu-requires c = (next_bracket c.args.h.now (sym c.first.ensures ∙ c.in-At.is)).within
+is_cpu-requires c = (next_bracket c.args.h.now (sym c.first.ensures ∙ c.in-Some.is)).within
 
 pub overflow_add-from : goal.overflow_add-from
-overflow_add-from c = omega (arith, (next_bracket c.args.h.now (sym c.first.ensures ∙ c.in-At.is)).within)
+overflow_add-from c = omega (arith, (next_bracket c.args.h.now (sym c.first.ensures ∙ c.in-Some.is)).within)
 
 pub overflow_add-end : goal.overflow_add-end
 overflow_add-end c = omega (arith, cpu_within _ _ (sym c.is_cpu.ensures ∙ c.if-is_cpu.true))
@@ -25,17 +25,17 @@ slice_bounds-decimal-end c = omega (arith, cpu_within _ _ (sym c.is_cpu.ensures 
 pub returns-then-is_cpu : goal.returns-then-is_cpu
 returns-then-is_cpu c =
     c.decimal.ensures
-    ∙ three_long _ c.args.h.now c.in-At.k
-    ∙ cpu_some _ (seeking_hits _ c.loop-k.invariant (sym c.first.ensures ∙ c.in-At.is) (sym c.is_cpu.ensures ∙ c.if-is_cpu.true))
+    ∙ three_long _ c.args.h.now c.in-Some.k
+    ∙ cpu_some _ (seeking_hits _ c.loop-k.invariant (sym c.first.ensures ∙ c.in-Some.is) (sym c.is_cpu.ensures ∙ c.if-is_cpu.true))
 
 pub overflow_add-i : goal.overflow_add-i
-overflow_add-i c = omega (arith, (next_bracket c.args.h.now (sym c.first.ensures ∙ c.in-At.is)).within)
+overflow_add-i c = omega (arith, (next_bracket c.args.h.now (sym c.first.ensures ∙ c.in-Some.is)).within)
 
 pub loop-k-smaller : goal.loop-k-smaller
-loop-k-smaller c = omega (arith, (next_bracket c.args.h.now (sym c.first.ensures ∙ c.in-At.is)).from, (next_bracket c.args.h.now (sym c.first.ensures ∙ c.in-At.is)).within)
+loop-k-smaller c = omega (arith, (next_bracket c.args.h.now (sym c.first.ensures ∙ c.in-Some.is)).from, (next_bracket c.args.h.now (sym c.first.ensures ∙ c.in-Some.is)).within)
 
 pub loop-k-preserved : goal.loop-k-preserved
-loop-k-preserved c = seeking_steps _ c.loop-k.invariant (sym c.first.ensures ∙ c.in-At.is) (sym c.is_cpu.ensures ∙ c.if-is_cpu.false)
+loop-k-preserved c = seeking_steps _ c.loop-k.invariant (sym c.first.ensures ∙ c.in-Some.is) (sym c.is_cpu.ensures ∙ c.if-is_cpu.false)
 
-pub returns-in-Nothing : goal.returns-in-Nothing
-returns-in-Nothing c = cpu_none _ (seeking_ends _ c.loop-k.invariant (sym c.first.ensures ∙ c.in-Nothing.is))
+pub returns-in-None : goal.returns-in-None
+returns-in-None c = cpu_none _ (seeking_ends _ c.loop-k.invariant (sym c.first.ensures ∙ c.in-None.is))

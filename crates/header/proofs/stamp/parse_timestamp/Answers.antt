@@ -10,22 +10,22 @@ pub loop-c-init : goal.loop-c-init
 loop-c-init c = seeking_starts _
 
 pub parts_before-requires : goal.parts_before-requires
-parts_before-requires c = eqb-true _ _ (next_colon _ (sym c.first.ensures ∙ c.in-At.is)).here
+parts_before-requires c = eqb-true _ _ (next_colon _ (sym c.first.ensures ∙ c.in-Some.is)).here
 
 pub read_stamp-requires : goal.read_stamp-requires
-read_stamp-requires c = parts_some _ _ c.parts_before.ensures c.in-At-parts_before.is
+read_stamp-requires c = parts_some _ _ c.parts_before.ensures c.in-Some-parts_before.is
 
-pub returns-in-At-parts_before : goal.returns-in-At-parts_before
-returns-in-At-parts_before c = c.read_stamp.ensures ∙ stamp_some _ (seeking_hits _ c.loop-c.invariant (sym c.first.ensures ∙ c.in-At.is) (parts_some _ _ c.parts_before.ensures c.in-At-parts_before.is))
+pub returns-in-Some-parts_before : goal.returns-in-Some-parts_before
+returns-in-Some-parts_before c = c.read_stamp.ensures ∙ stamp_some _ (seeking_hits _ c.loop-c.invariant (sym c.first.ensures ∙ c.in-Some.is) (parts_some _ _ c.parts_before.ensures c.in-Some-parts_before.is))
 
 pub overflow_add-i : goal.overflow_add-i
-overflow_add-i c = omega (arith, (next_colon _ (sym c.first.ensures ∙ c.in-At.is)).within)
+overflow_add-i c = omega (arith, (next_colon _ (sym c.first.ensures ∙ c.in-Some.is)).within)
 
 pub loop-c-smaller : goal.loop-c-smaller
-loop-c-smaller c = let colon = next_colon _ (sym c.first.ensures ∙ c.in-At.is) in omega (arith, colon.from, colon.within)
+loop-c-smaller c = let colon = next_colon _ (sym c.first.ensures ∙ c.in-Some.is) in omega (arith, colon.from, colon.within)
 
 pub loop-c-preserved : goal.loop-c-preserved
-loop-c-preserved c = seeking_steps _ c.loop-c.invariant (sym c.first.ensures ∙ c.in-At.is) (parts_none _ _ c.parts_before.ensures c.in_default.is)
+loop-c-preserved c = seeking_steps _ c.loop-c.invariant (sym c.first.ensures ∙ c.in-Some.is) (parts_none _ _ c.parts_before.ensures c.in_default.is)
 
-pub returns-in-Nothing : goal.returns-in-Nothing
-returns-in-Nothing c = stamp_none _ (seeking_ends _ c.loop-c.invariant (sym c.first.ensures ∙ c.in-Nothing.is))
+pub returns-in-None : goal.returns-in-None
+returns-in-None c = stamp_none _ (seeking_ends _ c.loop-c.invariant (sym c.first.ensures ∙ c.in-None.is))

@@ -34,4 +34,4 @@ pub returns-in_default-decimal : goal.returns-in_default-decimal
 returns-in_default-decimal c = read_half _ _ _ _ (sym (run_all is_digit _ c.requires.whole)) (sym (run_all is_digit _ c.requires.digits)) (sym c.decimal-2.ensures ∙ c.in_default-decimal.is)
 
 pub returns : goal.returns
-returns c = read_both _ _ _ _ (sym (run_all is_digit _ c.requires.whole)) (sym (run_all is_digit _ c.requires.digits)) (sym c.decimal.ensures ∙ c.in-Value.is) (sym c.decimal-2.ensures ∙ c.in-Value-decimal.is)
+returns c = read_both _ _ _ _ (sym (run_all is_digit _ c.requires.whole)) (sym (run_all is_digit _ c.requires.digits)) (sym c.decimal.ensures ∙ c.in-Some.is) (sym c.decimal-2.ensures ∙ c.in-Some-decimal.is)

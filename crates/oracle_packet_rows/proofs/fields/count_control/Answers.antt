@@ -7,4 +7,4 @@ pub returns-in_default : goal.returns-in_default
 returns-in_default c = no_table _ _ (sym c.control_table.ensures ∙ c.in_default.is)
 
 pub returns : goal.returns
-returns c = some_table _ _ (sym c.control_table.ensures ∙ c.in-At.is) c.count_entries.ensures
+returns c = some_table _ _ (sym c.control_table.ensures ∙ c.in-Some.is) c.count_entries.ensures

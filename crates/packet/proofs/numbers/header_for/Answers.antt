@@ -10,10 +10,10 @@ pub returns-then-not-is_xdomain_kind : goal.returns-then-not-is_xdomain_kind
 unfolding header_for
 returns-then-not-is_xdomain_kind c = let e : is_xdomain c.args.kind ≡ false = sym c.is_xdomain_kind.ensures ∙ not-true _ c.if-not-is_xdomain_kind.true-raw in rw e
 
-pub returns-in-At : goal.returns-in-At
+pub returns-in-Some : goal.returns-in-Some
 unfolding header_for
-returns-in-At c = let e : is_xdomain c.args.kind ≡ true = sym c.is_xdomain_kind.ensures ∙ not-false _ c.if-not-is_xdomain_kind.false-raw in rw (e, sym c.uuid_table-found.ensures, c.in-At.is)
+returns-in-Some c = let e : is_xdomain c.args.kind ≡ true = sym c.is_xdomain_kind.ensures ∙ not-false _ c.if-not-is_xdomain_kind.false-raw in rw (e, sym c.uuid_table-found.ensures, c.in-Some.is)
 
-pub returns-in-Nothing : goal.returns-in-Nothing
+pub returns-in-None : goal.returns-in-None
 unfolding header_for
-returns-in-Nothing c = let e : is_xdomain c.args.kind ≡ true = sym c.is_xdomain_kind.ensures ∙ not-false _ c.if-not-is_xdomain_kind.false-raw in rw (e, sym c.uuid_table-found.ensures, c.in-Nothing.is)
+returns-in-None c = let e : is_xdomain c.args.kind ≡ true = sym c.is_xdomain_kind.ensures ∙ not-false _ c.if-not-is_xdomain_kind.false-raw in rw (e, sym c.uuid_table-found.ensures, c.in-None.is)

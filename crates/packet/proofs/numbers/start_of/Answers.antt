@@ -18,11 +18,11 @@ returns-then-not-is_xdomain_kind c = start_other c.args.kind c.args.book.now c.a
 
 pub overflow_add-result : goal.overflow_add-result
 overflow_add-result c =
-    let w = first_within (asks Holds c.args.book.now (bytes "Properties Block Generation")) 0 _ c.args.places.now (sym c.first_asked-found.ensures ∙ c.in-At.is) in
+    let w = first_within (asks Holds c.args.book.now (bytes "Properties Block Generation")) 0 _ c.args.places.now (sym c.first_asked-found.ensures ∙ c.in-Some.is) in
     search rules
 
-pub returns-in-At : goal.returns-in-At
-returns-in-At c = start-behind c.args.kind c.args.book.now c.args.places.now (sym c.is_read_response_or_write_request.ensures ∙ c.if-is_read_response_or_write_request.false) (sym c.is_xdomain_kind.ensures ∙ not-false _ c.if-not-is_xdomain_kind.false-raw) (sym c.first_asked-found.ensures ∙ c.in-At.is)
+pub returns-in-Some : goal.returns-in-Some
+returns-in-Some c = start-behind c.args.kind c.args.book.now c.args.places.now (sym c.is_read_response_or_write_request.ensures ∙ c.if-is_read_response_or_write_request.false) (sym c.is_xdomain_kind.ensures ∙ not-false _ c.if-not-is_xdomain_kind.false-raw) (sym c.first_asked-found.ensures ∙ c.in-Some.is)
 
-pub returns-in-Nothing : goal.returns-in-Nothing
-returns-in-Nothing c = start_none c.args.kind c.args.book.now c.args.places.now (sym c.is_read_response_or_write_request.ensures ∙ c.if-is_read_response_or_write_request.false) (sym c.is_xdomain_kind.ensures ∙ not-false _ c.if-not-is_xdomain_kind.false-raw) (sym c.first_asked-found.ensures ∙ c.in-Nothing.is)
+pub returns-in-None : goal.returns-in-None
+returns-in-None c = start_none c.args.kind c.args.book.now c.args.places.now (sym c.is_read_response_or_write_request.ensures ∙ c.if-is_read_response_or_write_request.false) (sym c.is_xdomain_kind.ensures ∙ not-false _ c.if-not-is_xdomain_kind.false-raw) (sym c.first_asked-found.ensures ∙ c.in-None.is)

@@ -5,7 +5,7 @@ pub returns-in_default : goal.returns-in_default
 returns-in_default c = rw c.in_default.is
 
 pub returns-in_default-uuid_table : goal.returns-in_default-uuid_table
-returns-in_default-uuid_table c = rw (c.in-Is.is, ← c.uuid_table.ensures, c.in_default-uuid_table.is)
+returns-in_default-uuid_table c = rw (c.in-Some.is, ← c.uuid_table.ensures, c.in_default-uuid_table.is)
 
 pub returns : goal.returns
-returns c = rw (c.in-Is.is, ← c.uuid_table.ensures, c.in-At.is) c.latch_through.ensures
+returns c = rw (c.in-Some.is, ← c.uuid_table.ensures, c.in-Some.is) c.latch_through.ensures

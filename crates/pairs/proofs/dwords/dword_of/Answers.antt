@@ -4,8 +4,8 @@ use mathlib.Core.Path.{◌∙◌}
 use native.Mathlib.Omega.{arith}
 use Rattle.pairs.proofs.dwords.dword_of.Goals as goal
 
-pub returns-in-Dword : goal.returns-in-Dword
-returns-in-Dword c = c.in-Dword.is ∙ stands_dword (omega (arith, c.in-Dword.known_told-1-own.given))
+pub returns-in-Some : goal.returns-in-Some
+returns-in-Some c = c.in-Some.is ∙ stands_dword (omega (arith, c.in-Some.known_told-1-own.given))
 
-pub returns-in-Bad : goal.returns-in-Bad
-returns-in-Bad c = c.in-Bad.is ∙ stands_bad (omega arith)
+pub returns-in-None : goal.returns-in-None
+returns-in-None c = c.in-None.is ∙ stands_bad (omega arith)

@@ -14,8 +14,8 @@ pub value_end-requires : goal.value_end-requires
 unfolding in_class
 value_end-requires c = (c.run_end.ensures.is, c.requires.1)
 
-pub returns-in-At : goal.returns-in-At
-returns-in-At c = sym (try-hits _ _ _ c.if-m-i.false (sym c.byte_at.ensures ∙ c.if-byte_at-ne61.false) (sym c.value_end.ensures ∙ c.in-At.is))
+pub returns-in-Some : goal.returns-in-Some
+returns-in-Some c = sym (try-hits _ _ _ c.if-m-i.false (sym c.byte_at.ensures ∙ c.if-byte_at-ne61.false) (sym c.value_end.ensures ∙ c.in-Some.is))
 
-pub returns-in-Nothing : goal.returns-in-Nothing
-returns-in-Nothing c = sym (try-misses _ _ _ c.if-m-i.false (sym c.byte_at.ensures ∙ c.if-byte_at-ne61.false) (sym c.value_end.ensures ∙ c.in-Nothing.is))
+pub returns-in-None : goal.returns-in-None
+returns-in-None c = sym (try-misses _ _ _ c.if-m-i.false (sym c.byte_at.ensures ∙ c.if-byte_at-ne61.false) (sym c.value_end.ensures ∙ c.in-None.is))

@@ -9,5 +9,5 @@ pub returns-in-Is : goal.returns-in-Is
 unfolding bit
 returns-in-Is c = ap top_bit (ap wide_told (sym c.in-Is.is) ∙ c.route_in-route.ensures)
 
-pub returns-in-Refused : goal.returns-in-Refused
-returns-in-Refused c = ap top_bit (ap wide_told (sym c.in-Refused.is) ∙ c.route_in-route.ensures)
+pub returns-in-Err : goal.returns-in-Err
+returns-in-Err c = ap top_bit (ap wide_told (sym c.in-Err.is) ∙ c.route_in-route.ensures)

@@ -4,8 +4,8 @@ use Rattle.packet.specs.Inner.{opened_told}
 use mathlib.Core.Path.{sym, ap, ◌∙◌}
 use Rattle.questions.proofs.kept.number_checked.Goals as goal
 
-pub returns-in-Tables : goal.returns-in-Tables
-returns-in-Tables c = sym (opened_tables c.args.kind c.args.book.now c.args.count c.args.count (sym c.open-opened.ensures ∙ ap opened_told c.in-Tables.is)).none
+pub returns-in-Ok : goal.returns-in-Ok
+returns-in-Ok c = sym (opened_tables c.args.kind c.args.book.now c.args.count c.args.count (sym c.open-opened.ensures ∙ ap opened_told c.in-Ok.is)).none
 
-pub returns-in-Refused : goal.returns-in-Refused
-returns-in-Refused c = sym (opened_refused c.args.kind c.args.book.now c.args.count c.args.count (sym c.open-opened.ensures ∙ ap opened_told c.in-Refused.is)).0
+pub returns-in-Err : goal.returns-in-Err
+returns-in-Err c = sym (opened_refused c.args.kind c.args.book.now c.args.count c.args.count (sym c.open-opened.ensures ∙ ap opened_told c.in-Err.is)).0

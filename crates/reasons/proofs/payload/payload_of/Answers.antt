@@ -6,10 +6,10 @@ use mathlib.Core.Path.{sym, ap, ◌∙◌}
 use Rattle.reasons.proofs.payload.payload_of.Goals as goal
 
 pub payload_behind-requires : goal.payload_behind-requires
-payload_behind-requires c = frame_colon_within _ (sym c.read_frame.ensures ∙ ap frame_told c.in-Colon.is)
+payload_behind-requires c = frame_colon_within _ (sym c.read_frame.ensures ∙ ap frame_told c.in-Ok.is)
 
-pub returns-in-Colon : goal.returns-in-Colon
-returns-in-Colon c = payload_there _ (sym c.read_frame.ensures ∙ ap frame_told c.in-Colon.is) c.payload_behind.ensures
+pub returns-in-Ok : goal.returns-in-Ok
+returns-in-Ok c = payload_there _ (sym c.read_frame.ensures ∙ ap frame_told c.in-Ok.is) c.payload_behind.ensures
 
-pub returns-in-Refused : goal.returns-in-Refused
-returns-in-Refused c = payload_refused _ (sym c.read_frame.ensures ∙ ap frame_told c.in-Refused.is)
+pub returns-in-Err : goal.returns-in-Err
+returns-in-Err c = payload_refused _ (sym c.read_frame.ensures ∙ ap frame_told c.in-Err.is)

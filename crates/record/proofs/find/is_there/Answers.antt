@@ -4,5 +4,5 @@ use Rattle.record.proofs.find.is_there.Goals as goal
 pub returns-in-At : goal.returns-in-At
 returns-in-At c = rw (← c.span_of-span.ensures, c.in-At.is)
 
-pub returns-in-Absent : goal.returns-in-Absent
-returns-in-Absent c = rw (← c.span_of-span.ensures, c.in-Absent.is)
+pub returns-in-None : goal.returns-in-None
+returns-in-None c = rw (← c.span_of-span.ensures, c.in-None.is)

@@ -7,6 +7,6 @@ pub returns-in-At : goal.returns-in-At
 unfolding number_of maybe_of
 returns-in-At c = rw (← c.span_of-span.ensures, c.in-At.is, number_one) c.byte_at.ensures.0
 
-pub returns-in-Absent : goal.returns-in-Absent
+pub returns-in-None : goal.returns-in-None
 unfolding number_of maybe_of
-returns-in-Absent c = rw (← c.span_of-span.ensures, c.in-Absent.is)
+returns-in-None c = rw (← c.span_of-span.ensures, c.in-None.is)

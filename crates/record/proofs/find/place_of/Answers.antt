@@ -14,6 +14,6 @@ returns-in-At c =
     let m = span_moves _ _ (sym c.span_of-span.ensures ∙ c.in-At.is) in
     (rw (← c.span_of-span.ensures, c.in-At.is), omega (arith, m.0, m.1))
 
-pub returns-in-Absent : goal.returns-in-Absent
+pub returns-in-None : goal.returns-in-None
 unfolding place_of
-returns-in-Absent c = (rw (← c.span_of-span.ensures, c.in-Absent.is), omega arith)
+returns-in-None c = (rw (← c.span_of-span.ensures, c.in-None.is), omega arith)

@@ -2,7 +2,6 @@
 use Rattle.pairs.proofs.LastPairs.{last_within}
 use Rattle.scan.proofs.Said.{type_at_lem, type_nowhere, size_said, size_most, domain_said, domain_most, route_said, dropped_said}
 use Rattle.scan.specs.Body.{text_at, dropped_of, body_of}
-use Rattle.text.specs.Number.{number_value}
 use Rattle.walk.specs.Kept.{said_by}
 use borrow.Author.Tests.{eq-eqb, ne_eqb}
 use native.Mathlib.Omega.{arith}
@@ -13,15 +12,15 @@ unfolding body_of text_at
 returns-then-ends-eq0 c = rw (type_nowhere _ c.requires c.if-ends-eq0.true)
 
 pub returns-then-ends-eq0-2 : goal.returns-then-ends-eq0-2
-unfolding body_of text_at number_value said_by
+unfolding body_of text_at said_by
 returns-then-ends-eq0-2 c = rw (type_at_lem _ c.requires c.if-ends-eq0.false, size_said _ c.requires, eq-eqb _ _ c.if-ends-eq0-2.true)
 
 pub returns-then-ends-eq0-3 : goal.returns-then-ends-eq0-3
-unfolding body_of text_at number_value said_by
+unfolding body_of text_at said_by
 returns-then-ends-eq0-3 c = rw (type_at_lem _ c.requires c.if-ends-eq0.false, size_said _ c.requires, ne_eqb _ _ c.if-ends-eq0-2.false, domain_said _ c.requires, eq-eqb _ _ c.if-ends-eq0-3.true)
 
 pub returns-then-ends-eq0-4 : goal.returns-then-ends-eq0-4
-unfolding body_of text_at number_value said_by
+unfolding body_of text_at said_by
 returns-then-ends-eq0-4 c =
     rw (
       type_at_lem _ c.requires c.if-ends-eq0.false,
@@ -52,7 +51,7 @@ pub overflow_cast-result-2 : goal.overflow_cast-result-2
 overflow_cast-result-2 c = record { fits = omega (arith, domain_most _ c.requires (omega (arith, c.if-ends-eq0-3.false))) }
 
 pub returns : goal.returns
-unfolding body_of text_at number_value said_by dropped_of
+unfolding body_of text_at said_by dropped_of
 returns c =
     rw (
       type_at_lem _ c.requires c.if-ends-eq0.false,

@@ -1,5 +1,6 @@
 -- `dwords::read_data` meets its contract: all is judged by what the walk took before a slot is written, and a slot is written by what it kept. Assumes
 -- nothing.
+use Rattle.std.specs.Prelude.{Some}
 use Prim.Native.Nat.{ℕ, ◌+◌, ◌-◌}
 use Rattle.pairs.proofs.Bracketing.{Brackets, last_unopened, last_brackets}
 use Rattle.pairs.proofs.LastPairs.{last_within}
@@ -14,15 +15,14 @@ use Rattle.text.specs.Quote.{bytes}
 use borrow.Author.Rules.{rules}
 use mathlib.Core.Bool.{Bool}
 use mathlib.Core.List.{List}
-use mathlib.Core.Option.{some}
 use mathlib.Core.Path.{◌≡◌, sym, ap, ◌∙◌}
 use native.Mathlib.Omega.{arith}
 use Rattle.scan.proofs.dwords.read_data.Goals as goal
 
 -- what stands in the brackets is the payload's data
 module _ (pieces : Pieces) (p out : List ℕ) {a b : ℕ} (found : last_pair p (bytes "data") ≡ At a b) (r : Brackets p a b) where
-  inner_data : payload_data p ≡ some (dwords_of (part p (a + 1) (b - 1)))
-  inner_data = data_there pieces p out found r.inside ∙ ap (λ (l : List ℕ). some (dwords_of l)) r.inner
+  inner_data : payload_data p ≡ Some (dwords_of (part p (a + 1) (b - 1)))
+  inner_data = data_there pieces p out found r.inside ∙ ap (λ (l : List ℕ). Some (dwords_of l)) r.inner
 
   inner_bad : {bad x : Bool} → bad ≡ bad_of (part p (a + 1) (b - 1)) → x ≡ refuses pieces bad → refuses pieces (payload_bad p) ≡ x
   inner_bad q h = bad_there pieces p out found r.inside (q ∙ ap bad_of (sym r.inner)) h

@@ -14,14 +14,14 @@ returns-then-line-gt-LONGEST c = sym (frame_long _ (sym c.is_idle.ensures ∙ c.
 pub returns-then-not-none_high : goal.returns-then-not-none_high
 returns-then-not-none_high c = sym (frame-high _ (sym c.is_idle.ensures ∙ c.if-is_idle.false) c.if-line-gt-LONGEST.false (some_told _ (sym c.none_high.ensures ∙ not-true _ c.if-not-none_high.true-raw)).1)
 
-pub returns-in-At : goal.returns-in-At
-returns-in-At c =
+pub returns-in-Some : goal.returns-in-Some
+returns-in-Some c =
     sym
     (frame-colon _ (sym c.is_idle.ensures ∙ c.if-is_idle.false) c.if-line-gt-LONGEST.false (none_told _ (sym c.none_high.ensures ∙ not-false _ c.if-not-none_high.false-raw))
-    (sym c.last.ensures ∙ c.in-At.is))
+    (sym c.last.ensures ∙ c.in-Some.is))
 
-pub returns-in-Nothing : goal.returns-in-Nothing
-returns-in-Nothing c =
+pub returns-in-None : goal.returns-in-None
+returns-in-None c =
     sym
     (frame-none _ (sym c.is_idle.ensures ∙ c.if-is_idle.false) c.if-line-gt-LONGEST.false (none_told _ (sym c.none_high.ensures ∙ not-false _ c.if-not-none_high.false-raw))
-    (sym c.last.ensures ∙ c.in-Nothing.is))
+    (sym c.last.ensures ∙ c.in-None.is))

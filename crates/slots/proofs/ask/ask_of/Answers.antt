@@ -14,10 +14,10 @@ pub returns-then-e-gt4 : goal.returns-then-e-gt4
 unfolding ask_of
 returns-then-e-gt4 c = rw (c.if-e.false, ne_eqb _ _ c.if-e-eq0.false, lt-ltb _ _ c.if-e-gt4.true)
 
-pub returns-in-Is : goal.returns-in-Is
+pub returns-in-Some : goal.returns-in-Some
 unfolding ask_of by_kind four_of
-returns-in-Is c = rw (c.if-e.false, ne_eqb _ _ c.if-e-eq0.false, le-ltb _ _ c.if-e-gt4.false, c.in-Is.is, ← c.four_of.ensures, ← c.by_kind.ensures)
+returns-in-Some c = rw (c.if-e.false, ne_eqb _ _ c.if-e-eq0.false, le-ltb _ _ c.if-e-gt4.false, c.in-Some.is, ← c.four_of.ensures, ← c.by_kind.ensures)
 
-pub returns-in-Absent : goal.returns-in-Absent
+pub returns-in-None : goal.returns-in-None
 unfolding ask_of
-returns-in-Absent c = rw (c.if-e.false, ne_eqb _ _ c.if-e-eq0.false, le-ltb _ _ c.if-e-gt4.false, c.in-Absent.is)
+returns-in-None c = rw (c.if-e.false, ne_eqb _ _ c.if-e-eq0.false, le-ltb _ _ c.if-e-gt4.false, c.in-None.is)

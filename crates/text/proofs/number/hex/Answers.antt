@@ -4,10 +4,10 @@ use Rattle.text.specs.Number.{hex_of}
 use mathlib.Core.Path.{sym, ◌∙◌}
 use Rattle.text.proofs.number.hex.Goals as goal
 
-pub returns-in-Value : goal.returns-in-Value
+pub returns-in-Some : goal.returns-in-Some
 unfolding hex_of
-returns-in-Value c = rw (← c.digits_from-from.ensures) (sym (value_read _ (sym c.read.ensures ∙ c.in-Value.is)))
+returns-in-Some c = rw (← c.digits_from-from.ensures) (sym (value_read _ (sym c.read.ensures ∙ c.in-Some.is)))
 
-pub returns-in-Unreadable : goal.returns-in-Unreadable
+pub returns-in-None : goal.returns-in-None
 unfolding hex_of
-returns-in-Unreadable c = c.reason.ensures ∙ rw (← c.digits_from-from.ensures) (reason_read _ _ _ _ (sym c.read.ensures ∙ c.in-Unreadable.is))
+returns-in-None c = c.reason.ensures ∙ rw (← c.digits_from-from.ensures) (reason_read _ _ _ _ (sym c.read.ensures ∙ c.in-None.is))

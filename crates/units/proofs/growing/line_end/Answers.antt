@@ -5,10 +5,10 @@ use native.Mathlib.Omega.{arith}
 use Rattle.units.proofs.growing.line_end.Goals as goal
 
 pub overflow_add-result : goal.overflow_add-result
-overflow_add-result c = omega (arith, (newline_within _ _ (sym c.first.ensures ∙ c.in-At.is)).1)
+overflow_add-result c = omega (arith, (newline_within _ _ (sym c.first.ensures ∙ c.in-Some.is)).1)
 
-pub returns-in-At : goal.returns-in-At
-returns-in-At c = line_whole _ _ (sym c.first.ensures ∙ c.in-At.is)
+pub returns-in-Some : goal.returns-in-Some
+returns-in-Some c = line_whole _ _ (sym c.first.ensures ∙ c.in-Some.is)
 
-pub returns-in-Nothing : goal.returns-in-Nothing
-returns-in-Nothing c = line_not _ _ c.requires (sym c.first.ensures ∙ c.in-Nothing.is)
+pub returns-in-None : goal.returns-in-None
+returns-in-None c = line_not _ _ c.requires (sym c.first.ensures ∙ c.in-None.is)

@@ -2,10 +2,10 @@
 use Rattle.walk.specs.Kept.{kept_number, nothing}
 use Rattle.walk.proofs.value.keep_number.Goals as goal
 
-pub returns-in-Value : goal.returns-in-Value
+pub returns-in-Some : goal.returns-in-Some
 unfolding kept_number nothing
-returns-in-Value c = rw c.in-Value.is
+returns-in-Some c = rw c.in-Some.is
 
-pub returns-in-Unreadable : goal.returns-in-Unreadable
+pub returns-in-None : goal.returns-in-None
 unfolding kept_number nothing
-returns-in-Unreadable c = rw c.in-Unreadable.is
+returns-in-None c = rw c.in-None.is

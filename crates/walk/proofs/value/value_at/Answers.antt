@@ -12,10 +12,10 @@ pub value_end-requires : goal.value_end-requires
 value_end-requires c = (c.word_end.ensures.is, c.requires.2)
 
 pub keep-requires : goal.keep-requires
-keep-requires c = (omega (arith, value_up _ _ (value_is _ _ (sym c.value_end.ensures ∙ c.in-At.is))), value_within _ _ (value_is _ _ (sym c.value_end.ensures ∙ c.in-At.is)))
+keep-requires c = (omega (arith, value_up _ _ (value_is _ _ (sym c.value_end.ensures ∙ c.in-Some.is))), value_within _ _ (value_is _ _ (sym c.value_end.ensures ∙ c.in-Some.is)))
 
-pub returns-in-At : goal.returns-in-At
-returns-in-At c = value_found _ _ _ c.value_end.ensures c.in-At.is c.keep.ensures
+pub returns-in-Some : goal.returns-in-Some
+returns-in-Some c = value_found _ _ _ c.value_end.ensures c.in-Some.is c.keep.ensures
 
-pub returns-in-Nothing : goal.returns-in-Nothing
-returns-in-Nothing c = value_none _ _ _ c.value_end.ensures c.in-Nothing.is c.none.ensures
+pub returns-in-None : goal.returns-in-None
+returns-in-None c = value_none _ _ _ c.value_end.ensures c.in-None.is c.none.ensures

@@ -4,10 +4,10 @@ use Rattle.writer.specs.declared.item.Item.TheVariants.{Number}
 use mathlib.Core.Path.{ap, ◌∙◌}
 use Rattle.writer.proofs.item.byte.Goals as goal
 
-pub returns-in-Is : goal.returns-in-Is
+pub returns-in-Some : goal.returns-in-Some
 unfolding byte_item
-returns-in-Is c = rw c.in-Is.is (c.number.ensures ∙ ap (Number 1) c.wide8.ensures)
+returns-in-Some c = rw c.in-Some.is (c.number.ensures ∙ ap (Number 1) c.wide8.ensures)
 
-pub returns-in-Absent : goal.returns-in-Absent
+pub returns-in-None : goal.returns-in-None
 unfolding byte_item
-returns-in-Absent c = rw c.in-Absent.is
+returns-in-None c = rw c.in-None.is

@@ -3,10 +3,10 @@ use Rattle.writer.specs.Item.{byte_size}
 use native.Mathlib.Omega.{arith}
 use Rattle.writer.proofs.item.byte_size.Goals as goal
 
-pub returns-in-Is : goal.returns-in-Is
+pub returns-in-Some : goal.returns-in-Some
 unfolding byte_size
-returns-in-Is c = (rw c.in-Is.is, omega arith)
+returns-in-Some c = (rw c.in-Some.is, omega arith)
 
-pub returns-in-Absent : goal.returns-in-Absent
+pub returns-in-None : goal.returns-in-None
 unfolding byte_size
-returns-in-Absent c = (rw c.in-Absent.is, omega arith)
+returns-in-None c = (rw c.in-None.is, omega arith)

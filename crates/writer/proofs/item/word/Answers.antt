@@ -4,10 +4,10 @@ use Rattle.writer.specs.declared.item.Item.TheVariants.{Number}
 use mathlib.Core.Path.{ap, ◌∙◌}
 use Rattle.writer.proofs.item.word.Goals as goal
 
-pub returns-in-Is : goal.returns-in-Is
+pub returns-in-Some : goal.returns-in-Some
 unfolding word_item
-returns-in-Is c = rw c.in-Is.is (c.number.ensures ∙ ap (Number 2) c.wide16.ensures)
+returns-in-Some c = rw c.in-Some.is (c.number.ensures ∙ ap (Number 2) c.wide16.ensures)
 
-pub returns-in-Absent : goal.returns-in-Absent
+pub returns-in-None : goal.returns-in-None
 unfolding word_item
-returns-in-Absent c = rw c.in-Absent.is
+returns-in-None c = rw c.in-None.is

@@ -12,11 +12,12 @@ use Rattle.tlv.specs.Number.{Bytes}
 use Rattle.tlv.specs.Grammar.{fields_bytes}
 use Rattle.tlv.proofs.Pieces.{both_true}
 use Rattle.text.specs.Told.{refused}
-use Rattle.text.proofs.Told.{by_cases, fixed_by_told}
-use Rattle.book.specs.declared.Checked.{Checked}
-use Rattle.book.specs.declared.Checked.TheVariants as C
+use Rattle.std.specs.Prelude.{Result}
+use Rattle.refusal.specs.declared.Refusal.{Refusal}
+use Rattle.refusal.specs.Told.{told}
+use Rattle.refusal.proofs.Told.{one_told}
 use Rattle.book.specs.Grammar.{IsBook}
-use Rattle.book.specs.Reading.{tables_fill, accepted, check_told, check_of}
+use Rattle.book.specs.Reading.{tables_fill, accepted, check_of}
 use Rattle.book.proofs.Tables.{FromTables, tables_is, tables_all}
 
 accepted_passes : (b : Bool) → cond b accepted (refused 20) ≡ accepted → b ≡ true
@@ -81,9 +82,5 @@ check_decides s = by (leb (length s) 65535 && tables_fill s 0)
     by false = inr refl
 
 -- no second answer to `check`: two answers that tell the same are the same
-pub one_check : (a b : Checked) → check_told a ≡ check_told b → a ≡ b
-one_check = fixed_by_told check_told (by_cases (λ u. C.Accepted) C.Accepted C.Refused) same
-  where
-    same : (a : Checked) → by_cases (λ u. C.Accepted) C.Accepted C.Refused (check_told a) ≡ a
-    same C.Accepted = refl
-    same (C.Refused k) = refl
+pub one_check : (a b : Result (Unit {0}) Refusal) → told a ≡ told b → a ≡ b
+one_check = one_told

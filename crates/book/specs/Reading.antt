@@ -4,8 +4,6 @@ use Rattle.std.specs.Prelude.{ℕ, ◌+◌, Bool, true, cond, ◌&&◌, List, []
 use Rattle.text.specs.Told.{Told, is, refused}
 use Rattle.tlv.specs.Number.{number}
 use Rattle.tlv.specs.Reading.{Part, between, field_at, parts, filled, all, once}
-use Rattle.book.specs.declared.Checked.{Checked}
-use Rattle.book.specs.declared.Checked.TheVariants.{Accepted, Refused}
 use Rattle.book.specs.declared.seek.Want.TheVariants as W
 use Rattle.book.specs.Search.{of_tag, body_at, after, type_at, wanted, table_want}
 
@@ -87,11 +85,6 @@ tables_fill s at = filled (table_ok s) s at && once (same_table s) (parts s at)
 -- accepted: there is no more to tell
 abbrev pub accepted : Told (Unit {0})
 accepted = is tt
-
--- what each case of the check's answer tells
-abbrev pub check_told : Checked → Told (Unit {0})
-check_told Accepted = accepted
-check_told (Refused k) = refused k
 
 -- accepted, or number 20
 unfoldable pub check_of : List ℕ → Told (Unit {0})

@@ -13,13 +13,14 @@ mod seek;
 mod seen;
 
 ghost use Rattle.std.specs.Prelude.{◌≡◌};
-ghost use Rattle.book.specs.Reading.{check_told, check_of};
+ghost use Rattle.refusal.specs.Told.{told};
+ghost use Rattle.book.specs.Reading.{check_of};
 
 use crate::grammar::tables;
 use refusal::Refusal;
 
 // The four dwords of a UUID, in the order of the book and of a packet.
-#[derive(Clone, Copy)]
+#[derive(Clone, Copy, Debug, PartialEq, Eq, Hash)]
 pub struct Uuid {
     pub first: u32,
     pub second: u32,
@@ -27,22 +28,15 @@ pub struct Uuid {
     pub fourth: u32,
 }
 
-// What the check of a book answers: accepted, or a number.
-#[derive(Clone, Copy)]
-pub enum Checked {
-    Accepted,
-    Refused(u8),
-}
-
 // Does the book belong to the grammar? If not, number 20.
-pub fn check(book: &[u8]) -> Checked
-    ensures { check_told result ≡ check_of book.now }
+pub fn check(book: &[u8]) -> Result<(), Refusal>
+    ensures { told result ≡ check_of book.now }
 {
     if 65_535 < book.len() {
-        return Checked::Refused(Refusal::BadBook);
+        return Err(Refusal::BadBook);
     }
     if !tables(book) {
-        return Checked::Refused(Refusal::BadBook);
+        return Err(Refusal::BadBook);
     }
-    Checked::Accepted
+    Ok(())
 }

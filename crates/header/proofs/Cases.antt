@@ -6,7 +6,6 @@ use Rattle.text.specs.Number.{digit_of, value, all_digits, number_of}
 use Rattle.text.specs.Place.{first_of, first_in, found_below, first_place, last_place, byte_before}
 use Rattle.text.specs.Run.{run_end, behind, run_start}
 use Rattle.text.specs.Quote.{bytes}
-use Rattle.header.specs.declared.stamp.Stamp.TheVariants as S
 use Rattle.header.specs.Dash.{dash_at, first_run, task_of, digits_behind, pid_of}
 use Rattle.header.specs.Stamp.{followed, stamp_at, both_read, read_stamp, stamp_from, stamp_of}
 
@@ -25,6 +24,6 @@ unfolding texts dash_at first_run task_of digits_behind pid_of
 case_P2 = record { task = refl; pid = refl }
 
 -- `12.34.56: f`: 34 s, 56 µs
-pub case_P3 : stamp_of (bytes "12.34.56: f") ≡ S.At 34 56
+pub case_P3 : stamp_of (bytes "12.34.56: f") ≡ Some (record { seconds = 34; microseconds = 56 })
 unfolding texts followed stamp_at both_read read_stamp stamp_from stamp_of
 case_P3 = refl

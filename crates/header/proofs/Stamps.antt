@@ -2,7 +2,8 @@
 -- colons, so the first colon that ends one ends the first; and that is the sentence's first whole run. Assumes nothing.
 use Rattle.std.specs.Prelude.{None, Option, Some}
 use Prim.Native.Nat.{ℕ, zero, suc, ◌+◌, ◌-◌, ◌^◌, ◌≤◌, ◌<◌}
-use mathlib.Core.Path.{◌≡◌, refl, sym, ◌∙◌}
+use Rattle.std.proofs.lemmas.Option.{none-some, same_Some}
+use mathlib.Core.Path.{◌≡◌, refl, sym, ap, ◌∙◌}
 use mathlib.Core.Bool.{Bool, true, false, not, ◌&&◌}
 use mathlib.Core.List.{List}
 use native.Mathlib.Omega.{arith}
@@ -18,9 +19,8 @@ use Rattle.text.proofs.Places.{by_order, clash, first_is, first_all, first_none,
 use Rattle.text.proofs.Runs.{run_is, run_all, back_is, back_all}
 use Rattle.text.proofs.Texts.{both_left, both_right}
 use Rattle.text.proofs.Numbers.{number_is, number_all}
-use Rattle.header.specs.declared.stamp.Stamp.TheVariants as S
+use Rattle.header.specs.declared.stamp.Stamp.{Stamp}
 use Rattle.header.specs.declared.stamp.Parts.{Parts}
-use Rattle.header.specs.declared.stamp.Parts.TheVariants as P
 use Rattle.header.specs.Stamp.{StampAt, Timestamp, followed, stamp_at, both_read, read_stamp, stamp_from, stamp_of, PartsBefore}
 
 zero_is_no_digit : is_digit 0 ≡ false
@@ -107,28 +107,28 @@ module _ (h : List ℕ) where
 
   -- the ways of the look back from a colon, with the places as code has them
   module _ (c : ℕ) where
-    pub no_blank : is_blank (get_or h (c + 1) 0) ≡ false → PartsBefore h c P.Nothing
+    pub no_blank : is_blank (get_or h (c + 1) 0) ≡ false → PartsBefore h c None
     unfolding PartsBefore
     no_blank f i j r = clash r.blank f
 
     module _ (k : ℕ) (k-is : k ≡ run_start is_digit (take c h)) where
-      pub no-microseconds : k ≡ c → PartsBefore h c P.Nothing
+      pub no-microseconds : k ≡ c → PartsBefore h c None
       unfolding PartsBefore
       no-microseconds e i j r = absurd (omega (arith, k-is, r.more, second_start i j c r))
 
-      pub no-dot : (byte_before h k ≡ 46 → ⊥) → PartsBefore h c P.Nothing
+      pub no-dot : (byte_before h k ≡ 46 → ⊥) → PartsBefore h c None
       unfolding PartsBefore
       no-dot n i j r = n (rw (k-is ∙ second_start i j c r) (byte_behind j ∙ r.dot))
 
       module _ (dot : ℕ) (dot-is : k ≡ dot + 1) (from : ℕ) (from_is : from ≡ run_start is_digit (take dot h)) where
-        pub no-seconds : from ≡ dot → PartsBefore h c P.Nothing
+        pub no-seconds : from ≡ dot → PartsBefore h c None
         unfolding PartsBefore
         no-seconds e i j r =
             let same : j ≡ dot = omega (arith, k-is, second_start i j c r) in
             let start : run_start is_digit (take dot h) ≡ i = rw same at (first_start i j c r) in
             absurd (omega (arith, r.some))
 
-        pub both_runs : k < c → byte_before h k ≡ 46 → get_or h c 0 ≡ 58 → is_blank (get_or h (c + 1) 0) ≡ true → (from ≡ dot → ⊥) → PartsBefore h c (P.At from dot)
+        pub both_runs : k < c → byte_before h k ≡ 46 → get_or h c 0 ≡ 58 → is_blank (get_or h (c + 1) 0) ≡ true → (from ≡ dot → ⊥) → PartsBefore h c (Some (record { from = from; dot = dot }))
         unfolding PartsBefore
         both_runs some point colon blank n =
             let l : c < length h = colon_within colon in
@@ -147,34 +147,34 @@ module _ (h : List ℕ) where
             }
 
     -- what is told, by its two cases
-    pub parts_some : {p : Parts} {from dot : ℕ} → PartsBefore h c p → p ≡ P.At from dot → StampAt h from dot c
+    pub parts_some : {p : Option Parts} {parts : Parts} → PartsBefore h c p → p ≡ Some parts → StampAt h parts.from parts.dot c
     unfolding PartsBefore
     parts_some r e = rw e at r
 
-    pub parts_none : {p : Parts} → PartsBefore h c p → p ≡ P.Nothing → PartsBefore h c P.Nothing
+    pub parts_none : {p : Option Parts} → PartsBefore h c p → p ≡ None → PartsBefore h c None
     parts_none r e = rw e at r
 
   -- the two runs of a stamp, as code cuts and reads them
-  seconds_none : (u : Option ℕ) → both_read None u ≡ S.Unreadable
+  seconds_none : (u : Option ℕ) → both_read None u ≡ None
   unfolding both_read
   seconds_none (Some u) = refl
   seconds_none None = refl
 
-  microseconds_none : (s : Option ℕ) → both_read s None ≡ S.Unreadable
+  microseconds_none : (s : Option ℕ) → both_read s None ≡ None
   unfolding both_read
   microseconds_none (Some s) = refl
   microseconds_none None = refl
 
   module _ (i j k : ℕ) (j-is : j ≡ run_end is_digit h i) (k-is : k ≡ run_end is_digit h (j + 1)) where
-    pub read_none : number_of 10 (2 ^ 63 - 1) (take (j - i) (drop i h)) ≡ None → S.Unreadable ≡ read_stamp h i
+    pub read_none : number_of 10 (2 ^ 63 - 1) (take (j - i) (drop i h)) ≡ None → None ≡ read_stamp h i
     unfolding read_stamp
     read_none e = rw (← j-is, ← k-is, e) (sym (seconds_none _))
 
-    pub read_half : number_of 10 (2 ^ 63 - 1) (take (k - (j + 1)) (drop (j + 1) h)) ≡ None → S.Unreadable ≡ read_stamp h i
+    pub read_half : number_of 10 (2 ^ 63 - 1) (take (k - (j + 1)) (drop (j + 1) h)) ≡ None → None ≡ read_stamp h i
     unfolding read_stamp
     read_half e = rw (← j-is, ← k-is, e) (sym (microseconds_none _))
 
-    pub read_both : {s u : ℕ} → number_of 10 (2 ^ 63 - 1) (take (j - i) (drop i h)) ≡ Some s → number_of 10 (2 ^ 63 - 1) (take (k - (j + 1)) (drop (j + 1) h)) ≡ Some u → S.At s u ≡ read_stamp h i
+    pub read_both : {s u : ℕ} → number_of 10 (2 ^ 63 - 1) (take (j - i) (drop i h)) ≡ Some s → number_of 10 (2 ^ 63 - 1) (take (k - (j + 1)) (drop (j + 1) h)) ≡ Some u → Some (record { seconds = s; microseconds = u }) ≡ read_stamp h i
     unfolding read_stamp both_read
     read_both a b = rw (← j-is, ← k-is, a, b)
 
@@ -182,7 +182,7 @@ module _ (h : List ℕ) where
   unfolding stamp_of stamp_from
   stamp_some e = rw e
 
-  pub stamp_none : first_place (stamp_at h) (length h) 0 ≡ None → S.Unreadable ≡ stamp_of h
+  pub stamp_none : first_place (stamp_at h) (length h) 0 ≡ None → None ≡ stamp_of h
   unfolding stamp_of stamp_from
   stamp_none e = rw e
 
@@ -272,7 +272,7 @@ module _ (h : List ℕ) where
           (λ q. omega arith)
           (λ l. omega arith)
 
-      pub seeking_steps : PartsBefore h c P.Nothing → Seeking (c + 1)
+      pub seeking_steps : PartsBefore h c None → Seeking (c + 1)
       unfolding PartsBefore
       seeking_steps none =
           record {
@@ -291,7 +291,7 @@ module _ (h : List ℕ) where
         (λ i a l. no_stamp_at i l
         (λ j k r. clash (eq-eqb _ _ r.colon) (first_free (is_at 58 h) e s.within k (s.later i j k r) (colon_within r.colon))))
 
-  pub timestamp_all : {s u : ℕ} → Timestamp h s u → stamp_of h ≡ S.At s u
+  pub timestamp_all : {s u : ℕ} → Timestamp h s u → stamp_of h ≡ Some (record { seconds = s; microseconds = u })
   timestamp_all {s} {u} r =
       let j-is : r.dot ≡ run_end is_digit h r.from = sym (run_all is_digit h r.here.whole) in
       let k-is : r.colon ≡ run_end is_digit h (r.dot + 1) = sym (run_all is_digit h r.here.digits) in
@@ -299,18 +299,18 @@ module _ (h : List ℕ) where
       sym (stamp_some place)
       ∙ sym (read_both r.from r.dot r.colon j-is k-is (number_all 10 (2 ^ 63 - 1) _ r.seconds_read) (number_all 10 (2 ^ 63 - 1) _ r.microseconds_read))
 
-  both_values : (a b : Option ℕ) {s u : ℕ} → both_read a b ≡ S.At s u → (a ≡ Some s) × (b ≡ Some u)
+  both_values : (a b : Option ℕ) {s u : ℕ} → both_read a b ≡ Some (record { seconds = s; microseconds = u }) → (a ≡ Some s) × (b ≡ Some u)
   unfolding both_read
-  both_values (Some x) (Some y) e = (cc, cc)
-  both_values (Some x) None e = absurd (let z : ◌≡◌ {A = ℕ} 0 1 = cc in omega arith)
-  both_values None (Some y) e = absurd (let z : ◌≡◌ {A = ℕ} 0 1 = cc in omega arith)
-  both_values None None e = absurd (let z : ◌≡◌ {A = ℕ} 0 1 = cc in omega arith)
+  both_values (Some x) (Some y) e = let q = same_Some _ _ e in (ap (λ (m : Stamp). Some m.seconds) q, ap (λ (m : Stamp). Some m.microseconds) q)
+  both_values (Some x) None e = absurd (none-some _ e)
+  both_values None (Some y) e = absurd (none-some _ e)
+  both_values None None e = absurd (none-some _ e)
 
-  pub timestamp_is : {s u : ℕ} → stamp_of h ≡ S.At s u → Timestamp h s u
+  pub timestamp_is : {s u : ℕ} → stamp_of h ≡ Some (record { seconds = s; microseconds = u }) → Timestamp h s u
   unfolding stamp_of stamp_from read_stamp
   timestamp_is {s} {u} e = go (first_place (stamp_at h) (length h) 0) refl e
     where
-      go : (f : Option ℕ) → first_place (stamp_at h) (length h) 0 ≡ f → stamp_from h f ≡ S.At s u → Timestamp h s u
+      go : (f : Option ℕ) → first_place (stamp_at h) (length h) 0 ≡ f → stamp_from h f ≡ Some (record { seconds = s; microseconds = u }) → Timestamp h s u
       go (Some i) q t =
           let f = first_is (stamp_at h) q in
           let both = both_values _ _ t in
@@ -323,7 +323,7 @@ module _ (h : List ℕ) where
             seconds_read = number_is 10 (2 ^ 63 - 1) _ both.0;
             microseconds_read = number_is 10 (2 ^ 63 - 1) _ both.1;
           }
-      go None q t = absurd (let z : ◌≡◌ {A = ℕ} 0 1 = cc in omega arith)
+      go None q t = absurd (none-some _ t)
 
   pub one_timestamp : {s u s' u' : ℕ} → Timestamp h s u → Timestamp h s' u' → (s ≡ s') × (u ≡ u')
-  one_timestamp a b = let x = timestamp_all a in let y = timestamp_all b in (cc, cc)
+  one_timestamp a b = let x = timestamp_all a in let y = timestamp_all b in let q = same_Some _ _ (sym x ∙ y) in (ap (λ (m : Stamp). m.seconds) q, ap (λ (m : Stamp). m.microseconds) q)

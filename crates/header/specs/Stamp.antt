@@ -5,9 +5,7 @@ use Rattle.text.specs.Number.{Decimal, number_of}
 use Rattle.text.specs.Place.{first_place, is_at, byte_before}
 use Rattle.text.specs.Run.{Run, run_end}
 use Rattle.header.specs.declared.stamp.Stamp.{Stamp}
-use Rattle.header.specs.declared.stamp.Stamp.TheVariants as S
 use Rattle.header.specs.declared.stamp.Parts.{Parts}
-use Rattle.header.specs.declared.stamp.Parts.TheVariants as P
 
 -- a whole digit run from i to j, followed by `.`, a digit run up to k, `:` and a blank
 pub record StampAt (h : List ℕ) (i j k : ℕ) : Type 0 where
@@ -41,29 +39,29 @@ unfoldable pub stamp_at : List ℕ → ℕ → Bool
 stamp_at h i = not (is_digit (byte_before h i)) && ltb i (run_end is_digit h i) && followed h (run_end is_digit h i)
 
 -- two readings together
-unfoldable pub both_read : Option ℕ → Option ℕ → Stamp
-both_read (Some s) (Some u) = S.At s u
-both_read (Some s) None = S.Unreadable
-both_read None (Some u) = S.Unreadable
-both_read None None = S.Unreadable
+unfoldable pub both_read : Option ℕ → Option ℕ → Option Stamp
+both_read (Some s) (Some u) = Some (record { seconds = s; microseconds = u })
+both_read (Some s) None = None
+both_read None (Some u) = None
+both_read None None = None
 
 -- the two digit runs from i on, read
-unfoldable pub read_stamp : List ℕ → ℕ → Stamp
+unfoldable pub read_stamp : List ℕ → ℕ → Option Stamp
 read_stamp h i =
     let j : ℕ = run_end is_digit h i in
     let k : ℕ = run_end is_digit h (j + 1) in
     both_read (number_of 10 (2 ^ 63 - 1) (take (j - i) (drop i h))) (number_of 10 (2 ^ 63 - 1) (take (k - (j + 1)) (drop (j + 1) h)))
 
 -- what stands at a place, if any
-unfoldable pub stamp_from : List ℕ → Option ℕ → Stamp
+unfoldable pub stamp_from : List ℕ → Option ℕ → Option Stamp
 stamp_from h (Some i) = read_stamp h i
-stamp_from h None = S.Unreadable
+stamp_from h None = None
 
 -- the timestamp
-unfoldable pub stamp_of : List ℕ → Stamp
+unfoldable pub stamp_of : List ℕ → Option Stamp
 stamp_of h = stamp_from h (first_place (stamp_at h) (length h) 0)
 
 -- what is told of the colon at c: the two digit runs of the timestamp that it ends, or that it ends none
-unfoldable pub PartsBefore : List ℕ → ℕ → Parts → Type 0
-PartsBefore h c (P.At from dot) = StampAt h from dot c
-PartsBefore h c P.Nothing = (i j : ℕ) → StampAt h i j c → ⊥
+unfoldable pub PartsBefore : List ℕ → ℕ → Option Parts → Type 0
+PartsBefore h c (Some parts) = StampAt h parts.from parts.dot c
+PartsBefore h c None = (i j : ℕ) → StampAt h i j c → ⊥

@@ -25,7 +25,7 @@ pub loop-c-smaller : goal.loop-c-smaller
 loop-c-smaller c = let colon = next_colon _ (sym c.first.ensures ∙ c.in-Some.is) in omega (arith, colon.from, colon.within)
 
 pub loop-c-preserved : goal.loop-c-preserved
-loop-c-preserved c = seeking_steps _ c.loop-c.invariant (sym c.first.ensures ∙ c.in-Some.is) (parts_none _ _ c.parts_before.ensures c.in_default.is)
+loop-c-preserved c = seeking_steps _ c.loop-c.invariant (sym c.first.ensures ∙ c.in-Some.is) (parts_none _ _ c.parts_before.ensures c.in_default-parts_before.is)
 
-pub returns-in-None : goal.returns-in-None
-returns-in-None c = stamp_none _ (seeking_ends _ c.loop-c.invariant (sym c.first.ensures ∙ c.in-None.is))
+pub returns : goal.returns
+returns c = stamp_none _ (seeking_ends _ c.loop-c.invariant (sym c.first.ensures ∙ c.in_default.is))

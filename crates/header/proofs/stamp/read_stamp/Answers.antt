@@ -6,8 +6,8 @@ use mathlib.Core.Path.{sym, ◌∙◌}
 use native.Mathlib.Omega.{arith}
 use Rattle.header.proofs.stamp.read_stamp.Goals as goal
 
-pub overflow_add-behind : goal.overflow_add-behind
-overflow_add-behind c = omega (arith, c.requires.more, c.requires.digits.within)
+pub overflow_add-parts : goal.overflow_add-parts
+overflow_add-parts c = omega (arith, c.requires.more, c.requires.digits.within)
 
 pub slice_bounds-decimal-count : goal.slice_bounds-decimal-count
 slice_bounds-decimal-count c = omega (arith, c.requires.some)
@@ -18,8 +18,8 @@ slice_bounds-decimal-start c = omega (arith, c.requires.some)
 pub slice_bounds-decimal-end : goal.slice_bounds-decimal-end
 slice_bounds-decimal-end c = c.requires.whole.within
 
-pub returns-in_default : goal.returns-in_default
-returns-in_default c = read_none _ _ _ _ (sym (run_all is_digit _ c.requires.whole)) (sym (run_all is_digit _ c.requires.digits)) (sym c.decimal.ensures ∙ c.in_default.is)
+pub returns-in_err-seconds : goal.returns-in_err-seconds
+returns-in_err-seconds c = cc (read_none _ _ _ _ (sym (run_all is_digit _ c.requires.whole)) (sym (run_all is_digit _ c.requires.digits)) (sym c.decimal.ensures ∙ c.in_err-seconds.was))
 
 pub slice_bounds-decimal-count-2 : goal.slice_bounds-decimal-count-2
 slice_bounds-decimal-count-2 c = omega (arith, c.requires.more)
@@ -30,8 +30,8 @@ slice_bounds-decimal-start-2 c = omega (arith, c.requires.more)
 pub slice_bounds-decimal-end-2 : goal.slice_bounds-decimal-end-2
 slice_bounds-decimal-end-2 c = c.requires.digits.within
 
-pub returns-in_default-decimal : goal.returns-in_default-decimal
-returns-in_default-decimal c = read_half _ _ _ _ (sym (run_all is_digit _ c.requires.whole)) (sym (run_all is_digit _ c.requires.digits)) (sym c.decimal-2.ensures ∙ c.in_default-decimal.is)
+pub returns-in_err-microseconds : goal.returns-in_err-microseconds
+returns-in_err-microseconds c = cc (read_half _ _ _ _ (sym (run_all is_digit _ c.requires.whole)) (sym (run_all is_digit _ c.requires.digits)) (sym c.decimal-2.ensures ∙ c.in_err-microseconds.was))
 
 pub returns : goal.returns
-returns c = read_both _ _ _ _ (sym (run_all is_digit _ c.requires.whole)) (sym (run_all is_digit _ c.requires.digits)) (sym c.decimal.ensures ∙ c.in-Some.is) (sym c.decimal-2.ensures ∙ c.in-Some-decimal.is)
+returns c = read_both _ _ _ _ (sym (run_all is_digit _ c.requires.whole)) (sym (run_all is_digit _ c.requires.digits)) (sym c.decimal.ensures ∙ c.in_ok-seconds.was) (sym c.decimal-2.ensures ∙ c.in_ok-microseconds.was)

@@ -1,6 +1,7 @@
 -- Document 01's numbers tell the refusals apart, so what an answer tells fixes the answer. Assumes nothing.
 use Rattle.std.specs.Prelude.{ℕ, ◌≡◌, cond, eqb, Err, None, Ok, Option, Result, Some}
 use mathlib.Core.Path.{refl, sym, ap, ◌∙◌}
+use native.Mathlib.Omega.{arith}
 use Rattle.text.specs.Told.{Told}
 use Rattle.text.proofs.Told.{by_cases, fixed_by_told}
 use Rattle.refusal.specs.declared.Refusal.{Refusal}
@@ -114,3 +115,11 @@ one_told_maybe = fixed_by_told told_maybe (by_cases (λ a. Ok (Some a)) (Ok None
     same (Ok (Some a)) = refl
     same (Ok None) = refl
     same (Err e) = ap Err (back e)
+
+-- no refusal has the number that stands for none
+pub number_some : (e : Refusal) → number_of e ≡ 0 → ⊥
+unfolding refusal_of
+number_some e z =
+    let first : e ≡ R.Idle = sym (back e) ∙ ap refusal_of z in
+    let one : 1 ≡ 0 = sym (ap number_of first) ∙ z in
+    omega (arith, one)

@@ -1,5 +1,6 @@
 -- Flat and entry are one to one: each field goes there and back by itself. Assumes nothing.
-use Rattle.std.specs.Prelude.{None, Option, Some}
+use Rattle.std.specs.Prelude.{None, Option, Some, MatchOption}
+use Rattle.std.specs.Int.{from_bool}
 use Prim.Native.Nat.{ℕ, ◌≤◌}
 use mathlib.Core.Path.{◌≡◌, refl, sym, ap}
 use mathlib.Core.Bool.{Bool, true, false, ◌&&◌}
@@ -12,7 +13,28 @@ use Rattle.entry.specs.declared.Entry.{Entry}
 use Rattle.c_entry.specs.declared.Flat.{Flat}
 use Rattle.text.specs.Told.{is}
 use Rattle.text.proofs.Told.{by_cases, fixed_by_told}
-use Rattle.c_entry.specs.Flat.{absent, flag_number, flat_byte, flat_word, flat_of, byte_of, word_of, entry_of, is_byte, is_word, bytes_in_range, in_range, raised_told, raise_of, ByteFits, WordFits, OptionalsFit}
+use Rattle.c_entry.specs.Flat.{absent, flag_number, flat_byte, flat_word, flat_flag, flat_of, byte_of, word_of, entry_of, is_byte, is_word, bytes_in_range, in_range, raised_told, raise_of, ByteFits, WordFits, OptionalsFit}
+
+-- what `or_absent` answers is the optional's number
+pub flat_byte_is : (b : Option ℕ) {n : ℕ} → MatchOption b (n ≡ absent) (λ x. n ≡ x) → n ≡ flat_byte b
+unfolding flat_byte
+flat_byte_is (Some b) h = h
+flat_byte_is None h = h
+
+pub flat_word_is : (w : Option ℕ) {n : ℕ} → MatchOption w (n ≡ absent) (λ x. n ≡ x) → n ≡ flat_word w
+unfolding flat_word
+flat_word_is (Some w) h = h
+flat_word_is None h = h
+
+pub flat_flag_is : (f : Option Bool) {n : ℕ} → MatchOption f (n ≡ absent) (λ x. n ≡ from_bool x) → n ≡ flat_flag f
+unfolding flat_flag
+flat_flag_is (Some true) h = h
+flat_flag_is (Some false) h = h
+flat_flag_is None h = h
+
+pub dropped_is : (b : Bool) {n : ℕ} → n ≡ from_bool b → n ≡ flag_number b
+dropped_is true h = h
+dropped_is false h = h
 
 -- an optional's number is in range and gives the optional back
 byte_back : (b : Option ℕ) → ByteFits b → byte_of (flat_byte b) ≡ b

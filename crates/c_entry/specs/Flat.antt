@@ -97,11 +97,14 @@ entry_of f =
     (byte_of f.unplug)
 
 -- within its width, or absent
+abbrev pub is_below : (width n : ℕ) → Bool
+is_below width n = ltb n width || eqb n absent
+
 unfoldable pub is_byte : ℕ → Bool
-is_byte n = ltb n 256 || eqb n absent
+is_byte = is_below 256
 
 unfoldable pub is_word : ℕ → Bool
-is_word n = ltb n 65536 || eqb n absent
+is_word = is_below 65536
 
 unfoldable pub bytes_in_range : Flat → Bool
 bytes_in_range f = is_byte f.code && is_byte f.port && is_byte f.config && is_byte f.seq && is_byte f.unplug

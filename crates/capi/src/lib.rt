@@ -37,7 +37,7 @@ ghost use Rattle.capi.specs.Told.{as_number, flat_told};
 ghost use Rattle.capi.specs.Calls.{Read, LineRead, EitherRead, Wrote, answer_by, what_by, written_by, name_by, blank_entry};
 
 use book::{Checked, check};
-use c_entry::{ABSENT, Flat, entry_of, flat_byte, flat_flag, flatten, raise};
+use c_entry::{ABSENT, Flat, or_absent};
 use entry::events::{from_code, name_of};
 use entry::{adapter_num, unplug};
 use intake::{What, what_is};
@@ -154,7 +154,7 @@ fn tell_what(text: &[u8], pieces: Pieces) -> WhatAnswer
 pub fn ck_record_write(text: &[u8], entry: Flat, dwords: &[u32], out: &mut [u8]) -> WriteAnswer
     ensures { Wrote text.now entry dwords.now out.old out.new result }
 {
-    match raise(entry) {
+    match entry.raise() {
         Some(e) => written_of(write(text, e, dwords, out)),
         None => written_of(Err(Refusal::BadEntry)),
     }
@@ -186,14 +186,14 @@ pub fn ck_event_name(code: u8) -> EventName
 pub fn ck_adapter_num(entry: Flat) -> u32
     ensures { result ≡ flat_told (adapter_of (byte_of entry.code) (byte_of entry.port)) }
 {
-    flat_byte(adapter_num(entry_of(entry)))
+    or_absent(adapter_num(entry.entry()))
 }
 
 // 1 if the entry reports an unplug, 0 if not, or ABSENT.
 pub fn ck_unplug(entry: Flat) -> u32
     ensures { result ≡ flat_told (as_number (unplug_of (byte_of entry.unplug))) }
 {
-    flat_flag(unplug(entry_of(entry)))
+    or_absent(unplug(entry.entry()))
 }
 
 fn answer_of(answer: Result<Entry, Refusal>) -> EntryAnswer
@@ -202,7 +202,7 @@ fn answer_of(answer: Result<Entry, Refusal>) -> EntryAnswer
     match answer {
         Ok(e) => EntryAnswer {
             number: 0,
-            entry: flatten(e),
+            entry: e.into(),
         },
         Err(number) => EntryAnswer {
             number: number,

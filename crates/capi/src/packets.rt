@@ -6,7 +6,7 @@ ghost use Rattle.batch.specs.Batch.{Batch};
 ghost use Rattle.capi.specs.Packets.{Described, packet_by, made_by, uuid_by, of_packet, text_by, TextRead};
 
 use book::Uuid;
-use c_entry::flat_word;
+use c_entry::or_absent;
 use packet::Packet;
 use scan::Pieces;
 use refusal::Refusal;
@@ -74,10 +74,10 @@ fn with_uuid(number: u8, start: Option<u16>, uuid: Option<Uuid>) -> PacketAnswer
     ensures { result ≡ uuid_by number start uuid }
 {
     match uuid {
-        Some(u) => whole(number, flat_word(start), 1, u),
+        Some(u) => whole(number, or_absent(start), 1, u),
         None => whole(
             number,
-            flat_word(start),
+            or_absent(start),
             0,
             Uuid {
                 first: 0,

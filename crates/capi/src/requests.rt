@@ -4,7 +4,7 @@ ghost use Rattle.slots.specs.Decide.{free_slot};
 ghost use Rattle.pending.specs.Table.{waiting_told, place_told};
 ghost use Rattle.capi.specs.Requests.{word_at, step_by, count_by, place_by, Stepped, Counted, Placed};
 
-use c_entry::{Flat, entry_of};
+use c_entry::Flat;
 use pending::{clear, oldest, step, waiting};
 use slots::Slot;
 use slots::decide::Report;
@@ -47,7 +47,7 @@ pub fn ck_pending_clear(slots: &mut [Slot])
 pub fn ck_pending_step(f: Flat, slots: &mut [Slot]) -> StepAnswer
     ensures { Stepped f slots.old result slots.new }
 {
-    let entry = entry_of(f);
+    let entry = f.entry();
     let report = step(entry, slots);
     step_answer(report)
 }

@@ -5,7 +5,7 @@ ghost use Rattle.stream.specs.Answers.{answer_told};
 ghost use Rattle.capi.specs.Streams.{StreamFed, StreamEnded, stream_by, ended_by};
 
 use crate::blank_entry;
-use c_entry::{Flat, flatten};
+use c_entry::Flat;
 use refusal::Refusal;
 use scan::Pieces;
 use stream::{feed, finish};
@@ -89,7 +89,7 @@ fn stream_answer(at: usize, state: State, answer: Result<Option<Entry>, Refusal>
             ended: 1,
             at: at,
             state: state,
-            entry: flatten(e),
+            entry: e.into(),
         },
         Err(number) => StreamAnswer {
             number: number,

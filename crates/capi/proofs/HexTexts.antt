@@ -1,5 +1,6 @@
 -- Where a text that is told stands: a pair's value, and a piece between brackets, lies within its payload, and the payload within the line. So its
 -- length is the difference of its ends. Assumes nothing.
+use Rattle.std.specs.Prelude.{None, Option}
 use Prim.Native.Nat.{ℕ, zero, suc, ◌+◌, ◌-◌, ◌^◌, ◌≤◌, ◌<◌}
 use mathlib.Core.Path.{◌≡◌, refl}
 use mathlib.Core.Bool.{Bool, true, false, cond}
@@ -12,8 +13,7 @@ use borrow.Author.Tests.{ltb-true}
 use Rattle.text.specs.Told.{Told, is, absent, refused, and_then}
 use Rattle.text.specs.Quote.{bytes}
 use Rattle.pairs.specs.declared.pair.Span.{Span}
-use Rattle.pairs.specs.declared.pair.Span.TheVariants.{At, Nothing}
-use Rattle.pairs.specs.Pair.{part, last_pair}
+use Rattle.pairs.specs.Pair.{part, last_pair, span}
 use Rattle.pairs.specs.Data.{inside_of, piece_end, nth_piece}
 use Rattle.pairs.proofs.Cuts.{ends_piece}
 use Rattle.pairs.proofs.LastPairs.{last_within}
@@ -33,14 +33,14 @@ StandsBefore n told = (text : HexText) → told ≡ is text → (text.from ≤ t
 part_length : (s : List ℕ) (a b : ℕ) → b ≤ length s → length (part s a b) ≡ b - a
 part_length s a b h = length-take-le (b - a) (drop a s) (omega (arith, length-drop a s))
 
-said_stands : (limit start : ℕ) (s : List ℕ) (span : Span) → SpanWithin s span → StandsBefore (start + length s) (said_at limit start s span)
+said_stands : (limit start : ℕ) (s : List ℕ) (span : Option Span) → SpanWithin s span → StandsBefore (start + length s) (said_at limit start s span)
 unfolding said_at
-said_stands limit start s (At a b) w text e =
-    let h = w a b refl in
-    let f : start + a ≡ text.from = cc in
-    let t : start + b ≡ text.to = cc in
+said_stands limit start s (Some x) w text e =
+    let h = w x.from x.to refl in
+    let f : start + x.from ≡ text.from = cc in
+    let t : start + x.to ≡ text.to = cc in
     (omega (arith, f, t, h.0), omega (arith, t, h.1))
-said_stands limit start s Nothing w text e = absurd (let z : ◌≡◌ {A = ℕ} 0 1 = cc in omega arith)
+said_stands limit start s None w text e = absurd (let z : ◌≡◌ {A = ℕ} 0 1 = cc in omega arith)
 
 key_stands : (p : List ℕ) (start : ℕ) (key : Key) → StandsBefore (start + length p) (key_in p start key)
 unfolding key_in
@@ -57,36 +57,36 @@ nth_within zero l from low a b e =
     (omega (arith, x, y, p.up), omega (arith, y, p.within))
 nth_within (suc i) l from low a b e = go (ltb (piece_end l from) (length l)) refl e (nth_within i l (piece_end l from + 2))
   where
-    go : (more : Bool) → ltb (piece_end l from) (length l) ≡ more → cond more (nth_piece i l (piece_end l from + 2)) Nothing ≡ At a b
+    go : (more : Bool) → ltb (piece_end l from) (length l) ≡ more → cond more (nth_piece i l (piece_end l from + 2)) None ≡ span a b
         → (piece_end l from + 2 ≤ length l → SpanWithin l (nth_piece i l (piece_end l from + 2))) → (a ≤ b) × (b ≤ length l)
     go true t q next = let p = ends_piece l low refl in next (p.more (ltb-true _ _ t)) a b q
     go false t q next = absurd (let z : ◌≡◌ {A = ℕ} 0 1 = cc in omega arith)
 
 module _ (p : List ℕ) where
-  moved_within : (a b : ℕ) → b ≤ length p → (span : Span) → ((x y : ℕ) → span ≡ At x y → (x < y) × (y ≤ b - a)) → SpanWithin p (moved a span)
+  moved_within : (a b : ℕ) → b ≤ length p → (span : Option Span) → ((x y : ℕ) → span ≡ span x y → (x < y) × (y ≤ b - a)) → SpanWithin p (moved a span)
   unfolding moved
-  moved_within a b h (At x y) w c d e =
-      let i = w x y refl in
-      let m : a + x ≡ c = cc in
-      let n : a + y ≡ d = cc in
+  moved_within a b h (Some v) w c d e =
+      let i = w v.from v.to refl in
+      let m : a + v.from ≡ c = cc in
+      let n : a + v.to ≡ d = cc in
       (omega (arith, m, n, i.0), omega (arith, n, i.0, i.1))
-  moved_within a b h Nothing w c d e = absurd (let z : ◌≡◌ {A = ℕ} 0 1 = cc in omega arith)
+  moved_within a b h None w c d e = absurd (let z : ◌≡◌ {A = ℕ} 0 1 = cc in omega arith)
 
-  brackets_within : (span : Span) → last_pair p (bytes "data") ≡ span → SpanWithin p (brackets_at p span)
+  brackets_within : (span : Option Span) → last_pair p (bytes "data") ≡ span → SpanWithin p (brackets_at p span)
   unfolding brackets_at
-  brackets_within (At a b) e =
+  brackets_within (Some v) e =
       let w = last_within p (bytes "data") e in
-      let size = part_length p a b w.1 in
-      moved_within a b w.1 (inside_of (part p a b)) (λ x y q. let i = (bracketed (part p a b) refl).within x y q in (i.0, omega (arith, i.1, size)))
-  brackets_within Nothing e = λ c d q. absurd (let z : ◌≡◌ {A = ℕ} 0 1 = cc in omega arith)
+      let size = part_length p v.from v.to w.1 in
+      moved_within v.from v.to w.1 (inside_of (part p v.from v.to)) (λ x y q. let i = (bracketed (part p v.from v.to) refl).within x y q in (i.0, omega (arith, i.1, size)))
+  brackets_within None e = λ c d q. absurd (let z : ◌≡◌ {A = ℕ} 0 1 = cc in omega arith)
 
-  piece_at_stands : (start i : ℕ) (span : Span) → SpanWithin p span → StandsBefore (start + length p) (piece_at p start i span)
+  piece_at_stands : (start i : ℕ) (span : Option Span) → SpanWithin p span → StandsBefore (start + length p) (piece_at p start i span)
   unfolding piece_at
-  piece_at_stands start i (At a b) w text e =
-      let h = w a b refl in
-      let s = said_stands (2 ^ 32 - 1) (start + a) (part p a b) (nth_piece i (part p a b) 0) (nth_within i (part p a b) 0 (omega arith)) text e in
-      (s.0, omega (arith, s.1, part_length p a b h.1, h.0, h.1))
-  piece_at_stands start i Nothing w text e = absurd (let z : ◌≡◌ {A = ℕ} 0 1 = cc in omega arith)
+  piece_at_stands start i (Some x) w text e =
+      let h = w x.from x.to refl in
+      let s = said_stands (2 ^ 32 - 1) (start + x.from) (part p x.from x.to) (nth_piece i (part p x.from x.to) 0) (nth_within i (part p x.from x.to) 0 (omega arith)) text e in
+      (s.0, omega (arith, s.1, part_length p x.from x.to h.1, h.0, h.1))
+  piece_at_stands start i None w text e = absurd (let z : ◌≡◌ {A = ℕ} 0 1 = cc in omega arith)
 
   piece_stands : (start i : ℕ) → StandsBefore (start + length p) (piece_in p start i)
   unfolding piece_in data_span

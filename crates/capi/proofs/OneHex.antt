@@ -15,8 +15,7 @@ use borrow.Author.Tests.{ne_eqb}
 use Rattle.text.specs.Told.{Told, is, absent, refused, and_then}
 use Rattle.text.specs.Place.{last_byte}
 use Rattle.pairs.specs.declared.pair.Span.{Span}
-use Rattle.pairs.specs.declared.pair.Span.TheVariants.{At, Nothing}
-use Rattle.pairs.specs.Pair.{part, last_pair}
+use Rattle.pairs.specs.Pair.{part, last_pair, span}
 use Rattle.pairs.specs.Data.{nth_piece}
 use Rattle.scan.specs.Frame.{idle, first_high, frame_colon, frame_ascii, frame_of}
 use Rattle.reasons.specs.declared.HexText.{HexText}
@@ -87,15 +86,15 @@ then_numbered (is a) next n m = m a
 then_numbered absent next n m = λ k e. absurd (let z : ◌≡◌ {A = ℕ} 0 1 = cc in omega arith)
 then_numbered (refused j) next n m = λ k e. let q : j ≡ k = cc in omega (arith, n j refl, q)
 
-said_numbered : (limit start : ℕ) (s : List ℕ) (span : Span) → Numbered (said_at limit start s span)
+said_numbered : (limit start : ℕ) (s : List ℕ) (span : Option Span) → Numbered (said_at limit start s span)
 unfolding said_at
-said_numbered limit start s (At a b) k e = absurd (let z : ◌≡◌ {A = ℕ} 0 1 = cc in omega arith)
-said_numbered limit start s Nothing k e = absurd (let z : ◌≡◌ {A = ℕ} 0 1 = cc in omega arith)
+said_numbered limit start s (Some w) k e = absurd (let z : ◌≡◌ {A = ℕ} 0 1 = cc in omega arith)
+said_numbered limit start s None k e = absurd (let z : ◌≡◌ {A = ℕ} 0 1 = cc in omega arith)
 
-piece_numbered : (p : List ℕ) (start i : ℕ) (span : Span) → Numbered (piece_at p start i span)
+piece_numbered : (p : List ℕ) (start i : ℕ) (span : Option Span) → Numbered (piece_at p start i span)
 unfolding piece_at
-piece_numbered p start i (At a b) = said_numbered (2 ^ 32 - 1) (start + a) (part p a b) (nth_piece i (part p a b) 0)
-piece_numbered p start i Nothing = λ k e. absurd (let z : ◌≡◌ {A = ℕ} 0 1 = cc in omega arith)
+piece_numbered p start i (Some w) = said_numbered (2 ^ 32 - 1) (start + w.from) (part p w.from w.to) (nth_piece i (part p w.from w.to) 0)
+piece_numbered p start i None = λ k e. absurd (let z : ◌≡◌ {A = ℕ} 0 1 = cc in omega arith)
 
 module _ (t : List ℕ) where
   payload_numbered : Numbered (payload_place t)

@@ -1,5 +1,6 @@
 -- The brackets of a last pair's value: a value is a word run or brackets, and no word run starts with `[`, so its first byte tells which, and brackets
 -- end where the value does. Assumes nothing.
+use Rattle.std.specs.Prelude.{None}
 use Prim.Native.Nat.{ℕ, zero, suc, ◌+◌, ◌-◌, ◌≤◌, ◌<◌}
 use mathlib.Core.Path.{◌≡◌, refl, sym, ap, ◌∙◌}
 use mathlib.Core.List.{List, [], ◌∷◌}
@@ -11,8 +12,7 @@ use Rattle.text.specs.Class.{is_word, in_class}
 use Rattle.text.specs.Run.{Inside, Run}
 use Rattle.text.proofs.Places.{clash}
 use Rattle.text.proofs.Runs.{run_all}
-use Rattle.pairs.specs.declared.pair.Span.TheVariants.{At, Nothing}
-use Rattle.pairs.specs.Pair.{part, Value, last_pair}
+use Rattle.pairs.specs.Pair.{part, Value, last_pair, span}
 use Rattle.pairs.specs.Data.{inside_of}
 use Rattle.pairs.proofs.Tries.{bracket_is_no_word, close_ends}
 use Rattle.pairs.proofs.PairLists.{pairs_each}
@@ -33,13 +33,13 @@ behind_first n (x ∷ l) = refl
 pub record Brackets (s : List ℕ) (a b : ℕ) : Type 0 where
   pub some : a + 2 < b
   pub within : b ≤ length s
-  pub inside : inside_of (part s a b) ≡ At 1 (b - a - 1)
+  pub inside : inside_of (part s a b) ≡ span 1 (b - a - 1)
   pub inner : part (part s a b) 1 (b - a - 1) ≡ part s (a + 1) (b - 1)
 
 same_value : (s : List ℕ) {v w e f : ℕ} → v ≡ w → e ≡ f → Value s w f → Value s v e
 same_value s p q x = rw (p, q) x
 
-module _ (s key : List ℕ) {a b : ℕ} (found : last_pair s key ≡ At a b) where
+module _ (s key : List ℕ) {a b : ℕ} (found : last_pair s key ≡ span a b) where
   value : Value s a b
   value =
       let r = last_pair_is s key found in
@@ -59,7 +59,7 @@ module _ (s key : List ℕ) {a b : ℕ} (found : last_pair s key ≡ At a b) whe
       let z : a + 0 ≡ a = omega arith in
       byte (omega (arith, w.0)) ∙ ap (λ (k : ℕ). get_or s k 0) z
 
-  pub last_unopened : (get_or s a 0 ≡ 91 → ⊥) → inside_of (part s a b) ≡ Nothing
+  pub last_unopened : (get_or s a 0 ≡ 91 → ⊥) → inside_of (part s a b) ≡ None
   last_unopened n = inside_unopened (part s a b) (λ e. n (sym first ∙ e))
 
   module _ (opens : get_or s a 0 ≡ 91) (c : ℕ) (more : a + 1 < c) (no_close : Inside (in_class NotClose) s (a + 1) c)

@@ -9,8 +9,7 @@ use Rattle.text.specs.Place.{first_of, first_in, found_below, first_place}
 use Rattle.text.specs.Quote.{bytes}
 use Rattle.text.specs.Run.{run_end}
 use Rattle.text.specs.Same.{same_text}
-use Rattle.pairs.specs.declared.pair.Span.TheVariants.{At, Nothing}
-use Rattle.pairs.specs.Pair.{bracket_end, value_end, with_value, pair_with, pair_at, is_hit, pair_from, next_pair, followed, pairs_within, pairs_from, newer, last_in, last_pair, decimal_in, decimal_of}
+use Rattle.pairs.specs.Pair.{bracket_end, value_end, with_value, pair_with, pair_at, is_hit, pair_from, next_pair, followed, pairs_within, pairs_from, newer, last_in, last_pair, decimal_in, decimal_of, span}
 use Rattle.pairs.specs.Data.{ahead, cut, piece_of, taken, dwords_in, dwords_of, inside_of, data_in, data_of}
 use Rattle.pairs.specs.Table.{keys, key_after, unknown, key_named}
 use Rattle.pairs.proofs.PairLists.{placed}
@@ -53,7 +52,7 @@ whole_names = record { whole = refl; longer = refl; shorter = refl; before = ref
 
 -- `data=[0x1, zz, 0x2]`: 1, 2
 pub record P6 : Type 0 where
-  pub value_at : last_pair (bytes "data=[0x1, zz, 0x2]") (bytes "data") ≡ At 5 19
+  pub value_at : last_pair (bytes "data=[0x1, zz, 0x2]") (bytes "data") ≡ span 5 19
   pub dwords : data_of (bytes "[0x1, zz, 0x2]") ≡ Some (1 ∷ 2 ∷ [])
 
 pub case_P6 : P6
@@ -62,7 +61,7 @@ case_P6 = record { value_at = refl; dwords = refl }
 
 -- `data=[0x1,0x2]`: no dwords; accepted in lenient
 pub record P7 : Type 0 where
-  pub value_at : last_pair (bytes "data=[0x1,0x2]") (bytes "data") ≡ At 5 14
+  pub value_at : last_pair (bytes "data=[0x1,0x2]") (bytes "data") ≡ span 5 14
   pub dwords : data_of (bytes "[0x1,0x2]") ≡ Some []
 
 pub case_P7 : P7
@@ -70,14 +69,14 @@ unfolding computes
 case_P7 = record { value_at = refl; dwords = refl }
 
 -- `data=[]`: no pair, so no data
-pub case_P8 : last_pair (bytes "data=[]") (bytes "data") ≡ Nothing
+pub case_P8 : last_pair (bytes "data=[]") (bytes "data") ≡ None
 unfolding computes
 case_P8 = refl
 
 -- `x=[size=4` with no `]` behind it is no pair, and the search goes on one byte after the try's start; `x=[size=4]` hides the inner pair
 pub record Resumes : Type 0 where
-  pub unclosed : last_pair (bytes "x=[size=4") (bytes "size") ≡ At 8 9
-  pub hidden : last_pair (bytes "x=[size=4]") (bytes "size") ≡ Nothing
+  pub unclosed : last_pair (bytes "x=[size=4") (bytes "size") ≡ span 8 9
+  pub hidden : last_pair (bytes "x=[size=4]") (bytes "size") ≡ None
 
 pub resumes : Resumes
 unfolding computes

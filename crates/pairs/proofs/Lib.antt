@@ -1,4 +1,5 @@
 -- The laws of pairs and data, and that each answer is what its sentence says.
+pub mod Ends
 pub mod Tries
 pub mod Matches
 pub mod PairLists

@@ -1,5 +1,6 @@
 -- The next match: a search that goes on behind the word run of a try that failed passes over places that start no match, so what it meets
 -- first is the first match, and the first match is the sentence's. Assumes nothing.
+use Rattle.pairs.proofs.Ends.{same_hit}
 use Rattle.std.specs.Prelude.{None, Option, Some}
 use Prim.Native.Nat.{ℕ, ◌+◌, ◌≤◌, ◌<◌}
 use mathlib.Core.Path.{◌≡◌, refl, sym, ap, ◌∙◌}
@@ -14,9 +15,8 @@ use Rattle.text.specs.Place.{Free, first_in, found_below, first_place}
 use Rattle.text.specs.Run.{run_end}
 use Rattle.text.proofs.Places.{clash, Stops, first_stops, first_is, first_all, place_hit, place_end, place_skip_to}
 use Rattle.text.proofs.Runs.{run_up}
-use Rattle.pairs.specs.declared.pair.Pair.{Pair}
-use Rattle.pairs.specs.declared.pair.Pair.TheVariants.{Hit, Miss}
-use Rattle.pairs.specs.Pair.{FirstPair, NoPair, NextPair, pair_with, pair_at, is_hit, pair_from, next_pair}
+use Rattle.pairs.specs.declared.pair.Hit.{Hit}
+use Rattle.pairs.specs.Pair.{FirstPair, NoPair, NextPair, pair_with, pair_at, is_hit, pair_from, next_pair, hit}
 use Rattle.pairs.proofs.Tries.{pair_at_is, pair_at_all, miss_within, value_up, value_within}
 
 -- where no place was found, none passes
@@ -39,16 +39,16 @@ module _ (s : List ℕ) where
   abbrev hits : ℕ → Bool
   hits i = is_hit (pair_at s i)
 
-  miss_is : (p : Pair) → is_hit p ≡ false → p ≡ Miss
+  miss_is : (p : Option Hit) → is_hit p ≡ false → p ≡ None
   unfolding is_hit
-  miss_is (Hit i m e) t = absurd (clash {b = true} refl t)
-  miss_is Miss t = refl
+  miss_is (Some p) t = absurd (clash {b = true} refl t)
+  miss_is None t = refl
 
-  hit_passes : (i : ℕ) {a m e : ℕ} → pair_at s i ≡ Hit a m e → hits i ≡ true
+  hit_passes : (i : ℕ) {a m e : ℕ} → pair_at s i ≡ hit a m e → hits i ≡ true
   unfolding is_hit
   hit_passes i q = rw q
 
-  miss_fails : (i : ℕ) → pair_at s i ≡ Miss → hits i ≡ false
+  miss_fails : (i : ℕ) → pair_at s i ≡ None → hits i ≡ false
   unfolding is_hit
   miss_fails i q = rw q
 
@@ -60,27 +60,27 @@ module _ (s : List ℕ) where
   pub seeking_starts : (from : ℕ) → Seeking from from
   seeking_starts from = record { up = omega arith; same = refl }
 
-  pub next_ends : {i : ℕ} → length s ≤ i → next_pair s i ≡ Miss
+  pub next_ends : {i : ℕ} → length s ≤ i → next_pair s i ≡ None
   unfolding next_pair pair_from
   next_ends l = rw (place_end hits l)
 
-  pub next_hits : (i : ℕ) {a m e : ℕ} → i < length s → pair_at s i ≡ Hit a m e → next_pair s i ≡ Hit a m e
+  pub next_hits : (i : ℕ) {a m e : ℕ} → i < length s → pair_at s i ≡ hit a m e → next_pair s i ≡ hit a m e
   unfolding next_pair pair_from
   next_hits i l q = rw (place_hit hits {i = i} {n = length s} l (hit_passes i q)) q
 
-  pub next_skips : (i e : ℕ) → i ≤ e → ((k : ℕ) → i ≤ k → k < e → pair_at s k ≡ Miss) → next_pair s i ≡ next_pair s e
+  pub next_skips : (i e : ℕ) → i ≤ e → ((k : ℕ) → i ≤ k → k < e → pair_at s k ≡ None) → next_pair s i ≡ next_pair s e
   unfolding next_pair
   next_skips i e l f = ap (pair_from s) (place_skip_to hits i e (length s) l (λ k a b. miss_fails k (f k a b)))
 
-  pub seeking_ends : {from i : ℕ} → Seeking from i → length s ≤ i → next_pair s from ≡ Miss
+  pub seeking_ends : {from i : ℕ} → Seeking from i → length s ≤ i → next_pair s from ≡ None
   seeking_ends r l = r.same ∙ next_ends l
 
   module _ {from i m : ℕ} (r : Seeking from i) (in-text : i < length s) (m-is : m ≡ run_end is_word s i) where
-    pub seeking_hits : {a b e : ℕ} → pair_with s i m ≡ Hit a b e → next_pair s from ≡ Hit a b e
+    pub seeking_hits : {a b e : ℕ} → pair_with s i m ≡ hit a b e → next_pair s from ≡ hit a b e
     unfolding pair_at
     seeking_hits q = r.same ∙ next_hits i in-text (rw (← m-is) q)
 
-    pub seeking_steps : pair_with s i m ≡ Miss → Seeking from (m + 1)
+    pub seeking_steps : pair_with s i m ≡ None → Seeking from (m + 1)
     seeking_steps q =
         let up : i ≤ m = rw m-is (run_up is_word s i) in
         record {
@@ -91,10 +91,10 @@ module _ (s : List ℕ) where
         }
 
   -- the next match is the sentence's
-  pub pair_all : {from i m e : ℕ} → FirstPair s from i m e → next_pair s from ≡ Hit i m e
+  pub pair_all : {from i m e : ℕ} → FirstPair s from i m e → next_pair s from ≡ hit i m e
   unfolding next_pair pair_from
   pair_all {from} {i} {m} {e} r =
-      let here : pair_at s i ≡ Hit i m e = pair_at_all s r.here in
+      let here : pair_at s i ≡ hit i m e = pair_at_all s r.here in
       let place : first_place hits (length s) from ≡ Some i =
       first_all hits
       (record {
@@ -105,15 +105,15 @@ module _ (s : List ℕ) where
       }) in
       rw place here
     where
-      not-before : (k : ℕ) → from ≤ k → k < i → (p : Pair) → pair_at s k ≡ p → p ≡ Miss
-      not-before k a b Miss q = refl
-      not-before k a b (Hit x y z) q = absurd (r.before k y z a b (pair_at_is s q).1)
+      not-before : (k : ℕ) → from ≤ k → k < i → (p : Option Hit) → pair_at s k ≡ p → p ≡ None
+      not-before k a b None q = refl
+      not-before k a b (Some p) q = absurd (r.before k p.equals p.end a b (pair_at_is s q).1)
 
-  pub pair_is : {from i m e : ℕ} → next_pair s from ≡ Hit i m e → FirstPair s from i m e
+  pub pair_is : {from i m e : ℕ} → next_pair s from ≡ hit i m e → FirstPair s from i m e
   unfolding next_pair pair_from
   pair_is {from} {i} {m} {e} q = go (first_place hits (length s) from) refl q
     where
-      go : (f : Option ℕ) → first_place hits (length s) from ≡ f → pair_from s f ≡ Hit i m e → FirstPair s from i m e
+      go : (f : Option ℕ) → first_place hits (length s) from ≡ f → pair_from s f ≡ hit i m e → FirstPair s from i m e
       go (Some k) place t =
           let f = first_is hits place in
           let here = pair_at_is s t in
@@ -128,32 +128,32 @@ module _ (s : List ℕ) where
 
   pub one_pair : {from i m e i' m' e' : ℕ} → FirstPair s from i m e → FirstPair s from i' m' e' →
       (i ≡ i') × (m ≡ m') × (e ≡ e')
-  one_pair a b = let x = pair_all a in let y = pair_all b in (cc, cc, cc)
+  one_pair a b = same_hit (sym (pair_all a) ∙ pair_all b)
 
   -- no match exactly where none is found
-  pub no_pair_all : {from : ℕ} → NoPair s from → next_pair s from ≡ Miss
+  pub no_pair_all : {from : ℕ} → NoPair s from → next_pair s from ≡ None
   no_pair_all {from} n = go (next_pair s from) refl
     where
-      go : (p : Pair) → next_pair s from ≡ p → p ≡ Miss
-      go Miss q = refl
-      go (Hit i m e) q = let f = pair_is q in absurd (n i m e f.up f.here)
+      go : (p : Option Hit) → next_pair s from ≡ p → p ≡ None
+      go None q = refl
+      go (Some p) q = let f = pair_is q in absurd (n p.key p.equals p.end f.up f.here)
 
-  pub no_pair_is : {from : ℕ} → next_pair s from ≡ Miss → NoPair s from
+  pub no_pair_is : {from : ℕ} → next_pair s from ≡ None → NoPair s from
   unfolding next_pair pair_from
   no_pair_is {from} q = go (first_place hits (length s) from) refl q
     where
-      go : (f : Option ℕ) → first_place hits (length s) from ≡ f → pair_from s f ≡ Miss → NoPair s from
+      go : (f : Option ℕ) → first_place hits (length s) from ≡ f → pair_from s f ≡ None → NoPair s from
       go (Some k) place t = absurd (clash (first_is hits place).here (miss_fails k t))
       go None place t =
           λ k l f a r. clash (hit_passes k (pair_at_all s r))
           (nothing_free hits place k a (omega (arith, r.some, r.key.within)))
 
   -- a match has places that rise within the text
-  pub next_rise : {from i m e : ℕ} → next_pair s from ≡ Hit i m e → (from ≤ i) × (i < m) × (m + 1 < e) × (e ≤ length s)
+  pub next_rise : {from i m e : ℕ} → next_pair s from ≡ hit i m e → (from ≤ i) × (i < m) × (m + 1 < e) × (e ≤ length s)
   next_rise q =
       let f = pair_is q in
       (f.up, f.here.some, value_up s _ f.here.value, value_within s _ f.here.value)
 
   -- what a caller is told of an answer
-  pub next_pair_lem : {from : ℕ} {r : Pair} → r ≡ next_pair s from → NextPair s from r
+  pub next_pair_lem : {from : ℕ} {r : Option Hit} → r ≡ next_pair s from → NextPair s from r
   next_pair_lem q = record { is = q; rise = λ i m e h. next_rise (sym q ∙ h) }

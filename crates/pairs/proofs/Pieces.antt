@@ -1,5 +1,7 @@
 -- The i-th piece: each piece starts behind the comma-space that ends the one before, so walking i of them leads to the i-th of the pieces that
 -- the text is cut into, and past the last to none. Assumes nothing.
+use Rattle.pairs.proofs.Ends.{same_span}
+use Rattle.std.specs.Prelude.{None}
 use Prim.Native.Nat.{ℕ, zero, suc, ◌+◌, ◌-◌, ◌≤◌, ◌<◌}
 use mathlib.Core.Path.{◌≡◌, refl, sym, ap, ◌∙◌}
 use mathlib.Core.Bool.{Bool, true, false, cond}
@@ -10,8 +12,7 @@ use lib.ListN.{length, drop, length-append, length-drop}
 use lib.Seq.{length-take-le}
 use borrow.Author.Tests.{lt-ltb, le-ltb, ltb-true}
 use Rattle.text.proofs.Places.{by_order}
-use Rattle.pairs.specs.declared.pair.Span.TheVariants.{At, Nothing}
-use Rattle.pairs.specs.Pair.{part}
+use Rattle.pairs.specs.Pair.{part, span}
 use Rattle.pairs.specs.Data.{cut, joined, PieceIn, piece_end, nth_piece, EndsPiece, NthPiece}
 use Rattle.pairs.proofs.Cuts.{ends_piece, cut_last, cut_next}
 
@@ -24,20 +25,20 @@ module _ (l : List ℕ) (i : ℕ) where
   pub passing_starts : Passing i 0
   passing_starts = record { within = omega arith; same = refl }
 
-  pub passing_ends : {left at to : ℕ} → Passing left at → left ≡ 0 → EndsPiece l at to → NthPiece l i (At at to)
+  pub passing_ends : {left at to : ℕ} → Passing left at → left ≡ 0 → EndsPiece l at to → NthPiece l i (span at to)
   unfolding nth_piece
   passing_ends {left} {at} {to} p z e =
       record {
-        is = sym (p.same ∙ rw z (ap (At at) (sym e.is)));
-        within = λ a b q. let x : at ≡ a = cc in let y : to ≡ b = cc in (omega (arith, x, y, e.up), omega (arith, y, e.within));
+        is = sym (p.same ∙ rw z (ap (span at) (sym e.is)));
+        within = λ a b q. let x : at ≡ a = (same_span q).0 in let y : to ≡ b = (same_span q).1 in (omega (arith, x, y, e.up), omega (arith, y, e.within));
       }
 
-  step_of : (left at to : ℕ) → to ≡ piece_end l at → (left ≡ 0 → ⊥) → nth_piece left l at ≡ cond (ltb to (length l)) (nth_piece (left - 1) l (to + 2)) Nothing
+  step_of : (left at to : ℕ) → to ≡ piece_end l at → (left ≡ 0 → ⊥) → nth_piece left l at ≡ cond (ltb to (length l)) (nth_piece (left - 1) l (to + 2)) None
   unfolding nth_piece
   step_of zero at to e n = absurd (n refl)
   step_of (suc k) at to e n = let q : suc k - 1 ≡ k = omega arith in rw (q, e)
 
-  pub passing_runs_out : {left at to : ℕ} → Passing left at → (left ≡ 0 → ⊥) → EndsPiece l at to → to ≡ length l → NthPiece l i Nothing
+  pub passing_runs_out : {left at to : ℕ} → Passing left at → (left ≡ 0 → ⊥) → EndsPiece l at to → to ≡ length l → NthPiece l i None
   passing_runs_out {left} {at} {to} p n e end =
       record {
         is = sym (p.same ∙ step_of left at to e.is n ∙ rw (le-ltb to (length l) (omega arith)));
@@ -77,13 +78,13 @@ module _ (l : List ℕ) where
     ends : b ≡ a + length (part l a b)
     within : b ≤ length l
 
-  walked : (i from : ℕ) → from ≤ length l → {a b : ℕ} → nth_piece i l from ≡ At a b → Walked i from a b
+  walked : (i from : ℕ) → from ≤ length l → {a b : ℕ} → nth_piece i l from ≡ span a b → Walked i from a b
   unfolding nth_piece joined
   walked zero from h {a} {b} q =
       let w = first_piece from h in
       let e = ends_piece l h refl in
-      let low : from ≡ a = cc in
-      let high : piece_end l from ≡ b = cc in
+      let low : from ≡ a = (same_span q).0 in
+      let high : piece_end l from ≡ b = (same_span q).1 in
       rw (← low, ← high)
       (record {
         before = [];
@@ -110,22 +111,22 @@ module _ (l : List ℕ) where
             within = w.within;
           }
 
-      go : (piece_end l from < length l → nth_piece i l (piece_end l from + 2) ≡ At a b → Walked i (piece_end l from + 2) a b)
-          → (t : Bool) → ltb (piece_end l from) (length l) ≡ t → cond t (nth_piece i l (piece_end l from + 2)) Nothing ≡ At a b → Walked (suc i) from a b
+      go : (piece_end l from < length l → nth_piece i l (piece_end l from + 2) ≡ span a b → Walked i (piece_end l from + 2) a b)
+          → (t : Bool) → ltb (piece_end l from) (length l) ≡ t → cond t (nth_piece i l (piece_end l from + 2)) None ≡ span a b → Walked (suc i) from a b
       go next true t r = let m : piece_end l from < length l = ltb-true _ _ t in further m (next m r)
       go next false t r = absurd (let z : ◌≡◌ {A = ℕ} 0 1 = cc in omega arith)
 
-  pub nth_is : (i : ℕ) {a b : ℕ} → nth_piece i l 0 ≡ At a b → PieceIn (cut l) i (part l a b) a b
+  pub nth_is : (i : ℕ) {a b : ℕ} → nth_piece i l 0 ≡ span a b → PieceIn (cut l) i (part l a b) a b
   nth_is i q =
       let w = walked i 0 (omega arith) q in
       record { before = w.before; after = w.after; are = w.are; count = w.count; starts = omega (arith, w.starts); ends = w.ends }
 
-  pub nth_within : (i : ℕ) {a b : ℕ} → nth_piece i l 0 ≡ At a b → (a ≤ b) × (b ≤ length l)
+  pub nth_within : (i : ℕ) {a b : ℕ} → nth_piece i l 0 ≡ span a b → (a ≤ b) × (b ≤ length l)
   nth_within i q = let w = walked i 0 (omega arith) q in (omega (arith, w.ends), w.within)
 
   -- and the piece of the sentence is what the walk comes to
   walks_to : (before after : List (List ℕ)) (piece : List ℕ) (from : ℕ) → from ≤ length l → cut (drop from l) ≡ before ++ (piece ∷ after)
-      → nth_piece (length before) l from ≡ At (from + length (joined before)) (from + length (joined before) + length piece)
+      → nth_piece (length before) l from ≡ span (from + length (joined before)) (from + length (joined before) + length piece)
   unfolding nth_piece joined
   walks_to [] after piece from h q =
       let w = first_piece from h in
@@ -142,8 +143,8 @@ module _ (l : List ℕ) where
       (λ m. absurd (omega (arith, e.within)))
     where
       further : (piece_end l from < length l → cut (drop (piece_end l from + 2) l) ≡ before ++ (piece ∷ after)
-          → nth_piece (length before) l (piece_end l from + 2) ≡ At (piece_end l from + 2 + length (joined before)) (piece_end l from + 2 + length (joined before) + length piece))
-          → piece_end l from < length l → nth_piece (suc (length before)) l from ≡ At (from + length (joined (p ∷ before))) (from + length (joined (p ∷ before)) + length piece)
+          → nth_piece (length before) l (piece_end l from + 2) ≡ span (piece_end l from + 2 + length (joined before)) (piece_end l from + 2 + length (joined before) + length piece))
+          → piece_end l from < length l → nth_piece (suc (length before)) l from ≡ span (from + length (joined (p ∷ before))) (from + length (joined (p ∷ before)) + length piece)
       further next m =
           let e = ends_piece l h refl in
           let both : part l from (piece_end l from) ∷ cut (drop (piece_end l from + 2) l) ≡ p ∷ (before ++ (piece ∷ after)) = sym (cut_next l h refl m) ∙ q in
@@ -152,7 +153,7 @@ module _ (l : List ℕ) where
           let at : piece_end l from + 2 + length (joined before) ≡ from + length (joined (p ∷ before)) = omega (arith, joined_length p before, piece_length from h, ap length head, e.up) in
           rw (lt-ltb (piece_end l from) (length l) m, ← at) (next m rest)
 
-  pub nth_all : {i : ℕ} {piece : List ℕ} {a b : ℕ} → PieceIn (cut l) i piece a b → nth_piece i l 0 ≡ At a b
+  pub nth_all : {i : ℕ} {piece : List ℕ} {a b : ℕ} → PieceIn (cut l) i piece a b → nth_piece i l 0 ≡ span a b
   nth_all {i} {piece} {a} {b} r =
       let w = walks_to r.before r.after piece 0 (omega arith) r.are in
       let low : 0 + length (joined r.before) ≡ a = omega (arith, r.starts) in

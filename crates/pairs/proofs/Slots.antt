@@ -1,5 +1,6 @@
 -- The dwords of a bracketed value: each piece adds its own to those behind it, so what is counted or written so far and what the rest adds
 -- make up the whole; and the brackets that are found are the sentence's. Assumes nothing.
+use Rattle.pairs.proofs.Ends.{same_span}
 use Rattle.std.specs.Prelude.{None, Option, Some}
 use Prim.Native.Nat.{ℕ, zero, suc, ◌+◌, ◌-◌, ◌≤◌, ◌<◌, ◌^◌}
 use mathlib.Core.Path.{◌≡◌, refl, sym, ap, ◌∙◌}
@@ -20,9 +21,8 @@ use Rattle.text.proofs.Runs.{run_is, run_all}
 use Rattle.text.proofs.Texts.{both_left, both_right}
 use Rattle.text.proofs.Hexes.{hex_is, hex_all}
 use Rattle.pairs.specs.declared.pair.Span.{Span}
-use Rattle.pairs.specs.declared.pair.Span.TheVariants.{At, Nothing}
 use Rattle.pairs.specs.declared.dwords.Tally.{Tally}
-use Rattle.pairs.specs.Pair.{part}
+use Rattle.pairs.specs.Pair.{part, span}
 use Rattle.pairs.specs.Data.{Dwords, Data, cut, piece_of, taken, dwords_in, dwords_of, piece_end, inside_of, data_in, data_of, filled, Bracketed, Taken}
 use Rattle.pairs.proofs.Tries.{ends_close}
 use Rattle.pairs.proofs.Cuts.{cut_all, cut_is, cut_last, cut_next}
@@ -234,20 +234,20 @@ dwords_in_all (Dwords.left_out {p = p} {ps = ps} n r) =
 
 -- the ways of brackets
 module _ (value : List ℕ) where
-  pub inside_unopened : (get_or value 0 0 ≡ 91 → ⊥) → inside_of value ≡ Nothing
+  pub inside_unopened : (get_or value 0 0 ≡ 91 → ⊥) → inside_of value ≡ None
   unfolding inside_of
   inside_unopened n = rw (ne_eqb _ _ n)
 
   module _ (c : ℕ) (c-is : c ≡ run_end (in_class NotClose) value 1) (opens : get_or value 0 0 ≡ 91) where
-    pub inside_empty : c ≤ 1 → inside_of value ≡ Nothing
+    pub inside_empty : c ≤ 1 → inside_of value ≡ None
     unfolding inside_of
     inside_empty h = rw (← c-is, eq-eqb _ _ opens, le-ltb 1 c h)
 
-    pub inside_other : 1 < c → (c + 1 ≡ length value → ⊥) → inside_of value ≡ Nothing
+    pub inside_other : 1 < c → (c + 1 ≡ length value → ⊥) → inside_of value ≡ None
     unfolding inside_of
     inside_other h n = rw (← c-is, eq-eqb _ _ opens, lt-ltb 1 c h, ne_eqb _ _ n)
 
-    pub inside_some : 1 < c → c + 1 ≡ length value → inside_of value ≡ At 1 c
+    pub inside_some : 1 < c → c + 1 ≡ length value → inside_of value ≡ span 1 c
     unfolding inside_of
     inside_some h e = rw (← c-is, eq-eqb _ _ opens, lt-ltb 1 c h, eq-eqb _ _ e)
 
@@ -259,7 +259,7 @@ module _ (value : List ℕ) where
     some : 1 < b
     ends : b + 1 ≡ length value
 
-  inside_tells : {a b : ℕ} → inside_of value ≡ At a b → Opened a b
+  inside_tells : {a b : ℕ} → inside_of value ≡ span a b → Opened a b
   unfolding inside_of
   inside_tells {a} {b} q = go (eqb (get_or value 0 0) 91 && ltb 1 c && eqb (c + 1) (length value)) refl
     where
@@ -268,18 +268,18 @@ module _ (value : List ℕ) where
 
       go : (t : Bool) → (eqb (get_or value 0 0) 91 && ltb 1 c && eqb (c + 1) (length value)) ≡ t → Opened a b
       go true t =
-          let same : At 1 c ≡ At a b = rw t at q in
-          let to : c ≡ b = cc in
+          let same = same_span (let e : span 1 c ≡ span a b = rw t at q in e) in
+          let to : c ≡ b = same.1 in
           let front = both_left _ _ t in
           let more : 1 < c = ltb-true _ _ (both_right (eqb (get_or value 0 0) 91) _ front) in
           let ends : c + 1 ≡ length value = eqb-true _ _ (both_right (eqb (get_or value 0 0) 91 && ltb 1 c) _ t) in
-          record { from = cc; to = to; opens = eqb-true _ _ (both_left _ _ front); some = omega arith; ends = omega arith }
+          record { from = same.0; to = to; opens = eqb-true _ _ (both_left _ _ front); some = omega arith; ends = omega arith }
       go false t =
-          let same : Nothing ≡ At a b = rw t at q in
+          let same : None ≡ span a b = rw t at q in
           absurd (let z : ◌≡◌ {A = ℕ} 0 1 = cc in omega arith)
 
   -- what a caller is told of an answer
-  pub bracketed : {r : Span} → r ≡ inside_of value → Bracketed value r
+  pub bracketed : {r : Option Span} → r ≡ inside_of value → Bracketed value r
   bracketed q =
       record
       { is = q; within = λ a b h. let o = inside_tells (sym q ∙ h) in (omega (arith, o.from, o.some), omega (arith, o.ends)) }
@@ -309,7 +309,7 @@ module _ (inner : List ℕ) (Some : 0 < length inner) (no_close : Inside (in_cla
       within zero a b = absurd (omega arith)
       within (suc k) a b = rw (get_or-append inner (93 ∷ []) 0 k (omega arith)) (no_close k (omega arith) (omega arith))
 
-  inside_closed : inside_of closed ≡ At 1 (length inner + 1)
+  inside_closed : inside_of closed ≡ span 1 (length inner + 1)
   unfolding closed
   inside_closed =
       inside_some closed (length inner + 1) (sym (run_all (in_class NotClose) closed closed_run)) refl (omega arith)
@@ -321,7 +321,7 @@ module _ (inner : List ℕ) (Some : 0 < length inner) (no_close : Inside (in_cla
 
 -- where the brackets of a value stand
 module _ {value ds : List ℕ} (r : Data value ds) where
-  pub data_stands : inside_of value ≡ At 1 (length r.inner + 1)
+  pub data_stands : inside_of value ≡ span 1 (length r.inner + 1)
   unfolding closed
   data_stands = rw r.brackets (inside_closed r.inner r.some r.no_close)
 
@@ -332,7 +332,7 @@ module _ {value ds : List ℕ} (r : Data value ds) where
 pub data_all : {value ds : List ℕ} → Data value ds → data_of value ≡ Some ds
 unfolding data_of data_in dwords_of
 data_all {value} {ds} r =
-    let found : inside_of value ≡ At 1 (length r.inner + 1) = data_stands r in
+    let found : inside_of value ≡ span 1 (length r.inner + 1) = data_stands r in
     let inner : part value 1 (length r.inner + 1) ≡ r.inner = data_inner r in
     rw found (ap Some (ap dwords_of inner ∙ ap dwords_in (cut_all r.cut_at) ∙ dwords_in_all r.dwords))
 
@@ -356,7 +356,7 @@ data_is {value} {ds} q = go (inside_of value) refl q
     inner_some : {x y : List ℕ} → Some x ≡ Some y → x ≡ y
     inner_some e = cc
 
-    found : (a b : ℕ) → inside_of value ≡ At a b → Some (dwords_of (part value a b)) ≡ Some ds → Data value ds
+    found : (a b : ℕ) → inside_of value ≡ span a b → Some (dwords_of (part value a b)) ≡ Some ds → Data value ds
     found a b e t =
         let o = inside_tells value e in
         let r : Run (in_class NotClose) value 1 b =
@@ -377,9 +377,9 @@ data_is {value} {ds} q = go (inside_of value) refl q
           dwords = rw (← is) (dwords_in_is (cut (part value 1 b)));
         }
 
-    go : (r : Span) → inside_of value ≡ r → data_in value r ≡ Some ds → Data value ds
-    go (At a b) e t = found a b e t
-    go Nothing e t = absurd (let z : ◌≡◌ {A = ℕ} 0 1 = cc in omega arith)
+    go : (r : Option Span) → inside_of value ≡ r → data_in value r ≡ Some ds → Data value ds
+    go (Some w) e t = found w.from w.to e t
+    go None e t = absurd (let z : ◌≡◌ {A = ℕ} 0 1 = cc in omega arith)
 
 pub one_data : {value ds es : List ℕ} → Data value ds → Data value es → ds ≡ es
 one_data a b = let x = data_all a in let y = data_all b in cc

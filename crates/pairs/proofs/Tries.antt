@@ -1,5 +1,6 @@
 -- A try at a pair: each repeated class is followed by a byte outside it, so a try has one word run, one `=` and one value, and the tests of
 -- a try hold exactly where the sentence's record stands. Assumes nothing.
+use Rattle.pairs.proofs.Ends.{same_hit}
 use Rattle.std.specs.Prelude.{None, Option, Some}
 use Prim.Native.Nat.{ℕ, ◌+◌, ◌≤◌, ◌<◌}
 use mathlib.Core.Path.{◌≡◌, refl, sym, ap, ◌∙◌}
@@ -15,8 +16,7 @@ use Rattle.text.specs.Run.{Run, run_end, run_start}
 use Rattle.text.proofs.Places.{by_order, stands_within}
 use Rattle.text.proofs.Runs.{run_is, run_all, run_over, run_stop, back_is}
 use Rattle.text.proofs.Texts.{both_left, both_right}
-use Rattle.pairs.specs.declared.pair.Pair.TheVariants.{Hit, Miss}
-use Rattle.pairs.specs.Pair.{Value, PairAt, bracket_end, value_end, with_value, pair_with, pair_at}
+use Rattle.pairs.specs.Pair.{Value, PairAt, bracket_end, value_end, with_value, pair_with, pair_at, hit}
 
 -- brackets are no word
 pub bracket_is_no_word : is_word 91 ≡ false
@@ -150,12 +150,12 @@ module _ (s : List ℕ) where
 
   -- the ways of a try
   module _ (i m : ℕ) where
-    pub try_empty : m ≤ i → pair_with s i m ≡ Miss
+    pub try_empty : m ≤ i → pair_with s i m ≡ None
     unfolding pair_with
     try_empty h = rw (le-ltb i m h)
 
     module _ (some : i < m) where
-      pub try-unequal : (get_or s m 0 ≡ 61 → ⊥) → pair_with s i m ≡ Miss
+      pub try-unequal : (get_or s m 0 ≡ 61 → ⊥) → pair_with s i m ≡ None
       unfolding pair_with
       try-unequal n = rw (lt-ltb i m some, ne_eqb _ _ n)
 
@@ -163,11 +163,11 @@ module _ (s : List ℕ) where
       unfolding pair_with
       try-value e = rw (lt-ltb i m some, eq-eqb _ _ e)
 
-      pub try-hits : {e : ℕ} → get_or s m 0 ≡ 61 → value_end s (m + 1) ≡ Some e → pair_with s i m ≡ Hit i m e
+      pub try-hits : {e : ℕ} → get_or s m 0 ≡ 61 → value_end s (m + 1) ≡ Some e → pair_with s i m ≡ hit i m e
       unfolding with_value
       try-hits q v = try-value q ∙ rw v
 
-      pub try-misses : get_or s m 0 ≡ 61 → value_end s (m + 1) ≡ None → pair_with s i m ≡ Miss
+      pub try-misses : get_or s m 0 ≡ 61 → value_end s (m + 1) ≡ None → pair_with s i m ≡ None
       unfolding with_value
       try-misses q v = try-value q ∙ rw v
 
@@ -179,19 +179,18 @@ module _ (s : List ℕ) where
     pub sign : get_or s m 0 ≡ 61
     pub value : value_end s (m + 1) ≡ Some e
 
-  pub try_tells : {i m a b e : ℕ} → pair_with s i m ≡ Hit a b e → Tried i m a b e
+  pub try_tells : {i m a b e : ℕ} → pair_with s i m ≡ hit a b e → Tried i m a b e
   try_tells {i} {m} {a} {b} {e} q =
       by_order i m (λ h. go (eqb (get_or s m 0) 61) refl h) (λ h. no (try_empty i m (omega arith)))
       (λ h. no (try_empty i m (omega arith)))
     where
-      no : {A : Type 0} → pair_with s i m ≡ Miss → A
+      no : {A : Type 0} → pair_with s i m ≡ None → A
       no n = absurd (let z : ◌≡◌ {A = ℕ} 0 1 = cc in omega arith)
 
       found : i < m → get_or s m 0 ≡ 61 → (f : Option ℕ) → value_end s (m + 1) ≡ f → Tried i m a b e
       found h t (Some x) v =
-          let hit : pair_with s i m ≡ Hit i m x = try-hits i m h t v in
-          let same : x ≡ e = cc in
-          record { key = cc; equals = cc; some = h; sign = t; value = v ∙ ap Some same }
+          let same = same_hit (sym (try-hits i m h t v) ∙ q) in
+          record { key = same.0; equals = same.1; some = h; sign = t; value = v ∙ ap Some same.2 }
       found h t None v = no (try-misses i m h t v)
 
       go : (x : Bool) → eqb (get_or s m 0) 61 ≡ x → i < m → Tried i m a b e
@@ -199,7 +198,7 @@ module _ (s : List ℕ) where
       go false t h = no (try-unequal i m h (eqb-false _ _ t))
 
   -- a match starts at a place exactly where the sentence's record stands
-  pub pair_at_is : {i a m e : ℕ} → pair_at s i ≡ Hit a m e → (i ≡ a) × PairAt s i m e
+  pub pair_at_is : {i a m e : ℕ} → pair_at s i ≡ hit a m e → (i ≡ a) × PairAt s i m e
   unfolding pair_at
   pair_at_is {i} {a} {m} {e} q =
       let t = try_tells q in
@@ -207,14 +206,14 @@ module _ (s : List ℕ) where
       let m-is : run_end is_word s i ≡ m = t.equals in
       (t.key, rw (← m-is) (record { some = t.some; key = run_is is_word s (omega arith); equals = t.sign; value = value_is _ t.value }))
 
-  pub pair_at_all : {i m e : ℕ} → PairAt s i m e → pair_at s i ≡ Hit i m e
+  pub pair_at_all : {i m e : ℕ} → PairAt s i m e → pair_at s i ≡ hit i m e
   unfolding pair_at
   pair_at_all {i} {m} {e} r =
       rw (run_all is_word s r.key) (try-hits i m r.some r.equals (value_all (m + 1) r.value))
 
   -- where the run from i gives a miss, so does every try from within it, and from the byte behind it
-  pub miss_within : (i m : ℕ) → i ≤ length s → m ≡ run_end is_word s i → pair_with s i m ≡ Miss → (k : ℕ) → i ≤ k →
-      k ≤ m → pair_at s k ≡ Miss
+  pub miss_within : (i m : ℕ) → i ≤ length s → m ≡ run_end is_word s i → pair_with s i m ≡ None → (k : ℕ) → i ≤ k →
+      k ≤ m → pair_at s k ≡ None
   unfolding pair_at
   miss_within i m in-text m-is miss k low high =
       by_order k m (λ h. inside h) (λ h. rw (h, run-at-end) (try_empty m m (omega arith))) (λ h. absurd (omega arith))
@@ -227,19 +226,19 @@ module _ (s : List ℕ) where
           by_order m (length s) (λ h. run_stop is_word s h (r.stops h)) (λ h. run_over is_word s (omega arith))
           (λ h. run_over is_word s (omega arith))
 
-      inside : k < m → pair_with s k (run_end is_word s k) ≡ Miss
+      inside : k < m → pair_with s k (run_end is_word s k) ≡ None
       inside h =
           let k-run : run_end is_word s k ≡ m =
           run_all is_word s
           (record { from = omega arith; within = r.within; inside = λ j a b. r.inside j (omega arith) b; stops = r.stops }) in
           rw k-run (go (eqb (get_or s m 0) 61) refl)
         where
-          found : get_or s m 0 ≡ 61 → (f : Option ℕ) → value_end s (m + 1) ≡ f → pair_with s k m ≡ Miss
+          found : get_or s m 0 ≡ 61 → (f : Option ℕ) → value_end s (m + 1) ≡ f → pair_with s k m ≡ None
           found t (Some x) v =
-              let hit : pair_with s i m ≡ Hit i m x = try-hits i m (omega arith) t v in
+              let found : pair_with s i m ≡ hit i m x = try-hits i m (omega arith) t v in
               absurd (let z : ◌≡◌ {A = ℕ} 0 1 = cc in omega arith)
           found t None v = try-misses k m h t v
 
-          go : (x : Bool) → eqb (get_or s m 0) 61 ≡ x → pair_with s k m ≡ Miss
+          go : (x : Bool) → eqb (get_or s m 0) 61 ≡ x → pair_with s k m ≡ None
           go true t = found (eqb-true _ _ t) (value_end s (m + 1)) refl
           go false t = try-unequal k m h (eqb-false _ _ t)

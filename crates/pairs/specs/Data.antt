@@ -6,10 +6,9 @@ use Rattle.text.specs.Number.{HexNumber, hex_number_of}
 use Rattle.text.specs.Place.{is_at, first_in}
 use Rattle.text.specs.Run.{Inside, run_end}
 use Rattle.pairs.specs.declared.pair.Span.{Span}
-use Rattle.pairs.specs.declared.pair.Span.TheVariants.{At, Nothing}
 use Rattle.pairs.specs.declared.dwords.NextPiece.{NextPiece}
 use Rattle.pairs.specs.declared.dwords.Tally.{Tally}
-use Rattle.pairs.specs.Pair.{part}
+use Rattle.pairs.specs.Pair.{part, span}
 
 -- no comma-space stands in the piece
 abbrev pub Whole : List ℕ → Type 0
@@ -115,29 +114,29 @@ unfoldable pub piece_end : List ℕ → ℕ → ℕ
 piece_end l from = first_in (comma_space l) (length l) from
 
 -- the i-th of the pieces from a place on: the next ones start behind the comma-space that ends the one before
-unfoldable pub nth_piece : ℕ → List ℕ → ℕ → Span
-nth_piece zero l from = At from (piece_end l from)
-nth_piece (suc i) l from = cond (ltb (piece_end l from) (length l)) (nth_piece i l (piece_end l from + 2)) Nothing
+unfoldable pub nth_piece : ℕ → List ℕ → ℕ → Option Span
+nth_piece zero l from = span from (piece_end l from)
+nth_piece (suc i) l from = cond (ltb (piece_end l from) (length l)) (nth_piece i l (piece_end l from + 2)) None
 
 -- what stands between the brackets of a value
-unfoldable pub inside_of : List ℕ → Span
+unfoldable pub inside_of : List ℕ → Option Span
 inside_of value =
     let c : ℕ = run_end (in_class NotClose) value 1 in
-    cond (is_at 91 value 0 && ltb 1 c && eqb (c + 1) (length value)) (At 1 c) Nothing
+    cond (is_at 91 value 0 && ltb 1 c && eqb (c + 1) (length value)) (span 1 c) None
 
 -- the dwords of a part
-unfoldable pub data_in : List ℕ → Span → Option (List ℕ)
-data_in value (At a b) = Some (dwords_of (part value a b))
-data_in value Nothing = None
+unfoldable pub data_in : List ℕ → Option Span → Option (List ℕ)
+data_in value (Some w) = Some (dwords_of (part value w.from w.to))
+data_in value None = None
 
 -- the dwords of a value in brackets
 unfoldable pub data_of : List ℕ → Option (List ℕ)
 data_of value = data_in value (inside_of value)
 
 -- is a piece of a part bad?
-unfoldable pub bad_in : List ℕ → Span → Bool
-bad_in value (At a b) = bad_of (part value a b)
-bad_in value Nothing = false
+unfoldable pub bad_in : List ℕ → Option Span → Bool
+bad_in value (Some w) = bad_of (part value w.from w.to)
+bad_in value None = false
 
 -- is a piece of a value in brackets bad?
 unfoldable pub bad_data : List ℕ → Bool
@@ -148,9 +147,9 @@ abbrev pub filled : List ℕ → List ℕ → List ℕ
 filled ds out = ds ++ drop (length ds) out
 
 -- an answer is what stands between the brackets, and lies within the value
-pub record Bracketed (value : List ℕ) (r : Span) : Type 0 where
+pub record Bracketed (value : List ℕ) (r : Option Span) : Type 0 where
   pub is : r ≡ inside_of value
-  pub within : (a b : ℕ) → r ≡ At a b → (a < b) × (b ≤ length value)
+  pub within : (a b : ℕ) → r ≡ span a b → (a < b) × (b ≤ length value)
 
 -- an answer is the piece's end; a comma-space stands there, or the text ends
 pub record EndsPiece (l : List ℕ) (from e : ℕ) : Type 0 where
@@ -160,9 +159,9 @@ pub record EndsPiece (l : List ℕ) (from e : ℕ) : Type 0 where
   pub more : e < length l → e + 2 ≤ length l
 
 -- an answer is the i-th piece, and lies within the text
-pub record NthPiece (l : List ℕ) (i : ℕ) (r : Span) : Type 0 where
+pub record NthPiece (l : List ℕ) (i : ℕ) (r : Option Span) : Type 0 where
   pub is : r ≡ nth_piece i l 0
-  pub within : (a b : ℕ) → r ≡ At a b → (a ≤ b) × (b ≤ length l)
+  pub within : (a b : ℕ) → r ≡ span a b → (a ≤ b) × (b ≤ length l)
 
 -- an answer is the number of dwords, and whether a piece is bad
 pub record Tallied (inner : List ℕ) (r : Tally) : Type 0 where

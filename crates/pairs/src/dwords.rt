@@ -27,23 +27,23 @@ pub struct Tally {
 }
 
 // What stands between the brackets of a value that is `[`, one or more bytes other than `]`, `]`.
-pub fn inside(value: &[u8]) -> Span
+pub fn inside(value: &[u8]) -> Option<Span>
     ensures { Bracketed value.now result }
 {
     if byte_at(value, 0) != b'[' {
-        return Span::Nothing;
+        return None;
     }
     let c = until(value, b']', 1);
     if c == 1 {
-        return Span::Nothing;
+        return None;
     }
     if value.len() <= c {
-        return Span::Nothing;
+        return None;
     }
     if c + 1 < value.len() {
-        return Span::Nothing;
+        return None;
     }
-    Span::At { from: 1, to: c }
+    Some(Span { from: 1, to: c })
 }
 
 // The dwords that the pieces between the brackets are, from the first place on; those past the last place are counted and not kept. A bad piece adds
@@ -154,7 +154,7 @@ fn eight_digits(s: &[u8], t: &[u8; 256], at: usize) -> u64
 }
 
 // The piece of that number, from 0.
-pub fn nth_piece(inner: &[u8], i: usize) -> Span
+pub fn nth_piece(inner: &[u8], i: usize) -> Option<Span>
     ensures { NthPiece inner.now i result }
 {
     let mut left = i;
@@ -162,10 +162,10 @@ pub fn nth_piece(inner: &[u8], i: usize) -> Span
     loop {
         let to = piece_end(inner, at);
         if left == 0 {
-            return Span::At { from: at, to: to };
+            return Some(Span { from: at, to });
         }
         if to == inner.len() {
-            return Span::Nothing;
+            return None;
         }
         left -= 1;
         at = to + 2;

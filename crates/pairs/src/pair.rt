@@ -12,88 +12,73 @@ use text::same::same;
 
 // A pair by its places: where its key starts, where its `=` stands, where its value ends.
 #[derive(Clone, Copy)]
-pub enum Pair {
-    Hit {
-        key: usize,
-        equals: usize,
-        end: usize,
-    },
-    Miss,
+pub struct Hit {
+    pub key: usize,
+    pub equals: usize,
+    pub end: usize,
 }
 
 // The part of a text from a place up to another.
 #[derive(Clone, Copy)]
-pub enum Span {
-    At { from: usize, to: usize },
-    Nothing,
+pub struct Span {
+    pub from: usize,
+    pub to: usize,
 }
 
 // The value of the last pair of a key.
-pub fn last_pair(s: &[u8], key: &[u8]) -> Span
+pub fn last_pair(s: &[u8], key: &[u8]) -> Option<Span>
     ensures { ValueAt s.now key.now result }
 {
     let tail = behind_last(s, b']');
-    let mut best = Span::Nothing;
+    let mut best = None;
     let mut at = 0;
-    loop {
-        match next_before(s, at, tail) {
-            Pair::Hit {
-                key: i,
-                equals: m,
-                end: e,
-            } => {
-                if same(&s[i..m], key) {
-                    best = Span::At { from: m + 1, to: e };
-                }
-                at = e;
-            }
-            Pair::Miss => {
-                return best;
-            }
+    while let Some(hit) = next_before(s, at, tail) {
+        if same(&s[hit.key..hit.equals], key) {
+            best = Some(Span {
+                from: hit.equals + 1,
+                to: hit.end,
+            });
         }
+        at = hit.end;
     }
+    best
 }
 
 // The first pair from a place on. A try that fails fails from every byte of its word run, and none starts at the byte behind it, so the
 // search goes on behind that: a word run costs no more than its length. Asked for: where no `]` stands any more, found once a walk.
-fn next_before(s: &[u8], from: usize, tail: usize) -> Pair
+fn next_before(s: &[u8], from: usize, tail: usize) -> Option<Hit>
     requires { tail ≡ run_start (in_class NotClose) s.now }
     ensures { NextPair s.now from result }
 {
     let mut i = from;
-    loop {
-        if s.len() <= i {
-            break Pair::Miss;
-        }
+    while i < s.len() {
         let m = run_end(s, Class::Word, i);
-        let pair = try_at(s, i, m, tail);
-        if let Pair::Hit { .. } = pair {
-            break pair;
+        if let Some(hit) = try_at(s, i, m, tail) {
+            return Some(hit);
         }
         i = m + 1;
     }
+    None
 }
 
 // The try at a pair from i on, whose word run ends at m: given up at its first unfit byte.
-fn try_at(s: &[u8], i: usize, m: usize, tail: usize) -> Pair
+fn try_at(s: &[u8], i: usize, m: usize, tail: usize) -> Option<Hit>
     requires { (m ≤ length s.now) × (tail ≡ run_start (in_class NotClose) s.now) }
     ensures { result ≡ pair_with s.now i m }
 {
     if m <= i {
-        return Pair::Miss;
+        return None;
     }
     if byte_at(s, m) != b'=' {
-        return Pair::Miss;
+        return None;
     }
     let v = m + 1;
-    match value_end(s, v, run_end(s, Class::Word, v), tail) {
-        Some(e) => Pair::Hit {
-            key: i,
-            equals: m,
-            end: e,
-        },
-        None => Pair::Miss,
-    }
+    let end = value_end(s, v, run_end(s, Class::Word, v), tail)?;
+    Some(Hit {
+        key: i,
+        equals: m,
+        end,
+    })
 }
 
 // Where the value from v on ends, whose word run ends at e: there if the run has a byte, else with its brackets. No `]` stands from `tail` on, so a `[`

@@ -17,8 +17,7 @@ use Rattle.text.specs.Quote.{bytes}
 use Rattle.text.proofs.Hexes.{hex_is, one_meaning}
 use Rattle.entry.specs.Entry.{EntryValue}
 use Rattle.pairs.specs.declared.pair.Span.{Span}
-use Rattle.pairs.specs.declared.pair.Span.TheVariants.{At, Nothing}
-use Rattle.pairs.specs.Pair.{part, last_pair, hex_at}
+use Rattle.pairs.specs.Pair.{part, last_pair, hex_at, span}
 use Rattle.pairs.specs.Data.{NoDword, Data, PieceIn, joined, cut, piece_of, taken, dwords_in, nth_piece}
 use Rattle.pairs.proofs.LastPairs.{hex_some, hex_none}
 use Rattle.pairs.proofs.Cuts.{cut_all}
@@ -92,10 +91,10 @@ module _ (t : List ℕ) {colon : ℕ} (f : frame_of t ≡ is colon) (key : Key) 
   unfolding key_in said_at
   key_number = rw key_asks (go (last_pair (payload_of t colon) (name_of key)) refl)
     where
-      go : (s : Span) → last_pair (payload_of t colon) (name_of key) ≡ s
+      go : (s : Option Span) → last_pair (payload_of t colon) (name_of key) ≡ s
           → number_told (said_at (limit_of key) (start_at t colon) (payload_of t colon) s) ≡ (hex_at (payload_of t colon) (name_of key) (limit_of key))
-      go (At a b) e = ap (hex_some (payload_of t colon) (name_of key) (limit_of key) e)
-      go Nothing e = ap (hex_none (payload_of t colon) (name_of key) (limit_of key) e)
+      go (Some w) e = ap (hex_some (payload_of t colon) (name_of key) (limit_of key) e)
+      go None e = ap (hex_none (payload_of t colon) (name_of key) (limit_of key) e)
 
 -- an accepted line is parted
 line_framed : (pieces : Pieces) (t : List ℕ) {v : EntryValue} → Line pieces t v → (colon : ℕ) × (frame_of t ≡ is colon)
@@ -159,7 +158,7 @@ unfolding taken
 kept_taken (Some v) ds = refl
 kept_taken None ds = refl
 
-module _ (t : List ℕ) {colon : ℕ} (f : frame_of t ≡ is colon) {c d : ℕ} (found : data_span (payload_of t colon) ≡ At c d) where
+module _ (t : List ℕ) {colon : ℕ} (f : frame_of t ≡ is colon) {c d : ℕ} (found : data_span (payload_of t colon) ≡ span c d) where
   inner : List ℕ
   inner = part (payload_of t colon) c d
 
@@ -203,11 +202,11 @@ module _ (t : List ℕ) {colon : ℕ} (f : frame_of t ≡ is colon) {c d : ℕ} 
   unfolding said_at
   none_behind i h = piece_asks i ∙ go (nth_piece i inner 0) refl
     where
-      go : (s : Span) → nth_piece i inner 0 ≡ s → said_at (2 ^ 32 - 1) (start_at t colon + c) inner s ≡ absent
-      go (At a b) e =
+      go : (s : Option Span) → nth_piece i inner 0 ≡ s → said_at (2 ^ 32 - 1) (start_at t colon + c) inner s ≡ absent
+      go (Some w) e =
           let r = nth_is inner i e in
-          absurd (omega (arith, h, r.count, ap length r.are, length-append r.before (part inner a b ∷ r.after)))
-      go Nothing e = refl
+          absurd (omega (arith, h, r.count, ap length r.are, length-append r.before (part inner w.from w.to ∷ r.after)))
+      go None e = refl
 
 pub in_order : (pieces : Pieces) (t : List ℕ) {v : EntryValue} → Line pieces t v → InOrder t v.dwords
 unfolding inner
@@ -221,7 +220,7 @@ in_order pieces t {v} l =
     let inner-so = inner_is l.payload value.last held in
     go w.0 f (rw same at found) held (rw same at inner-so)
   where
-    go : (colon : ℕ) (f : frame_of t ≡ is colon) {c d : ℕ} (found : data_span (payload_of t colon) ≡ At c d) {value : List ℕ} (held : Data value v.dwords) → part (payload_of t colon) c d ≡ held.inner → InOrder t v.dwords
+    go : (colon : ℕ) (f : frame_of t ≡ is colon) {c d : ℕ} (found : data_span (payload_of t colon) ≡ span c d) {value : List ℕ} (held : Data value v.dwords) → part (payload_of t colon) c d ≡ held.inner → InOrder t v.dwords
     go colon f {c} {d} found held e =
         let all : cut (part (payload_of t colon) c d) ≡ held.pieces = ap cut e ∙ cut_all held.cut_at in
         record {

@@ -1,6 +1,6 @@
 -- Pieces: the brackets of the last `data` are found where they stand, and the walk through what is in them comes to the piece of that number.
 -- Assumes nothing.
-use Rattle.std.specs.Prelude.{Some}
+use Rattle.std.specs.Prelude.{Some, None, Option}
 use Prim.Native.Nat.{ℕ, ◌+◌, ◌-◌, ◌^◌, ◌≤◌}
 use mathlib.Core.Path.{◌≡◌, refl, sym, ap, ◌∙◌}
 use mathlib.Core.List.{List, [], ◌∷◌, ◌++◌}
@@ -12,8 +12,7 @@ use Rattle.text.specs.Number.{hex_of}
 use Rattle.text.specs.Quote.{bytes}
 use Rattle.text.proofs.Hexes.{hex_means, means_all}
 use Rattle.pairs.specs.declared.pair.Span.{Span}
-use Rattle.pairs.specs.declared.pair.Span.TheVariants.{At, Nothing}
-use Rattle.pairs.specs.Pair.{part, last_pair, LastPair}
+use Rattle.pairs.specs.Pair.{part, last_pair, LastPair, span}
 use Rattle.pairs.specs.Data.{Data, PieceIn, cut, dwords_of, inside_of, data_in, data_of, nth_piece}
 use Rattle.pairs.proofs.LastPairs.{last_pair_is, last_pair_all, last_within}
 use Rattle.pairs.proofs.Cuts.{cut_all}
@@ -49,7 +48,7 @@ module _ (p : List ℕ) where
     brackets_fit : length r.inner + 1 ≤ to - from
     brackets_fit = let w = (bracketed (part p from to) (sym (data_stands r))).within _ _ refl in omega (arith, w.1, value_size)
 
-    pub data_found : data_span p ≡ At (from + 1) (from + (length r.inner + 1))
+    pub data_found : data_span p ≡ span (from + 1) (from + (length r.inner + 1))
     unfolding data_span brackets_at moved
     data_found = rw (last_pair_all p (bytes "data") last, data_stands r)
 
@@ -59,22 +58,22 @@ module _ (p : List ℕ) where
     pub inner_within : from + (length r.inner + 1) ≤ length p
     inner_within = let w = last_within p (bytes "data") (last_pair_all p (bytes "data") last) in omega (arith, w.0, w.1, brackets_fit)
 
-  pub inner_of : {c d : ℕ} → data_span p ≡ At c d → Inner p c d
+  pub inner_of : {c d : ℕ} → data_span p ≡ span c d → Inner p c d
   unfolding data_span brackets_at moved data_of data_in
   inner_of {c} {d} q = by-pair (last_pair p (bytes "data")) refl q
     where
-      by-brackets : {a b : ℕ} → last_pair p (bytes "data") ≡ At a b → (s : Span) → inside_of (part p a b) ≡ s → moved a s ≡ At c d → Inner p c d
-      by-brackets {a} {b} e (At x y) i r =
+      by-brackets : {a b : ℕ} → last_pair p (bytes "data") ≡ span a b → (s : Option Span) → inside_of (part p a b) ≡ s → moved a s ≡ span c d → Inner p c d
+      by-brackets {a} {b} e (Some w) i r =
           let last = last_pair_is p (bytes "data") e in
-          let held : Data (part p a b) (dwords_of (part (part p a b) x y)) = data_is (data_there i) in
-          let found : At (a + 1) (a + (length held.inner + 1)) ≡ At c d = sym (data_found last held) ∙ sym (data-found-by e i) ∙ r in
+          let held : Data (part p a b) (dwords_of (part (part p a b) w.from w.to)) = data_is (data_there i) in
+          let found : span (a + 1) (a + (length held.inner + 1)) ≡ span c d = sym (data_found last held) ∙ sym (data-found-by e i) ∙ r in
           let low : a + 1 ≡ c = cc in
           let high : a + (length held.inner + 1) ≡ d = cc in
           record {
             from = a;
             to = b;
             last = last;
-            dwords = dwords_of (part (part p a b) x y);
+            dwords = dwords_of (part (part p a b) w.from w.to);
             in_brackets = held;
             starts = sym low;
             ends = omega (arith, high);
@@ -82,16 +81,16 @@ module _ (p : List ℕ) where
             within = omega (arith, high, inner_within last held);
           }
         where
-          data_there : inside_of (part p a b) ≡ At x y → data_of (part p a b) ≡ Some (dwords_of (part (part p a b) x y))
+          data_there : inside_of (part p a b) ≡ span w.from w.to → data_of (part p a b) ≡ Some (dwords_of (part (part p a b) w.from w.to))
           data_there i = ap (data_in (part p a b)) i
 
-          data-found-by : last_pair p (bytes "data") ≡ At a b → inside_of (part p a b) ≡ At x y → At (a + x) (a + y) ≡ data_span p
+          data-found-by : last_pair p (bytes "data") ≡ span a b → inside_of (part p a b) ≡ span x y → span (a + x) (a + y) ≡ data_span p
           data-found-by e i = rw (e, i)
-      by-brackets e Nothing i r = absurd (let z : ◌≡◌ {A = ℕ} 0 1 = cc in omega arith)
+      by-brackets e None i r = absurd (let z : ◌≡◌ {A = ℕ} 0 1 = cc in omega arith)
 
-      by-pair : (s : Span) → last_pair p (bytes "data") ≡ s → brackets_at p s ≡ At c d → Inner p c d
-      by-pair (At a b) e r = by-brackets e (inside_of (part p a b)) refl r
-      by-pair Nothing e r = absurd (let z : ◌≡◌ {A = ℕ} 0 1 = cc in omega arith)
+      by-pair : (s : Option Span) → last_pair p (bytes "data") ≡ s → brackets_at p s ≡ span c d → Inner p c d
+      by-pair (Some w) e r = by-brackets e (inside_of (part p w.from w.to)) refl r
+      by-pair None e r = absurd (let z : ◌≡◌ {A = ℕ} 0 1 = cc in omega arith)
 
 -- ---- the pieces
 
@@ -106,22 +105,22 @@ pub one_piece : {ps : List (List ℕ)} {i : ℕ} {u v : List ℕ} {a b c d : ℕ
 one_piece x y = same_place x.before y.before x.after y.after (sym x.are ∙ y.are) (x.count ∙ sym y.count)
 
 module _ (i : ℕ) where
-  piece_some : (p : List ℕ) (start : ℕ) {c d x y : ℕ} → data_span p ≡ At c d → nth_piece i (part p c d) 0 ≡ At x y
+  piece_some : (p : List ℕ) (start : ℕ) {c d x y : ℕ} → data_span p ≡ span c d → nth_piece i (part p c d) 0 ≡ span x y
       → piece_in p start i ≡ is (record { from = start + c + x; to = start + c + y; reading = hex_of (2 ^ 32 - 1) (part (part p c d) x y) })
   unfolding piece_in piece_at said_at
   piece_some p start q n = rw (q, n)
 
-  piece_past : (p : List ℕ) (start : ℕ) {c d : ℕ} → data_span p ≡ At c d → nth_piece i (part p c d) 0 ≡ Nothing → piece_in p start i ≡ absent
+  piece_past : (p : List ℕ) (start : ℕ) {c d : ℕ} → data_span p ≡ span c d → nth_piece i (part p c d) 0 ≡ None → piece_in p start i ≡ absent
   unfolding piece_in piece_at said_at
   piece_past p start q n = rw (q, n)
 
-  piece_none : (p : List ℕ) (start : ℕ) → data_span p ≡ Nothing → piece_in p start i ≡ absent
+  piece_none : (p : List ℕ) (start : ℕ) → data_span p ≡ None → piece_in p start i ≡ absent
   unfolding piece_in piece_at
   piece_none p start q = rw q
 
   -- a piece that is there is found
   piece_found : {p text : List ℕ} {a b : ℕ} (r : PieceAt i p text a b)
-      → nth_piece i (part p (r.from + 1) (r.from + (length r.in_brackets.inner + 1))) 0 ≡ At r.first r.behind
+      → nth_piece i (part p (r.from + 1) (r.from + (length r.in_brackets.inner + 1))) 0 ≡ span r.first r.behind
   piece_found {p} {text} r =
       let same : cut r.in_brackets.inner ≡ r.in_brackets.pieces = cut_all r.in_brackets.cut_at in
       rw (inner_is p r.last r.in_brackets) (nth_all r.in_brackets.inner {piece = text} (rw same r.piece))
@@ -150,7 +149,7 @@ module _ (i : ℕ) where
       }
 
   -- what is told of a piece, and what is there
-  said_piece : (p : List ℕ) (start : ℕ) {c d x y : ℕ} → data_span p ≡ At c d → nth_piece i (part p c d) 0 ≡ At x y
+  said_piece : (p : List ℕ) (start : ℕ) {c d x y : ℕ} → data_span p ≡ span c d → nth_piece i (part p c d) 0 ≡ span x y
       → Sits (PieceAt i) (2 ^ 32 - 1) p start (record { from = start + c + x; to = start + c + y; reading = hex_of (2 ^ 32 - 1) (part (part p c d) x y) })
   said_piece p start {c} {d} {x} {y} q n =
       let r = inner_of p q in
@@ -195,22 +194,22 @@ module _ (i : ℕ) where
           })
       found_of p start r = piece_some p start (data_found p r.last r.in_brackets) (piece_found r)
 
-      never-in : (p : List ℕ) (start k : ℕ) {c d : ℕ} → piece_in p start i ≡ refused k → data_span p ≡ At c d → (s : Span) → nth_piece i (part p c d) 0 ≡ s → ⊥
-      never-in p start k q e (At x y) n = let r = piece_some p start e n in let z : ◌≡◌ {A = ℕ} 0 1 = cc in omega arith
-      never-in p start k q e Nothing n = let r = piece_past p start e n in let z : ◌≡◌ {A = ℕ} 0 1 = cc in omega arith
+      never-in : (p : List ℕ) (start k : ℕ) {c d : ℕ} → piece_in p start i ≡ refused k → data_span p ≡ span c d → (s : Option Span) → nth_piece i (part p c d) 0 ≡ s → ⊥
+      never-in p start k q e (Some w) n = let r = piece_some p start e n in let z : ◌≡◌ {A = ℕ} 0 1 = cc in omega arith
+      never-in p start k q e None n = let r = piece_past p start e n in let z : ◌≡◌ {A = ℕ} 0 1 = cc in omega arith
 
-      never : (p : List ℕ) (start k : ℕ) → piece_in p start i ≡ refused k → (s : Span) → data_span p ≡ s → ⊥
-      never p start k q (At c d) e = never-in p start k q e (nth_piece i (part p c d) 0) refl
-      never p start k q Nothing e = let r = piece_none p start e in let z : ◌≡◌ {A = ℕ} 0 1 = cc in omega arith
+      never : (p : List ℕ) (start k : ℕ) → piece_in p start i ≡ refused k → (s : Option Span) → data_span p ≡ s → ⊥
+      never p start k q (Some w) e = never-in p start k q e (nth_piece i (part p w.from w.to) 0) refl
+      never p start k q None e = let r = piece_none p start e in let z : ◌≡◌ {A = ℕ} 0 1 = cc in omega arith
 
-      sits-in : (p : List ℕ) (start : ℕ) (said : HexText) {c d : ℕ} → piece_in p start i ≡ is said → data_span p ≡ At c d → (s : Span) → nth_piece i (part p c d) 0 ≡ s
+      sits-in : (p : List ℕ) (start : ℕ) (said : HexText) {c d : ℕ} → piece_in p start i ≡ is said → data_span p ≡ span c d → (s : Option Span) → nth_piece i (part p c d) 0 ≡ s
           → Sits (PieceAt i) (2 ^ 32 - 1) p start said
-      sits-in p start said {c} {d} q e (At x y) n = rw (← told_same (sym (piece_some p start e n) ∙ q)) (said_piece p start e n)
-      sits-in p start said q e Nothing n = absurd (let r = piece_past p start e n in let z : ◌≡◌ {A = ℕ} 0 1 = cc in omega arith)
+      sits-in p start said {c} {d} q e (Some w) n = rw (← told_same (sym (piece_some p start e n) ∙ q)) (said_piece p start e n)
+      sits-in p start said q e None n = absurd (let r = piece_past p start e n in let z : ◌≡◌ {A = ℕ} 0 1 = cc in omega arith)
 
-      sits : (p : List ℕ) (start : ℕ) (said : HexText) → piece_in p start i ≡ is said → (s : Span) → data_span p ≡ s → Sits (PieceAt i) (2 ^ 32 - 1) p start said
-      sits p start said q (At c d) e = sits-in p start said q e (nth_piece i (part p c d) 0) refl
-      sits p start said q Nothing e = absurd (let r = piece_none p start e in let z : ◌≡◌ {A = ℕ} 0 1 = cc in omega arith)
+      sits : (p : List ℕ) (start : ℕ) (said : HexText) → piece_in p start i ≡ is said → (s : Option Span) → data_span p ≡ s → Sits (PieceAt i) (2 ^ 32 - 1) p start said
+      sits p start said q (Some w) e = sits-in p start said q e (nth_piece i (part p w.from w.to) 0) refl
+      sits p start said q None e = absurd (let r = piece_none p start e in let z : ◌≡◌ {A = ℕ} 0 1 = cc in omega arith)
 
       all : (p : List ℕ) (start : ℕ) (said : HexText) → Sits (PieceAt i) (2 ^ 32 - 1) p start said → piece_in p start i ≡ is said
       all p start said s =

@@ -1,6 +1,6 @@
 -- Spans and what they say: a span that was found lies in its text, so it has a place in the line, and each call's answer is the definition's
 -- by the case it took. Assumes nothing.
-use Rattle.std.specs.Prelude.{Err, Ok, Result}
+use Rattle.std.specs.Prelude.{Err, Ok, Result, None, Option}
 use Rattle.text.specs.declared.number.BadNumber.{BadNumber}
 use Prim.Native.Nat.{ℕ, ◌+◌, ◌-◌, ◌^◌, ◌≤◌, ◌<◌}
 use mathlib.Core.Path.{◌≡◌, refl, sym}
@@ -14,8 +14,7 @@ use Rattle.text.specs.Quote.{bytes}
 use Rattle.text.specs.Run.{run_end, stripped}
 use Rattle.text.proofs.Stripping.{strip_size}
 use Rattle.pairs.specs.declared.pair.Span.{Span}
-use Rattle.pairs.specs.declared.pair.Span.TheVariants.{At, Nothing}
-use Rattle.pairs.specs.Pair.{part, last_pair, ValueAt}
+use Rattle.pairs.specs.Pair.{part, last_pair, ValueAt, span}
 use Rattle.pairs.specs.Data.{Bracketed, NthPiece}
 use Rattle.scan.specs.Frame.{frame_of}
 use Rattle.reasons.specs.declared.Key.{Key}
@@ -24,31 +23,31 @@ use Rattle.reasons.specs.Reasons.{name_of, limit_of, payload_from, payload_place
 
 -- ---- spans within their text
 
-pub pair_within : {s key : List ℕ} {r : Span} → ValueAt s key r → SpanWithin s r
+pub pair_within : {s key : List ℕ} {r : Option Span} → ValueAt s key r → SpanWithin s r
 pair_within v a b q = let w = v.within a b q in (omega (arith, w.0), w.1)
 
 -- ---- what a span says
 
 module _ (limit start : ℕ) (s : List ℕ) where
-  pub said_some : {span : Span} {a b : ℕ} → span ≡ At a b → {r : Result ℕ BadNumber} → r ≡ hex_of limit (part s a b)
+  pub said_some : {span : Option Span} {a b : ℕ} → span ≡ span a b → {r : Result ℕ BadNumber} → r ≡ hex_of limit (part s a b)
       → is (record { from = start + a; to = start + b; reading = r }) ≡ said_at limit start s span
   unfolding said_at
   said_some e q = rw (e, q)
 
-  pub said_none : {span : Span} → span ≡ Nothing → absent ≡ said_at limit start s span
+  pub said_none : {span : Option Span} → span ≡ None → absent ≡ said_at limit start s span
   unfolding said_at
   said_none e = rw e
 
 -- ---- keys
 
-pub says_key : (p : List ℕ) (start : ℕ) {key k : Key} {r : Span} → key ≡ k → r ≡ last_pair p (name_of k) → said_at (limit_of k) start p r ≡ key_in p start key
+pub says_key : (p : List ℕ) (start : ℕ) {key k : Key} {r : Option Span} → key ≡ k → r ≡ last_pair p (name_of k) → said_at (limit_of k) start p r ≡ key_in p start key
 unfolding key_in
 says_key p start e q = rw (e, q)
 
 -- ---- the data's span, and its pieces
 
 module _ (p : List ℕ) where
-  pub data_inside : {a b x y : ℕ} {value : List ℕ} → ValueAt p (bytes "data") (At a b) → value ≡ part p a b → length value ≡ b - a → Bracketed value (At x y) → DataAt p (At (a + x) (a + y))
+  pub data_inside : {a b x y : ℕ} {value : List ℕ} → ValueAt p (bytes "data") (span a b) → value ≡ part p a b → length value ≡ b - a → Bracketed value (span x y) → DataAt p (span (a + x) (a + y))
   unfolding data_span brackets_at moved
   data_inside {a} {b} {x} {y} {value} v e size r =
       let w = v.within a b refl in
@@ -58,7 +57,7 @@ module _ (p : List ℕ) where
         within = λ c d q. let m : a + x ≡ c = cc in let n : a + y ≡ d = cc in (omega (arith, m, n, i.0), omega (arith, n, i.1, w.0, w.1, size));
       }
 
-  pub data_not_inside : {a b : ℕ} {value : List ℕ} → ValueAt p (bytes "data") (At a b) → value ≡ part p a b → Bracketed value Nothing → DataAt p Nothing
+  pub data_not_inside : {a b : ℕ} {value : List ℕ} → ValueAt p (bytes "data") (span a b) → value ≡ part p a b → Bracketed value None → DataAt p None
   unfolding data_span brackets_at moved
   data_not_inside {a} {b} v e r =
       record {
@@ -66,7 +65,7 @@ module _ (p : List ℕ) where
         within = λ c d q. absurd (let z : ◌≡◌ {A = ℕ} 0 1 = cc in omega arith);
       }
 
-  pub data_missing : ValueAt p (bytes "data") Nothing → DataAt p Nothing
+  pub data_missing : ValueAt p (bytes "data") None → DataAt p None
   unfolding data_span brackets_at
   data_missing v =
       record {
@@ -74,12 +73,12 @@ module _ (p : List ℕ) where
         within = λ c d q. absurd (let z : ◌≡◌ {A = ℕ} 0 1 = cc in omega arith);
       }
 
-  pub says_piece : (start i : ℕ) {a b : ℕ} {r : Span} → DataAt p (At a b) → NthPiece (part p a b) i r
+  pub says_piece : (start i : ℕ) {a b : ℕ} {r : Option Span} → DataAt p (span a b) → NthPiece (part p a b) i r
       → said_at (2 ^ 32 - 1) (start + a) (part p a b) r ≡ piece_in p start i
   unfolding piece_in piece_at
   says_piece start i d n = rw (← d.is, n.is)
 
-  pub says_no_piece : (start i : ℕ) → DataAt p Nothing → absent ≡ piece_in p start i
+  pub says_no_piece : (start i : ℕ) → DataAt p None → absent ≡ piece_in p start i
   unfolding piece_in piece_at
   says_no_piece start i d = rw (← d.is)
 

@@ -1,6 +1,6 @@
 -- Spots of a payload: a part of a part is a part, so a text that stands in the payload stands in the line; and the last pair of a key is at the
 -- one spot that the answer gives. Assumes nothing.
-use Rattle.std.specs.Prelude.{Result}
+use Rattle.std.specs.Prelude.{Result, None, Option}
 use Rattle.text.specs.declared.number.BadNumber.{BadNumber}
 use Prim.Native.Nat.{ℕ, ◌+◌, ◌-◌, ◌≤◌, ◌<◌}
 use mathlib.Core.Path.{◌≡◌, refl, sym, ap, ◌∙◌}
@@ -13,8 +13,7 @@ use Rattle.text.specs.Told.{Told, is, absent, refused}
 use Rattle.text.specs.Number.{Means, hex_of}
 use Rattle.text.proofs.Hexes.{hex_means, means_all}
 use Rattle.pairs.specs.declared.pair.Span.{Span}
-use Rattle.pairs.specs.declared.pair.Span.TheVariants.{At, Nothing}
-use Rattle.pairs.specs.Pair.{part, last_pair}
+use Rattle.pairs.specs.Pair.{part, last_pair, span}
 use Rattle.pairs.proofs.LastPairs.{last_pair_is, last_pair_all, last_within}
 use Rattle.reasons.specs.declared.Key.{Key}
 use Rattle.reasons.specs.declared.HexText.{HexText}
@@ -38,11 +37,11 @@ part_in_part l s e a b h =
 -- ---- what a reading of the payload must give
 
 -- the text asked for stands in the payload, which starts at a place of the line
-pub record Sits (At : Spot) (limit : ℕ) (p : List ℕ) (start : ℕ) (said : HexText) : Type 0 where
+pub record Sits (span : Spot) (limit : ℕ) (p : List ℕ) (start : ℕ) (said : HexText) : Type 0 where
   pub text : List ℕ
   pub a : ℕ
   pub b : ℕ
-  pub there : At p text a b
+  pub there : span p text a b
   pub from : said.from ≡ start + a
   pub to : said.to ≡ start + b
   pub reads : Means limit text said.reading
@@ -54,12 +53,12 @@ pub record Stands (p text : List ℕ) (a b : ℕ) : Type 0 where
   pub is : part p a b ≡ text
 
 -- what is told of a payload is what is there
-pub record Answers (At : Spot) (limit : ℕ) (tell : List ℕ → ℕ → Told HexText) : Type 0 where
+pub record Answers (span : Spot) (limit : ℕ) (tell : List ℕ → ℕ → Told HexText) : Type 0 where
   pub never : (p : List ℕ) (start k : ℕ) → tell p start ≡ refused k → ⊥
-  pub sits : (p : List ℕ) (start : ℕ) (said : HexText) → tell p start ≡ is said → Sits At limit p start said
-  pub lacks : (p : List ℕ) (start : ℕ) → tell p start ≡ absent → (text : List ℕ) (a b : ℕ) → At p text a b → ⊥
-  pub all : (p : List ℕ) (start : ℕ) (said : HexText) → Sits At limit p start said → tell p start ≡ is said
-  pub stands : (p text : List ℕ) (a b : ℕ) → At p text a b → Stands p text a b
+  pub sits : (p : List ℕ) (start : ℕ) (said : HexText) → tell p start ≡ is said → Sits span limit p start said
+  pub lacks : (p : List ℕ) (start : ℕ) → tell p start ≡ absent → (text : List ℕ) (a b : ℕ) → span p text a b → ⊥
+  pub all : (p : List ℕ) (start : ℕ) (said : HexText) → Sits span limit p start said → tell p start ≡ is said
+  pub stands : (p text : List ℕ) (a b : ℕ) → span p text a b → Stands p text a b
 
 -- two texts of one place and reading are one
 pub one_text : {a b : ℕ} {r : Result ℕ BadNumber} (said : HexText) → a ≡ said.from → b ≡ said.to → r ≡ said.reading → record { from = a; to = b; reading = r } ≡ said
@@ -71,12 +70,12 @@ told_same e = cc
 -- ---- keys
 
 module _ (key : Key) where
-  key_some : (p : List ℕ) (start : ℕ) {a b : ℕ} → last_pair p (name_of key) ≡ At a b
+  key_some : (p : List ℕ) (start : ℕ) {a b : ℕ} → last_pair p (name_of key) ≡ span a b
       → key_in p start key ≡ is (record { from = start + a; to = start + b; reading = hex_of (limit_of key) (part p a b) })
   unfolding key_in said_at
   key_some p start q = rw q
 
-  key_none : (p : List ℕ) (start : ℕ) → last_pair p (name_of key) ≡ Nothing → key_in p start key ≡ absent
+  key_none : (p : List ℕ) (start : ℕ) → last_pair p (name_of key) ≡ None → key_in p start key ≡ absent
   unfolding key_in said_at
   key_none p start q = rw q
 
@@ -90,24 +89,24 @@ module _ (key : Key) where
         stands = λ p text a b r. let w = last_within p (name_of key) (last_pair_all p (name_of key) r.last) in record { some = omega (arith, w.0, w.1); within = w.1; is = sym r.is };
       }
     where
-      never : (p : List ℕ) (start k : ℕ) → key_in p start key ≡ refused k → (s : Span) → last_pair p (name_of key) ≡ s → ⊥
-      never p start k q (At a b) e = let r = key_some p start e in let z : ◌≡◌ {A = ℕ} 0 1 = cc in omega arith
-      never p start k q Nothing e = let r = key_none p start e in let z : ◌≡◌ {A = ℕ} 0 1 = cc in omega arith
+      never : (p : List ℕ) (start k : ℕ) → key_in p start key ≡ refused k → (s : Option Span) → last_pair p (name_of key) ≡ s → ⊥
+      never p start k q (Some w) e = let r = key_some p start e in let z : ◌≡◌ {A = ℕ} 0 1 = cc in omega arith
+      never p start k q None e = let r = key_none p start e in let z : ◌≡◌ {A = ℕ} 0 1 = cc in omega arith
 
-      sits : (p : List ℕ) (start : ℕ) (said : HexText) → key_in p start key ≡ is said → (s : Span) → last_pair p (name_of key) ≡ s → Sits (KeyAt key) (limit_of key) p start said
-      sits p start said q (At a b) e =
-          let same : record { from = start + a; to = start + b; reading = hex_of (limit_of key) (part p a b) } ≡ said = told_same (sym (key_some p start e) ∙ q) in
+      sits : (p : List ℕ) (start : ℕ) (said : HexText) → key_in p start key ≡ is said → (s : Option Span) → last_pair p (name_of key) ≡ s → Sits (KeyAt key) (limit_of key) p start said
+      sits p start said q (Some w) e =
+          let same : record { from = start + w.from; to = start + w.to; reading = hex_of (limit_of key) (part p w.from w.to) } ≡ said = told_same (sym (key_some p start e) ∙ q) in
           rw (← same)
           (record {
-            text = part p a b;
-            a = a;
-            b = b;
+            text = part p w.from w.to;
+            a = w.from;
+            b = w.to;
             there = record { last = last_pair_is p (name_of key) e; is = refl };
             from = refl;
             to = refl;
-            reads = hex_means (limit_of key) (part p a b);
+            reads = hex_means (limit_of key) (part p w.from w.to);
           })
-      sits p start said q Nothing e = absurd (let r = key_none p start e in let z : ◌≡◌ {A = ℕ} 0 1 = cc in omega arith)
+      sits p start said q None e = absurd (let r = key_none p start e in let z : ◌≡◌ {A = ℕ} 0 1 = cc in omega arith)
 
       all : (p : List ℕ) (start : ℕ) (said : HexText) → Sits (KeyAt key) (limit_of key) p start said → key_in p start key ≡ is said
       all p start said r =

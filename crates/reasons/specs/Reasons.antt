@@ -7,8 +7,7 @@ use Rattle.text.specs.Number.{hex_of}
 use Rattle.text.specs.Quote.{bytes}
 use Rattle.text.specs.Run.{run_end}
 use Rattle.pairs.specs.declared.pair.Span.{Span}
-use Rattle.pairs.specs.declared.pair.Span.TheVariants.{At, Nothing}
-use Rattle.pairs.specs.Pair.{part, last_pair}
+use Rattle.pairs.specs.Pair.{part, last_pair, span}
 use Rattle.pairs.specs.Data.{inside_of, nth_piece}
 use Rattle.scan.specs.Frame.{frame_of}
 use Rattle.scan.specs.Parse.{payload_of}
@@ -55,22 +54,22 @@ payload_told (Ok place) = is place
 payload_told (Err k) = refused k
 
 -- what a span of a text that starts at a place of the line says in hex
-unfoldable pub said_at : ℕ → ℕ → List ℕ → Span → Told HexText
-said_at limit start s (At a b) = is (record { from = start + a; to = start + b; reading = hex_of limit (part s a b) })
-said_at limit start s Nothing = absent
+unfoldable pub said_at : ℕ → ℕ → List ℕ → Option Span → Told HexText
+said_at limit start s (Some w) = is (record { from = start + w.from; to = start + w.to; reading = hex_of limit (part s w.from w.to) })
+said_at limit start s None = absent
 
 -- a span of a part, as a span of the whole
-unfoldable pub moved : ℕ → Span → Span
-moved by (At a b) = At (by + a) (by + b)
-moved by Nothing = Nothing
+unfoldable pub moved : ℕ → Option Span → Option Span
+moved by (Some w) = span (by + w.from) (by + w.to)
+moved by None = None
 
 -- what stands between the brackets of a value at a span
-unfoldable pub brackets_at : List ℕ → Span → Span
-brackets_at p (At a b) = moved a (inside_of (part p a b))
-brackets_at p Nothing = Nothing
+unfoldable pub brackets_at : List ℕ → Option Span → Option Span
+brackets_at p (Some w) = moved w.from (inside_of (part p w.from w.to))
+brackets_at p None = None
 
 -- what stands between the brackets of the last `data`
-unfoldable pub data_span : List ℕ → Span
+unfoldable pub data_span : List ℕ → Option Span
 data_span p = brackets_at p (last_pair p (bytes "data"))
 
 -- what the payload's last pair of the key says
@@ -78,9 +77,9 @@ unfoldable pub key_in : List ℕ → ℕ → Key → Told HexText
 key_in p start key = said_at (limit_of key) start p (last_pair p (name_of key))
 
 -- what the i-th piece of the data at a span says
-unfoldable pub piece_at : List ℕ → ℕ → ℕ → Span → Told HexText
-piece_at p start i (At a b) = said_at (2 ^ 32 - 1) (start + a) (part p a b) (nth_piece i (part p a b) 0)
-piece_at p start i Nothing = absent
+unfoldable pub piece_at : List ℕ → ℕ → ℕ → Option Span → Told HexText
+piece_at p start i (Some w) = said_at (2 ^ 32 - 1) (start + w.from) (part p w.from w.to) (nth_piece i (part p w.from w.to) 0)
+piece_at p start i None = absent
 
 -- what the i-th piece of its data says
 unfoldable pub piece_in : List ℕ → ℕ → ℕ → Told HexText
@@ -97,8 +96,8 @@ piece_answer t i = and_then (payload_place t) (λ p. piece_in (part t p.from p.t
 -- ---- what is promised between the calls
 
 -- a span lies within the text
-abbrev pub SpanWithin : List ℕ → Span → Type 0
-SpanWithin s span = (a b : ℕ) → span ≡ At a b → (a ≤ b) × (b ≤ length s)
+abbrev pub SpanWithin : List ℕ → Option Span → Type 0
+SpanWithin s span = (a b : ℕ) → span ≡ span a b → (a ≤ b) × (b ≤ length s)
 
 -- a place is that of the payload behind the colon, and lies within the line
 pub record PlacedAt (t : List ℕ) (colon : ℕ) (place : Place) : Type 0 where
@@ -112,6 +111,6 @@ pub record PayloadAt (t : List ℕ) (r : Result Place Refusal) : Type 0 where
   pub within : (place : Place) → r ≡ Ok place → (place.from ≤ place.to) × (place.to ≤ length t)
 
 -- an answer is what stands between the brackets, and lies within the payload
-pub record DataAt (p : List ℕ) (r : Span) : Type 0 where
+pub record DataAt (p : List ℕ) (r : Option Span) : Type 0 where
   pub is : r ≡ data_span p
   pub within : SpanWithin p r

@@ -17,8 +17,7 @@ use Rattle.text.proofs.Places.{clash, by_order}
 use Rattle.entry.specs.declared.Entry.{Entry}
 use Rattle.entry.specs.Entry.{EntryValue}
 use Rattle.pairs.specs.declared.pair.Span.{Span}
-use Rattle.pairs.specs.declared.pair.Span.TheVariants.{At, Nothing}
-use Rattle.pairs.specs.Pair.{last_pair}
+use Rattle.pairs.specs.Pair.{last_pair, span}
 use Rattle.pairs.specs.Data.{Cut, BadAmong, inside_of, data_in, data_of, bad_in, bad_data}
 use Rattle.pairs.specs.Data as Data
 use Rattle.scan.specs.declared.Pieces.{Pieces}
@@ -43,9 +42,9 @@ bad_in_data : (p : List ℕ) → payload_bad p ≡ true → (ds : List ℕ) × (
 unfolding payload_bad payload_data bad_data bad_in data_of data_in
 bad_in_data p b = by_text (text_at p (last_pair p (bytes "data"))) b
   where
-    by_inside : (value : List ℕ) (s : Span) → bad_in value s ≡ true → (ds : List ℕ) × (data_in value s ≡ Some ds)
-    by_inside value (At x y) e = (_, refl)
-    by_inside value Nothing e = absurd (clash e refl)
+    by_inside : (value : List ℕ) (s : Option Span) → bad_in value s ≡ true → (ds : List ℕ) × (data_in value s ≡ Some ds)
+    by_inside value (Some w) e = (_, refl)
+    by_inside value None e = absurd (clash e refl)
 
     by_text : (o : Option (List ℕ)) → need false o bad_data ≡ true → (ds : List ℕ) × (need None o data_of ≡ Some ds)
     by_text (Some value) e = by_inside value (inside_of value) e

@@ -1,5 +1,6 @@
 -- The column "required" of the table of keys, both ways: a line has a pair of every key that it must have, since the grammar asks for it; and
 -- a line that has these alone is one. Assumes nothing.
+use Rattle.std.specs.Prelude.{None, Option}
 use Prim.Native.Nat.{ℕ}
 use mathlib.Core.Path.{◌≡◌, refl}
 use mathlib.Core.Bool.{Bool, true, false, ◌&&◌, ◌||◌}
@@ -9,8 +10,7 @@ use Rattle.text.specs.Quote.{bytes}
 use Rattle.text.specs.Told as T
 use Rattle.entry.specs.Entry.{EntryValue}
 use Rattle.pairs.specs.declared.pair.Span.{Span}
-use Rattle.pairs.specs.declared.pair.Span.TheVariants.{At, Nothing}
-use Rattle.pairs.specs.Pair.{last_pair}
+use Rattle.pairs.specs.Pair.{last_pair, span}
 use Rattle.pairs.specs.Table.{Row, keys}
 use Rattle.scan.specs.declared.Pieces.{Pieces}
 use Rattle.scan.specs.declared.Pieces.TheVariants.{Strict, Lenient}
@@ -51,9 +51,9 @@ required_are_there line =
     (Each.row not_asked Each.end))))))))))))
 
 -- no pair was found
-pub is_none : Span → Bool
-is_none (At a b) = false
-is_none Nothing = true
+pub is_none : Option Span → Bool
+is_none (Some w) = false
+is_none None = true
 
 -- of the rows each is required, or the payload has no pair of its key
 pub required_alone : List ℕ → List Row → Bool

@@ -18,8 +18,7 @@ use Rattle.header.specs.Cpu.{cpu_of}
 use Rattle.header.specs.Stamp.{stamp_of}
 use Rattle.header.specs.Function.{function_of}
 use Rattle.text.specs.Quote.{bytes}
-use Rattle.pairs.specs.declared.pair.Span.TheVariants.{At, Nothing}
-use Rattle.pairs.specs.Pair.{part, last_pair}
+use Rattle.pairs.specs.Pair.{part, last_pair, span}
 use Rattle.pairs.specs.Data.{inside_of, data_in, data_of, dwords_of, bad_of, bad_in, bad_data, filled}
 use Rattle.text.proofs.Stripping.{strip_size}
 use Rattle.header.proofs.Functions.{function_within}
@@ -35,21 +34,21 @@ use Rattle.scan.specs.Parse.{header_of, payload_of, start_of, entry_of, with_dat
 
 -- the dwords of a payload, as code finds them
 module _ (pieces : Pieces) (p out : List ℕ) where
-  pub data_missing : last_pair p (bytes "data") ≡ Nothing → DataRead pieces p out out (Err Refusal.NoData)
+  pub data_missing : last_pair p (bytes "data") ≡ None → DataRead pieces p out out (Err Refusal.NoData)
   unfolding data_answer payload_data text_at data_slots
   data_missing e = record { answer = rw e; slots = refl }
 
-  module _ {a b : ℕ} (found : last_pair p (bytes "data") ≡ At a b) where
-    pub data_unbracketed : inside_of (part p a b) ≡ Nothing → DataRead pieces p out out (Err Refusal.NoData)
+  module _ {a b : ℕ} (found : last_pair p (bytes "data") ≡ span a b) where
+    pub data_unbracketed : inside_of (part p a b) ≡ None → DataRead pieces p out out (Err Refusal.NoData)
     unfolding data_answer payload_data text_at data_slots data_of data_in
     data_unbracketed e = record { answer = rw (found, e); slots = refl }
 
-    pub data_there : {x y : ℕ} → inside_of (part p a b) ≡ At x y → payload_data p ≡ Some (dwords_of (part (part p a b) x y))
+    pub data_there : {x y : ℕ} → inside_of (part p a b) ≡ span x y → payload_data p ≡ Some (dwords_of (part (part p a b) x y))
     unfolding payload_data text_at data_of data_in
     data_there e = rw (found, e)
 
     -- what the choice says of its pieces
-    pub bad_there : {x y : ℕ} {bad r : Bool} → inside_of (part p a b) ≡ At x y → bad ≡ bad_of (part (part p a b) x y) → r ≡ refuses pieces bad → refuses pieces (payload_bad p) ≡ r
+    pub bad_there : {x y : ℕ} {bad r : Bool} → inside_of (part p a b) ≡ span x y → bad ≡ bad_of (part (part p a b) x y) → r ≡ refuses pieces bad → refuses pieces (payload_bad p) ≡ r
     unfolding payload_bad text_at bad_data bad_in
     bad_there e q h = rw (found, e, ← q) (sym h)
 

@@ -5,16 +5,15 @@ use Rattle.text.specs.Told.{Told, is, refused}
 use Rattle.text.specs.Quote.{bytes}
 use Rattle.entry.specs.Kind.{kind_of}
 use Rattle.pairs.specs.declared.pair.Span.{Span}
-use Rattle.pairs.specs.declared.pair.Span.TheVariants.{At, Nothing}
-use Rattle.pairs.specs.Pair.{part, last_pair, decimal_of, hex_at}
+use Rattle.pairs.specs.Pair.{part, last_pair, decimal_of, hex_at, span}
 use Rattle.scan.specs.declared.body.Optionals.{Optionals}
 use Rattle.scan.specs.declared.body.Body.{Body}
 use Rattle.scan.specs.Need.{need}
 
 -- the text at a span, if there is one
-unfoldable pub text_at : List ℕ → Span → Option (List ℕ)
-text_at p (At a b) = Some (part p a b)
-text_at p Nothing = None
+unfoldable pub text_at : List ℕ → Option Span → Option (List ℕ)
+text_at p (Some w) = Some (part p w.from w.to)
+text_at p None = None
 
 -- the key's last pair as hex of 8 bits
 unfoldable pub hex_byte : List ℕ → List ℕ → Option ℕ

@@ -1,9 +1,8 @@
 // A payload's dwords into the lent slots: numbers 15, 18, 16 and 17.
-ghost use Rattle.std.specs.Prelude.{◌≡◌, ◌≤◌, ◌<◌, length};
+ghost use Rattle.std.specs.Prelude.{◌≡◌, ◌≤◌, ◌<◌, length, None};
 ghost use Rattle.text.specs.Quote.{bytes};
 ghost use Rattle.text.specs.Table.{table};
-ghost use Rattle.pairs.specs.declared.pair.Span.TheVariants.{At, Nothing};
-ghost use Rattle.pairs.specs.Pair.{last_pair};
+ghost use Rattle.pairs.specs.Pair.{last_pair, span};
 ghost use Rattle.pairs.specs.Data.{filled};
 ghost use Rattle.scan.specs.Dwords.{refuses, DataRead};
 
@@ -22,8 +21,8 @@ pub fn read_data(
     slots: &mut [u32],
 ) -> Result<usize, Refusal>
     requires { (t.now ≡ table)
-        × (end ≡ 0 → last_pair p.now (bytes "data") ≡ Nothing)
-        × (0 < end → last_pair p.now (bytes "data") ≡ At from end) }
+        × (end ≡ 0 → last_pair p.now (bytes "data") ≡ None)
+        × (0 < end → last_pair p.now (bytes "data") ≡ span from end) }
     ensures { DataRead pieces p.now slots.old slots.new result }
 {
     if end == 0 {

@@ -57,7 +57,7 @@ unfold_nothing v e q = rw (eq-eqb e 0 (same_end q))
 module _ (s : List ℕ) (row : Row) {v e : ℕ} (is : kept v e ≡ kept_of s row) where
   -- ---- of a text or of dwords: where it stands
   module _ (placed : (a b : ℕ) → kept_in row.form s a b ≡ kept a b) where
-    stands : (r : Span) → last_pair s row.name ≡ r → kept v e ≡ kept_at s row.form r → (e ≡ 0 → r ≡ S.Nothing) × ((e ≡ 0 → ⊥) → r ≡ S.At v e)
+    stands : (r : Option Span) → last_pair s row.name ≡ r → kept v e ≡ kept_at s row.form r → (e ≡ 0 → r ≡ S.Nothing) × ((e ≡ 0 → ⊥) → r ≡ S.At v e)
     unfolding kept_at nothing
     stands (S.At a b) q k =
         let here : kept v e ≡ kept a b = k ∙ placed a b in
@@ -80,7 +80,7 @@ module _ (s : List ℕ) (row : Row) {v e : ℕ} (is : kept v e ≡ kept_of s row
     unfolding kept_of kept_at kept_in decimal_of decimal_in hex_at hex_in base_of
     says = go row.form (last_pair s row.name) refl is based
       where
-        go : (form : Form) (r : Span) → last_pair s row.name ≡ r → kept v e ≡ kept_at s form r → 0 < base_of form →
+        go : (form : Form) (r : Option Span) → last_pair s row.name ≡ r → kept v e ≡ kept_at s form r → 0 < base_of form →
             read_key form s row.name ≡ said_by v e
         go (Decimal limit) (S.At a b) q k h = rw q (number_said (number_of 10 limit (part s a b)) b (omega (arith, last_within s row.name q)) k)
         go (Decimal limit) S.Nothing q k h = rw q (unfold_nothing v e k)
@@ -93,7 +93,7 @@ module _ (s : List ℕ) (row : Row) {v e : ℕ} (is : kept v e ≡ kept_of s row
     unfolding kept_of kept_at kept_in nothing base_of limit_of
     says_most l = go row.form (last_pair s row.name) is based
       where
-        go : (form : Form) (r : Span) → kept v e ≡ kept_at s form r → 0 < base_of form → v ≤ limit_of form
+        go : (form : Form) (r : Option Span) → kept v e ≡ kept_at s form r → 0 < base_of form → v ≤ limit_of form
         go (Decimal limit) (S.At a b) k h = (number_is 10 limit (part s a b) (number_kept _ b l k)).within
         go (Hex limit) (S.At a b) k h = hex_fits limit (part s a b) (number_kept _ b l k)
         go (Decimal limit) S.Nothing k h = absurd (let z : e ≡ 0 = same_end k in omega arith)

@@ -11,7 +11,6 @@ use Rattle.text.specs.Run.{run_end}
 use Rattle.text.proofs.Places.{by_order, clash}
 use Rattle.text.proofs.Runs.{run_is}
 use Rattle.pairs.specs.declared.keys.Form.{Form}
-use Rattle.pairs.specs.declared.pair.Pair.TheVariants.{Miss}
 use Rattle.pairs.specs.Pair.{value_end, pair_with, pair_at}
 use Rattle.pairs.specs.Table.{keys}
 use Rattle.pairs.proofs.Tries.{value_is, value_up, value_within, try-unequal, try-hits, try-misses, miss_within}
@@ -61,7 +60,7 @@ module _ (s : List ℕ) (i : ℕ) {start : Start} (b : Started s i start) (in-te
   pub step_in : start.end + 1 ≤ suc (length s)
   step_in = omega (arith, run_in)
 
-  passes : {values ends : List ℕ} → pair_with s i start.end ≡ Miss → Step s i values ends values ends (start.end + 1)
+  passes : {values ends : List ℕ} → pair_with s i start.end ≡ None → Step s i values ends values ends (start.end + 1)
   passes q =
       record {
         on = step_on;

@@ -1,5 +1,6 @@
 -- One walk for all keys: a pair changes what is kept for its own row only, and so for every row what the walk keeps and what is to come
 -- are the last pair of the row's key. Assumes nothing.
+use Rattle.std.specs.Prelude.{None, Option}
 use Prim.Native.Nat.{ℕ, suc, ◌+◌, ◌≤◌, ◌<◌}
 use mathlib.Core.Path.{◌≡◌, refl, sym, ap, ◌∙◌}
 use mathlib.Core.Bool.{Bool, true, false}
@@ -15,10 +16,9 @@ use Rattle.text.specs.Run.{run_end}
 use Rattle.text.proofs.Places.{by_order}
 use Rattle.text.proofs.Runs.{run_over, run_stop}
 use Rattle.pairs.specs.declared.keys.Form.{Form}
-use Rattle.pairs.specs.declared.pair.Pair.TheVariants.{Hit, Miss}
 use Rattle.pairs.specs.declared.pair.Span.{Span}
 use Rattle.pairs.specs.declared.pair.Span.TheVariants as S
-use Rattle.pairs.specs.Pair.{part, pair_with, pair_at, next_pair, pairs_from, last_in, last_pair}
+use Rattle.pairs.specs.Pair.{part, pair_with, pair_at, next_pair, pairs_from, last_in, last_pair, hit}
 use Rattle.pairs.specs.Table.{Key, keys, row_at, key_named}
 use Rattle.pairs.proofs.Tries.{try_empty}
 use Rattle.pairs.proofs.Matches.{next_ends, next_hits, next_skips}
@@ -36,7 +36,7 @@ kept_row values ends k = record { value = get_or values k 0; end = get_or ends k
 pub record Walked (s values ends : List ℕ) (at : ℕ) : Type 0 where
   pub values_size : length values ≡ suc (length keys)
   pub ends_size : length ends ≡ suc (length keys)
-  pub so_far : ℕ → Span
+  pub so_far : ℕ → Option Span
   pub kept_so : (k : ℕ) → k < length keys → kept_row values ends k ≡ kept_at s (row_at k).form (so_far k)
   pub same : (k : ℕ) → k < length keys → last_pair s (row_at k).name ≡ last_in s (row_at k).name (so_far k) (pairs_from s at)
 
@@ -61,7 +61,7 @@ module _ (s : List ℕ) where
       zeros k h = rw (zero-at k h v, zero-at k h e)
 
   -- where no pair starts, nothing is to come that did not come from before
-  pub walked_skips : {values ends : List ℕ} {a b : ℕ} → a ≤ b → ((k : ℕ) → a ≤ k → k < b → pair_at s k ≡ Miss) →
+  pub walked_skips : {values ends : List ℕ} {a b : ℕ} → a ≤ b → ((k : ℕ) → a ≤ k → k < b → pair_at s k ≡ None) →
       Walked s values ends a → Walked s values ends b
   walked_skips {values} {ends} {a} {b} h f w =
       record {
@@ -75,20 +75,20 @@ module _ (s : List ℕ) where
       }
 
   -- no pair starts at a byte that is none of a word
-  no_word_misses : (k : ℕ) → is_word (get_or s k 0) ≡ false → pair_at s k ≡ Miss
+  no_word_misses : (k : ℕ) → is_word (get_or s k 0) ≡ false → pair_at s k ≡ None
   unfolding pair_at
   no_word_misses k n = by_order k (length s) (λ h. empty (run_stop is_word s h n)) (λ h. empty (run_over is_word s (omega arith))) (λ h. empty (run_over is_word s (omega arith)))
     where
-      empty : run_end is_word s k ≡ k → pair_with s k (run_end is_word s k) ≡ Miss
+      empty : run_end is_word s k ≡ k → pair_with s k (run_end is_word s k) ≡ None
       empty q = try_empty s k (run_end is_word s k) (omega arith)
 
   pub walked_words : {values ends : List ℕ} {a b : ℕ} → a ≤ b → Free (λ (k : ℕ). is_word (get_or s k 0)) a b →
       Walked s values ends a → Walked s values ends b
   walked_words h f w = walked_skips h (λ k a b. no_word_misses k (f k a b)) w
 
-  module _ {values ends : List ℕ} {i m e : ℕ} {key : Key} (w : Walked s values ends i) (q : next_pair s i ≡ Hit i m e) (named : key ≡ key_named (part s i m)) where
+  module _ {values ends : List ℕ} {i m e : ℕ} {key : Key} (w : Walked s values ends i) (q : next_pair s i ≡ hit i m e) (named : key ≡ key_named (part s i m)) where
     -- the span of the pair for its own row, and of every other row what it was
-    now_kept : Bool → ℕ → Span
+    now_kept : Bool → ℕ → Option Span
     now_kept true k = S.At (m + 1) e
     now_kept false k = w.so_far k
 

@@ -3,13 +3,12 @@ use Rattle.std.specs.Prelude.{ℕ, suc, ◌+◌, ◌≤◌, ◌<◌, ◌≡◌, 
 use Rattle.text.specs.Number.{digit_of, value, number_of, hex_number_of, digits_from}
 use Rattle.pairs.specs.declared.keys.Form.{Form}
 use Rattle.pairs.specs.declared.keys.Form.TheVariants.{Text, Decimal, Hex, Dwords}
-use Rattle.pairs.specs.declared.pair.Pair.TheVariants.{Hit, Miss}
 use Rattle.pairs.specs.declared.pair.Span.{Span}
 use Rattle.pairs.specs.declared.pair.Span.TheVariants as S
 use Rattle.walk.specs.declared.value.Digits.{Digits}
 use Rattle.walk.specs.declared.value.Kept.{Kept}
 use Rattle.walk.specs.declared.value.Value.{Value}
-use Rattle.pairs.specs.Pair.{part, value_end, pair_at, last_pair}
+use Rattle.pairs.specs.Pair.{part, value_end, pair_at, last_pair, hit}
 use Rattle.pairs.specs.Table.{Key, Row, keys, row_at, key_named}
 
 -- nothing is kept
@@ -29,7 +28,7 @@ kept_in Text s a b = record { value = a; end = b }
 kept_in Dwords s a b = record { value = a; end = b }
 
 -- what is kept of the value at a span
-unfoldable pub kept_at : List ℕ → Form → Span → Kept
+unfoldable pub kept_at : List ℕ → Form → Option Span → Kept
 kept_at s form (S.At a b) = kept_in form s a b
 kept_at s form S.Nothing = nothing
 
@@ -51,9 +50,9 @@ said_by v e = cond (eqb e 0) None (Some v)
 
 -- no pair starts from i up to r, and what was kept stays; or a pair starts at i and ends at r, and what is kept of it takes its row
 pub data Stepped (s : List ℕ) (i : ℕ) (values ends values-after ends-after : List ℕ) (r : ℕ) : Type 0 where
-  passed : ((k : ℕ) → i ≤ k → k < r → pair_at s k ≡ Miss) → values-after ≡ values → ends-after ≡ ends →
+  passed : ((k : ℕ) → i ≤ k → k < r → pair_at s k ≡ None) → values-after ≡ values → ends-after ≡ ends →
       Stepped s i values ends values-after ends-after r
-  took : (m : ℕ) → pair_at s i ≡ Hit i m r → {key : Key} → key ≡ key_named (part s i m) →
+  took : (m : ℕ) → pair_at s i ≡ hit i m r → {key : Key} → key ≡ key_named (part s i m) →
       values-after ≡ set values key.row (kept_in key.form s (m + 1) r).value →
       ends-after ≡ set ends key.row (kept_in key.form s (m + 1) r).end →
       Stepped s i values ends values-after ends-after r

@@ -14,8 +14,7 @@ use Rattle.text.specs.Told.{Told, is, absent, refused, and_then}
 use Rattle.text.specs.Number.{hex_of, Means}
 use Rattle.text.proofs.Hexes.{hex_means}
 use Rattle.pairs.specs.declared.pair.Span.{Span}
-use Rattle.pairs.specs.declared.pair.Span.TheVariants.{At, Nothing}
-use Rattle.pairs.specs.Pair.{part, last_pair}
+use Rattle.pairs.specs.Pair.{part, last_pair, span}
 use Rattle.pairs.specs.Data.{cut, EndsPiece}
 use Rattle.pairs.proofs.LastPairs.{last_within}
 use Rattle.pairs.proofs.Cuts.{cut_last, cut_next}
@@ -88,15 +87,15 @@ pub record HexIn (p : List ℕ) (h : HexText) : Type 0 where
   pub within : h.to ≤ length p
   pub read : ReadingWithin h.reading (length (part p h.from h.to))
 
-said_in : (limit : ℕ) (p : List ℕ) (span : Span) → ((a b : ℕ) → span ≡ At a b → (a ≤ b) × (b ≤ length p)) → {h : HexText} → said_at limit 0 p span ≡ is h → HexIn p h
+said_in : (limit : ℕ) (p : List ℕ) (span : Option Span) → ((a b : ℕ) → span ≡ span a b → (a ≤ b) × (b ≤ length p)) → {h : HexText} → said_at limit 0 p span ≡ is h → HexIn p h
 unfolding said_at
-said_in limit p (At a b) w {h} e =
-    let x : 0 + a ≡ a = omega arith in
-    let y : 0 + b ≡ b = omega arith in
-    let q₀ : ◌≡◌ {A = HexText} (record { from = 0 + a; to = 0 + b; reading = hex_of limit (part p a b) }) h = cc in
-    let q : ◌≡◌ {A = HexText} (record { from = a; to = b; reading = hex_of limit (part p a b) }) h = rw (x, y) at q₀ in
-    rw (← q) (record { up = (w a b refl).0; within = (w a b refl).1; read = bad_within limit (part p a b) refl })
-said_in limit p Nothing w e = absurd (let z : ◌≡◌ {A = ℕ} 0 1 = cc in omega arith)
+said_in limit p (Some v) w {h} e =
+    let x : 0 + v.from ≡ a = omega arith in
+    let y : 0 + v.to ≡ b = omega arith in
+    let q₀ : ◌≡◌ {A = HexText} (record { from = 0 + v.from; to = 0 + v.to; reading = hex_of limit (part p v.from v.to) }) h = cc in
+    let q : ◌≡◌ {A = HexText} (record { from = v.from; to = v.to; reading = hex_of limit (part p v.from v.to) }) h = rw (x, y) at q₀ in
+    rw (← q) (record { up = (w v.from v.to refl).0; within = (w v.from v.to refl).1; read = bad_within limit (part p v.from v.to) refl })
+said_in limit p None w e = absurd (let z : ◌≡◌ {A = ℕ} 0 1 = cc in omega arith)
 
 module _ (p : List ℕ) (key : Key) {r : Result (Option HexText) Refusal} (told : answer_told r ≡ key_in p 0 key) where
   pub key_text : {h : HexText} → r ≡ Ok (Some h) → HexIn p h
@@ -119,11 +118,11 @@ module _ (p : List ℕ) (key : Key) {r : Result (Option HexText) Refusal} (told 
 
 -- ---- the data and its pieces
 
-pub data_there : (p : List ℕ) {r : Span} {a b : ℕ} → DataAt p r → r ≡ At a b → pieces_found 0 (cut (part p a b)) ≡ data_found p (data_span p)
+pub data_there : (p : List ℕ) {r : Option Span} {a b : ℕ} → DataAt p r → r ≡ span a b → pieces_found 0 (cut (part p a b)) ≡ data_found p (data_span p)
 unfolding data_found
 data_there p d e = rw (← d.is, e)
 
-pub data_missing : (p : List ℕ) {r : Span} → DataAt p r → r ≡ Nothing → [] ≡ data_found p (data_span p)
+pub data_missing : (p : List ℕ) {r : Option Span} → DataAt p r → r ≡ None → [] ≡ data_found p (data_span p)
 unfolding data_found
 data_missing p d e = rw (← d.is, e)
 

@@ -1,12 +1,11 @@
 -- The unreadable hex numbers of a line, in the order of their rows.
 use Rattle.text.specs.declared.number.BadNumber.{BadNumber}
 use Rattle.text.specs.declared.number.BadNumber.TheVariants as BadNumber
-use Rattle.std.specs.Prelude.{ℕ, ◌+◌, ◌-◌, ◌^◌, ◌<◌, ◌≡◌, List, [], ◌∷◌, ◌++◌, Err, Ok, Result}
+use Rattle.std.specs.Prelude.{ℕ, ◌+◌, ◌-◌, ◌^◌, ◌<◌, ◌≡◌, List, [], ◌∷◌, ◌++◌, Err, Ok, Result, None, Option}
 use Rattle.text.specs.Told.{Told, is, absent, refused}
 use Rattle.text.specs.Number.{hex_of}
 use Rattle.pairs.specs.declared.pair.Span.{Span}
-use Rattle.pairs.specs.declared.pair.Span.TheVariants.{At, Nothing}
-use Rattle.pairs.specs.Pair.{part}
+use Rattle.pairs.specs.Pair.{part, span}
 use Rattle.pairs.specs.Data.{cut}
 use Rattle.reasons.specs.declared.Key.{Key}
 use Rattle.reasons.specs.declared.Key.TheVariants as K
@@ -50,9 +49,9 @@ pieces_found i [] = []
 pieces_found i (s ∷ ss) = unread (W.Piece i) s (hex_of (2 ^ 32 - 1) s) ++ pieces_found (i + 1) ss
 
 -- of the pieces of the data at a span
-unfoldable pub data_found : List ℕ → Span → List Finding
-data_found p (At a b) = pieces_found 0 (cut (part p a b))
-data_found p Nothing = []
+unfoldable pub data_found : List ℕ → Option Span → List Finding
+data_found p (Some w) = pieces_found 0 (cut (part p w.from w.to))
+data_found p None = []
 
 -- of a payload: each key's, then those of the pieces
 unfoldable pub found_in : List ℕ → List Finding

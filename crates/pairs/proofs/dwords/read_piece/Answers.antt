@@ -7,10 +7,10 @@ use native.Mathlib.Omega.{arith}
 use Rattle.pairs.proofs.dwords.read_piece.Goals as goal
 
 pub overflow_cast-result : goal.overflow_cast-result
-overflow_cast-result c = omega (arith, hex_fits (2 ^ 32 - 1) _ (sym (ap result_ok c.hex.ensures) ∙ sym c.value_of.ensures ∙ c.in-Some.is))
+overflow_cast-result c = omega (arith, hex_fits (2 ^ 32 - 1) _ (sym (ap result_ok c.hex.ensures) ∙ sym c.ok.ensures.value ∙ c.in-Some.is))
 
 pub returns-in-Some : goal.returns-in-Some
-returns-in-Some c = piece_dword _ (sym (ap result_ok c.hex.ensures) ∙ sym c.value_of.ensures ∙ c.in-Some.is)
+returns-in-Some c = piece_dword _ (sym (ap result_ok c.hex.ensures) ∙ sym c.ok.ensures.value ∙ c.in-Some.is)
 
 pub returns-in-None : goal.returns-in-None
-returns-in-None c = piece_bad _ (sym (ap result_ok c.hex.ensures) ∙ sym c.value_of.ensures ∙ c.in-None.is)
+returns-in-None c = piece_bad _ (sym (ap result_ok c.hex.ensures) ∙ sym c.ok.ensures.value ∙ c.in-None.is)

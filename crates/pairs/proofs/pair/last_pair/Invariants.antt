@@ -5,8 +5,8 @@ use lib.ListN.{length}
 use mathlib.Core.Path.{◌≡◌}
 use Rattle.pairs.proofs.pair.last_pair.Given as goal
 
-abbrev pub invariant-loop-i : goal.invariant-loop-i
-invariant-loop-i l = last_pair l.s l.key ≡ last_in l.s l.key l.best (pairs_from l.s l.at)
+abbrev pub invariant-loop-hit : goal.invariant-loop-hit
+invariant-loop-hit l = last_pair l.s l.key ≡ last_in l.s l.key l.best (pairs_from l.s l.at)
 
-abbrev pub decreases-loop-i : goal.decreases-loop-i
-decreases-loop-i l = length l.s - l.at
+abbrev pub decreases-loop-hit : goal.decreases-loop-hit
+decreases-loop-hit l = length l.s - l.at

@@ -14,8 +14,8 @@ pub value_end-requires : goal.value_end-requires
 unfolding in_class
 value_end-requires c = (c.run_end.ensures.is, c.requires.1)
 
-pub returns-in-Some : goal.returns-in-Some
-returns-in-Some c = sym (try-hits _ _ _ c.if-m-i.false (sym c.byte_at.ensures ∙ c.if-byte_at-ne61.false) (sym c.value_end.ensures ∙ c.in-Some.is))
+pub returns : goal.returns
+returns c = sym (try-hits _ _ _ c.if-m-i.false (sym c.byte_at.ensures ∙ c.if-byte_at-ne61.false) (sym c.value_end.ensures ∙ c.in_ok-end.was))
 
-pub returns-in-None : goal.returns-in-None
-returns-in-None c = sym (try-misses _ _ _ c.if-m-i.false (sym c.byte_at.ensures ∙ c.if-byte_at-ne61.false) (sym c.value_end.ensures ∙ c.in-None.is))
+pub returns-in_err-end : goal.returns-in_err-end
+returns-in_err-end c = cc (try-misses _ _ _ c.if-m-i.false (sym c.byte_at.ensures ∙ c.if-byte_at-ne61.false) (sym c.value_end.ensures ∙ c.in_err-end.was))

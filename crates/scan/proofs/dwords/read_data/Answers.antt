@@ -6,8 +6,7 @@ use Rattle.pairs.proofs.Bracketing.{Brackets, last_unopened, last_brackets}
 use Rattle.pairs.proofs.LastPairs.{last_within}
 use Rattle.pairs.proofs.Slots.{taken_front, taken_count, taken_fits}
 use Rattle.pairs.specs.Data.{dwords_of, bad_of, filled}
-use Rattle.pairs.specs.Pair.{part, last_pair}
-use Rattle.pairs.specs.declared.pair.Span.TheVariants.{At}
+use Rattle.pairs.specs.Pair.{part, last_pair, span}
 use Rattle.scan.proofs.Stages.{data_missing, data_unbracketed, data_there, bad_there, data_bad, data-many, data-crowded, data-got}
 use Rattle.scan.specs.Dwords.{payload_data, payload_bad, refuses}
 use Rattle.scan.specs.declared.Pieces.{Pieces}
@@ -20,7 +19,7 @@ use native.Mathlib.Omega.{arith}
 use Rattle.scan.proofs.dwords.read_data.Goals as goal
 
 -- what stands in the brackets is the payload's data
-module _ (pieces : Pieces) (p out : List ℕ) {a b : ℕ} (found : last_pair p (bytes "data") ≡ At a b) (r : Brackets p a b) where
+module _ (pieces : Pieces) (p out : List ℕ) {a b : ℕ} (found : last_pair p (bytes "data") ≡ span a b) (r : Brackets p a b) where
   inner_data : payload_data p ≡ Some (dwords_of (part p (a + 1) (b - 1)))
   inner_data = data_there pieces p out found r.inside ∙ ap (λ (l : List ℕ). Some (dwords_of l)) r.inner
 

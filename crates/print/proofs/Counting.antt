@@ -74,12 +74,11 @@ counted_steps {n} {rest} {i} {bytes} r l =
           (append_assoc (decimal_text (rest / 10)) ((48 + rest % 10) ∷ []) (drop (suc i) bytes));
     }
 
-pub counted_ends : {n rest i : ℕ} {bytes : List ℕ} → Counted n bytes rest i → rest < 10 → Digits n (set bytes i (48 + rest % 10)) i
+pub counted_ends : {n rest i : ℕ} {bytes : List ℕ} → Counted n bytes rest i → rest < 10 → Digits n (set bytes i (48 + rest)) i
 counted_ends {n} {rest} {i} {bytes} r l =
-    let e : rest % 10 ≡ rest = omega arith in
     record {
-      size = length-set bytes i (48 + rest % 10) ∙ r.size;
+      size = length-set bytes i (48 + rest) ∙ r.size;
       within = r.place;
-      front = fewer bytes i (48 + rest % 10) r.front;
-      is = drop_set bytes i (48 + rest % 10) (omega (arith, r.size, r.place)) ∙ sym (r.is ∙ rw (decimal_short rest l, e));
+      front = fewer bytes i (48 + rest) r.front;
+      is = drop_set bytes i (48 + rest) (omega (arith, r.size, r.place)) ∙ sym (r.is ∙ rw (decimal_short rest l));
     }

@@ -1,4 +1,5 @@
 // The decimal digits of a number.
+ghost use Rattle.std.specs.Prelude.{◌≡◌, ◌<◌, drop};
 ghost use Rattle.print.specs.Put.{Digits as DigitsOf};
 
 // The digits stand at the end of the bytes, from a place on.
@@ -6,6 +7,15 @@ ghost use Rattle.print.specs.Put.{Digits as DigitsOf};
 pub struct Digits {
     pub bytes: [u8; 20],
     pub from: usize,
+    ghost inside: { from < 20 },
+}
+
+impl Digits {
+    pub fn text(&self) -> &[u8]
+        ensures { result.now ≡ drop self.now.from self.now.bytes }
+    {
+        &self.bytes[self.from..]
+    }
 }
 
 pub fn digits_of(n: u64) -> Digits
@@ -13,15 +23,12 @@ pub fn digits_of(n: u64) -> Digits
 {
     let mut bytes = [b'0'; 20];
     let mut rest = n;
-    let mut i: usize = 19;
+    let mut from = 19;
     while 10 <= rest {
-        bytes[i] = b'0' + (rest % 10) as u8;
-        rest = rest / 10;
-        i -= 1;
+        bytes[from] = b'0' + (rest % 10) as u8;
+        rest /= 10;
+        from -= 1;
     }
-    bytes[i] = b'0' + (rest % 10) as u8;
-    Digits {
-        bytes: bytes,
-        from: i,
-    }
+    bytes[from] = b'0' + rest as u8;
+    Digits { bytes, from }
 }

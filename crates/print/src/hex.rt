@@ -1,56 +1,12 @@
-// Bytes and dwords in small hex digits.
+// Small hex digits.
 ghost use Rattle.std.specs.Prelude.{◌≡◌, ◌%◌, ◌<◌};
 ghost use Rattle.print.specs.Put.{Placed};
-ghost use Rattle.print.specs.Hex.{hex_digit, byte_text, hex_text, dword_text};
+ghost use Rattle.print.specs.Hex.{hex_digit, hex_text, byte_text, dword_text};
 
-use crate::put::put;
-
-// The bytes of a text, two digits each.
-pub fn put_hex(out: &mut [u8], at: usize, s: &[u8]) -> usize
-    ensures { Placed out.old at (hex_text s.now) out.new result }
-{
-    if out.len() < at {
-        return at;
-    }
-    if (out.len() - at) / 2 < s.len() {
-        return at;
-    }
-    let mut i = 0;
-    let mut behind = at;
-    while i < s.len() {
-        behind = put_byte(out, behind, s[i]);
-        i += 1;
-    }
-    behind
-}
-
-// A byte, two digits.
-pub fn put_byte(out: &mut [u8], at: usize, b: u8) -> usize
-    ensures { Placed out.old at (byte_text b) out.new result }
-{
-    let digits = [digit(b / 16), digit(b % 16)];
-    put(out, at, &digits)
-}
-
-// A dword, eight digits.
-pub fn put_dword(out: &mut [u8], at: usize, d: u32) -> usize
-    ensures { Placed out.old at (dword_text d) out.new result }
-{
-    let digits = [
-        nibble(d / 0x1000_0000),
-        nibble(d / 0x100_0000),
-        nibble(d / 0x10_0000),
-        nibble(d / 0x1_0000),
-        nibble(d / 0x1000),
-        nibble(d / 0x100),
-        nibble(d / 0x10),
-        nibble(d),
-    ];
-    put(out, at, &digits)
-}
+use crate::page::Page;
 
 // The digit of a number's lowest four bits.
-fn nibble(d: u32) -> u8
+pub(crate) fn nibble(d: u32) -> u8
     ensures { result ≡ hex_digit (d % 16) }
 {
     digit((d % 16) as u8)
@@ -64,4 +20,37 @@ pub fn digit(n: u8) -> u8
         return b'0' + n;
     }
     87 + n
+}
+
+pub fn put_hex(out: &mut [u8], at: usize, s: &[u8]) -> usize
+    ensures { Placed out.old at (hex_text s.now) out.new result }
+{
+    if out.len() < at {
+        return at;
+    }
+    let mut page = Page { out, at };
+    page.put_hex(s);
+    page.at
+}
+
+pub fn put_byte(out: &mut [u8], at: usize, b: u8) -> usize
+    ensures { Placed out.old at (byte_text b) out.new result }
+{
+    if out.len() < at {
+        return at;
+    }
+    let mut page = Page { out, at };
+    page.put_byte(b);
+    page.at
+}
+
+pub fn put_dword(out: &mut [u8], at: usize, d: u32) -> usize
+    ensures { Placed out.old at (dword_text d) out.new result }
+{
+    if out.len() < at {
+        return at;
+    }
+    let mut page = Page { out, at };
+    page.put_dword(d);
+    page.at
 }

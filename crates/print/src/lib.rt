@@ -3,4 +3,5 @@
 
 pub mod digits;
 pub mod hex;
+pub mod page;
 pub mod put;

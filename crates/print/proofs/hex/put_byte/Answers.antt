@@ -1,7 +1,7 @@
--- `hex::put_byte` meets its contract: its two digits are put. Assumes nothing.
-use Rattle.print.proofs.Copying.{placed_same}
-use Rattle.print.proofs.Hexing.{two_same}
+-- `hex::put_byte` meets its contract: behind the buffer there is no room. Assumes nothing.
+use Rattle.print.proofs.Copying.{no_room}
+use native.Mathlib.Omega.{arith}
 use Rattle.print.proofs.hex.put_byte.Goals as goal
 
-pub returns : goal.returns
-returns c = placed_same (two_same c.digit.ensures c.digit-2.ensures) c.put.ensures
+pub returns-then-out-at : goal.returns-then-out-at
+returns-then-out-at c = no_room _ _ _ (omega arith)

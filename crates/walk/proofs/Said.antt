@@ -11,8 +11,7 @@ use Rattle.text.proofs.Numbers.{number_is}
 use Rattle.pairs.specs.declared.keys.Form.{Form}
 use Rattle.pairs.specs.declared.keys.Form.TheVariants.{Text, Decimal, Hex, Dwords}
 use Rattle.pairs.specs.declared.pair.Span.{Span}
-use Rattle.pairs.specs.declared.pair.Span.TheVariants as S
-use Rattle.pairs.specs.Pair.{part, last_pair, decimal_in, decimal_of, hex_in, hex_at}
+use Rattle.pairs.specs.Pair.{part, last_pair, decimal_in, decimal_of, hex_in, hex_at, span}
 use Rattle.pairs.specs.Table.{Row}
 use Rattle.pairs.proofs.LastPairs.{last_within}
 use Rattle.pairs.proofs.Slots.{hex_fits}
@@ -57,20 +56,20 @@ unfold_nothing v e q = rw (eq-eqb e 0 (same_end q))
 module _ (s : List ℕ) (row : Row) {v e : ℕ} (is : kept v e ≡ kept_of s row) where
   -- ---- of a text or of dwords: where it stands
   module _ (placed : (a b : ℕ) → kept_in row.form s a b ≡ kept a b) where
-    stands : (r : Option Span) → last_pair s row.name ≡ r → kept v e ≡ kept_at s row.form r → (e ≡ 0 → r ≡ S.Nothing) × ((e ≡ 0 → ⊥) → r ≡ S.At v e)
+    stands : (r : Option Span) → last_pair s row.name ≡ r → kept v e ≡ kept_at s row.form r → (e ≡ 0 → r ≡ None) × ((e ≡ 0 → ⊥) → r ≡ span v e)
     unfolding kept_at nothing
-    stands (S.At a b) q k =
-        let here : kept v e ≡ kept a b = k ∙ placed a b in
-        let ends : e ≡ b = same_end here in
-        let starts : v ≡ a = same_value here in
+    stands (Some w) q k =
+        let here : kept v e ≡ kept w.from w.to = k ∙ placed w.from w.to in
+        let ends : e ≡ w.to = same_end here in
+        let starts : v ≡ w.from = same_value here in
         (λ z. absurd (omega (arith, last_within s row.name q)), λ n. rw (ends, starts))
-    stands S.Nothing q k = (λ z. refl, λ n. absurd (n (same_end k)))
+    stands None q k = (λ z. refl, λ n. absurd (n (same_end k)))
 
-    pub stands_nowhere : e ≡ 0 → last_pair s row.name ≡ S.Nothing
+    pub stands_nowhere : e ≡ 0 → last_pair s row.name ≡ None
     unfolding kept_of
     stands_nowhere z = (stands (last_pair s row.name) refl is).0 z
 
-    pub stands_at : (e ≡ 0 → ⊥) → last_pair s row.name ≡ S.At v e
+    pub stands_at : (e ≡ 0 → ⊥) → last_pair s row.name ≡ span v e
     unfolding kept_of
     stands_at n = (stands (last_pair s row.name) refl is).1 n
 
@@ -82,10 +81,10 @@ module _ (s : List ℕ) (row : Row) {v e : ℕ} (is : kept v e ≡ kept_of s row
       where
         go : (form : Form) (r : Option Span) → last_pair s row.name ≡ r → kept v e ≡ kept_at s form r → 0 < base_of form →
             read_key form s row.name ≡ said_by v e
-        go (Decimal limit) (S.At a b) q k h = rw q (number_said (number_of 10 limit (part s a b)) b (omega (arith, last_within s row.name q)) k)
-        go (Decimal limit) S.Nothing q k h = rw q (unfold_nothing v e k)
-        go (Hex limit) (S.At a b) q k h = rw q (number_said (hex_number_of limit (part s a b)) b (omega (arith, last_within s row.name q)) k)
-        go (Hex limit) S.Nothing q k h = rw q (unfold_nothing v e k)
+        go (Decimal limit) (Some w) q k h = rw q (number_said (number_of 10 limit (part s w.from w.to)) w.to (omega (arith, last_within s row.name q)) k)
+        go (Decimal limit) None q k h = rw q (unfold_nothing v e k)
+        go (Hex limit) (Some w) q k h = rw q (number_said (hex_number_of limit (part s w.from w.to)) w.to (omega (arith, last_within s row.name q)) k)
+        go (Hex limit) None q k h = rw q (unfold_nothing v e k)
         go Text r q k h = absurd (omega arith)
         go Dwords r q k h = absurd (omega arith)
 
@@ -94,9 +93,9 @@ module _ (s : List ℕ) (row : Row) {v e : ℕ} (is : kept v e ≡ kept_of s row
     says_most l = go row.form (last_pair s row.name) is based
       where
         go : (form : Form) (r : Option Span) → kept v e ≡ kept_at s form r → 0 < base_of form → v ≤ limit_of form
-        go (Decimal limit) (S.At a b) k h = (number_is 10 limit (part s a b) (number_kept _ b l k)).within
-        go (Hex limit) (S.At a b) k h = hex_fits limit (part s a b) (number_kept _ b l k)
-        go (Decimal limit) S.Nothing k h = absurd (let z : e ≡ 0 = same_end k in omega arith)
-        go (Hex limit) S.Nothing k h = absurd (let z : e ≡ 0 = same_end k in omega arith)
+        go (Decimal limit) (Some w) k h = (number_is 10 limit (part s w.from w.to) (number_kept _ w.to l k)).within
+        go (Hex limit) (Some w) k h = hex_fits limit (part s w.from w.to) (number_kept _ w.to l k)
+        go (Decimal limit) None k h = absurd (let z : e ≡ 0 = same_end k in omega arith)
+        go (Hex limit) None k h = absurd (let z : e ≡ 0 = same_end k in omega arith)
         go Text r k h = absurd (omega arith)
         go Dwords r k h = absurd (omega arith)

@@ -17,8 +17,7 @@ use Rattle.text.proofs.Places.{by_order}
 use Rattle.text.proofs.Runs.{run_over, run_stop}
 use Rattle.pairs.specs.declared.keys.Form.{Form}
 use Rattle.pairs.specs.declared.pair.Span.{Span}
-use Rattle.pairs.specs.declared.pair.Span.TheVariants as S
-use Rattle.pairs.specs.Pair.{part, pair_with, pair_at, next_pair, pairs_from, last_in, last_pair, hit}
+use Rattle.pairs.specs.Pair.{part, pair_with, pair_at, next_pair, pairs_from, last_in, last_pair, hit, span}
 use Rattle.pairs.specs.Table.{Key, keys, row_at, key_named}
 use Rattle.pairs.proofs.Tries.{try_empty}
 use Rattle.pairs.proofs.Matches.{next_ends, next_hits, next_skips}
@@ -49,7 +48,7 @@ module _ (s : List ℕ) where
       record {
         values_size = ap length v ∙ length-replicate (suc (length keys)) 0;
         ends_size = ap length e ∙ length-replicate (suc (length keys)) 0;
-        so_far = λ k. S.Nothing;
+        so_far = λ k. None;
         kept_so = λ k h. zeros k h;
         same = λ k h. refl;
       }
@@ -89,7 +88,7 @@ module _ (s : List ℕ) where
   module _ {values ends : List ℕ} {i m e : ℕ} {key : Key} (w : Walked s values ends i) (q : next_pair s i ≡ hit i m e) (named : key ≡ key_named (part s i m)) where
     -- the span of the pair for its own row, and of every other row what it was
     now_kept : Bool → ℕ → Option Span
-    now_kept true k = S.At (m + 1) e
+    now_kept true k = span (m + 1) e
     now_kept false k = w.so_far k
 
     is_row : (k : ℕ) → eqb key.row k ≡ eqb (key_named (part s i m)).row k

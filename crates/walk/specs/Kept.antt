@@ -4,7 +4,6 @@ use Rattle.text.specs.Number.{digit_of, value, number_of, hex_number_of, digits_
 use Rattle.pairs.specs.declared.keys.Form.{Form}
 use Rattle.pairs.specs.declared.keys.Form.TheVariants.{Text, Decimal, Hex, Dwords}
 use Rattle.pairs.specs.declared.pair.Span.{Span}
-use Rattle.pairs.specs.declared.pair.Span.TheVariants as S
 use Rattle.walk.specs.declared.value.Digits.{Digits}
 use Rattle.walk.specs.declared.value.Kept.{Kept}
 use Rattle.walk.specs.declared.value.Value.{Value}
@@ -29,8 +28,8 @@ kept_in Dwords s a b = record { value = a; end = b }
 
 -- what is kept of the value at a span
 unfoldable pub kept_at : List ℕ → Form → Option Span → Kept
-kept_at s form (S.At a b) = kept_in form s a b
-kept_at s form S.Nothing = nothing
+kept_at s form (Some w) = kept_in form s w.from w.to
+kept_at s form None = nothing
 
 -- what is kept of the last pair of a row's key
 unfoldable pub kept_of : List ℕ → Row → Kept

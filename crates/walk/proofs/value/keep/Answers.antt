@@ -6,7 +6,7 @@ pub returns-in-Decimal : goal.returns-in-Decimal
 returns-in-Decimal c = kept_decimal _ _ _ c.in-Decimal.is c.decimal.ensures c.keep_number.ensures
 
 pub returns-in-Hex : goal.returns-in-Hex
-returns-in-Hex c = kept_hex _ _ _ c.in-Hex.is c.hex.ensures c.value_of.ensures c.keep_number-in-Hex.ensures
+returns-in-Hex c = kept_hex _ _ _ c.in-Hex.is c.hex.ensures c.ok.ensures.value c.keep_number-in-Hex.ensures
 
 pub returns-in-Text : goal.returns-in-Text
 returns-in-Text c = kept_text _ _ _ c.in-Text.is

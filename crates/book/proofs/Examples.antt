@@ -58,7 +58,7 @@ use Rattle.book.specs.Finders.{
 
 -- one word to open what the facts compute with
 computed : Unit {0}
-unfolding number number_bytes field_bytes step_from field_at walk_from walk parts filled same_text body_at after name_at type_at same_uuid fits wanted first_part first_wanted table_want is_name optional_name value_body same_value values_fill range_body ranges_fill entry_body same_entry entries_fill control_body uuid_body table_body same_table tables_fill check_of inner_from seek_of count_inside nth_inside name_of type_of
+unfolding number number_bytes field_bytes step_from field_at walk_from walk parts filled body_at after name_at type_at same_uuid fits wanted first_part first_wanted table_want is_name optional_name value_body same_value values_fill range_body ranges_fill entry_body same_entry entries_fill control_body uuid_body table_body same_table tables_fill check_of inner_from seek_of count_inside nth_inside name_of type_of
 computed = tt
 
 -- a bit range of that low and high bit, named r, whose value 5 is named v

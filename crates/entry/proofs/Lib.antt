@@ -4,5 +4,4 @@ pub mod Pads
 pub mod Digits
 pub mod Rows
 pub mod Names
-pub mod Told
 pub mod Cases

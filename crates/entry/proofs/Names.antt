@@ -35,7 +35,7 @@ apart (code c e name) (gap low high) = true
 apart (gap low high) q = true
 
 table_apart : every (λ r. every (apart r) table) table ≡ true
-unfolding table same_text
+unfolding table
 table_apart = refl
 
 -- a row's name is not digits alone

@@ -109,7 +109,7 @@ leads_back (code c e name) = eqb (code_of e) c && same_text (name_of e) (bytes n
 leads_back (gap low high) = true
 
 table_leads_back : every leads_back table ≡ true
-unfolding table name_of name_at same_text between
+unfolding table name_of name_at between
 table_leads_back = refl
 
 abbrev Leads : ℕ → Row → Type 0

@@ -2,7 +2,7 @@
 use Rattle.std.specs.Prelude.{ℕ, ◌+◌, ◌≤◌, ◌≡◌, Bool, cond, ◌||◌, List, [], leb, eqb, length, take, drop, None, Option, Some}
 use Rattle.text.specs.Part.{Slice, OwnPart}
 use Rattle.entry.specs.Event.{event_of}
-use Rattle.text.specs.Told.{Told, is, absent}
+use Rattle.text.specs.Told.{Told, is, absent, maybe}
 use Rattle.entry.specs.declared.events.Event.{Event}
 use Rattle.entry.specs.declared.Entry.{Entry}
 
@@ -77,26 +77,6 @@ pub record SameEntry (e : Entry) (text slots : List ℕ) (f : Entry) (other plac
   pub second_lies : Lies f other places
   pub same : value_of e text slots ≡ value_of f other places
 
--- what each case of an answer tells: a flag, or none
-abbrev pub maybe_flag : Option Bool → Told Bool
-maybe_flag (Some b) = is b
-maybe_flag None = absent
-
--- an event, whose number is its code (`code_of`), or none
-abbrev pub maybe_event : Option Event → Told Event
-maybe_event (Some e) = is e
-maybe_event None = absent
-
--- a byte, or none
-abbrev pub maybe_byte : Option ℕ → Told ℕ
-maybe_byte (Some b) = is b
-maybe_byte None = absent
-
--- a number of two bytes, or none
-abbrev pub maybe_word : Option ℕ → Told ℕ
-maybe_word (Some w) = is w
-maybe_word None = absent
-
 -- the event question: that of the code, none without one
 unfoldable pub event_of_code : Option ℕ → Told Event
 event_of_code (Some code) = is (event_of code)
@@ -104,8 +84,8 @@ event_of_code None = absent
 
 -- the adapter question: the port, none for events 33 and 36
 unfoldable pub adapter_of : Option ℕ → Option ℕ → Told ℕ
-adapter_of (Some code) port = cond (eqb code 33 || eqb code 36) absent (maybe_byte port)
-adapter_of None port = maybe_byte port
+adapter_of (Some code) port = cond (eqb code 33 || eqb code 36) absent (maybe port)
+adapter_of None port = maybe port
 
 -- the unplug question: whether the byte is 1, none without one
 unfoldable pub unplug_of : Option ℕ → Told Bool

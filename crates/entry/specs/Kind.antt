@@ -1,7 +1,30 @@
 -- The kinds: ours, not wire numbers.
-use Rattle.std.specs.Prelude.{ℕ, cond, List}
+use Rattle.std.specs.Prelude.{ℕ, ◌<◌, ◌≡◌, cond, List, Result, MatchResult}
 use Rattle.text.specs.Quote.{bytes}
 use Rattle.text.specs.Same.{same_text}
+use Rattle.entry.specs.declared.kind.Kind.{Kind}
+use Rattle.entry.specs.declared.kind.Kind.TheVariants as K
+use Rattle.entry.specs.declared.kind.UnknownKind.{UnknownKind}
+
+-- the number of each kind
+abbrev pub number_of : Kind → ℕ
+number_of K.Other = 0
+number_of K.ReadRequest = 1
+number_of K.ReadResponse = 2
+number_of K.WriteRequest = 3
+number_of K.WriteResponse = 4
+number_of K.Error = 5
+number_of K.NotifyAck = 6
+number_of K.Event = 7
+number_of K.XDomainRequest = 8
+number_of K.XDomainResponse = 9
+number_of K.IcmEvent = 10
+number_of K.IcmCommand = 11
+number_of K.IcmResponse = 12
+
+-- an answer is the kind of this number, or says that no kind has it
+abbrev pub Numbered : ℕ → Result Kind UnknownKind → Type 0
+Numbered n r = MatchResult r (λ kind. number_of kind ≡ n) (λ e. (e.0 ≡ n) × (12 < n))
 
 -- with function `tb_tx` the one, with `tb_rx` the other, else 0
 unfoldable pub by_direction : List ℕ → ℕ → ℕ → ℕ

@@ -7,7 +7,7 @@ ghost use Rattle.entry.specs.Event.{event_of, name_at, padded};
 use crate::events::{Event, Name};
 
 // What a code stands for, and the name that it prints.
-#[derive(Clone, Copy)]
+#[derive(Clone, Copy, Debug, PartialEq, Eq, Hash)]
 pub struct Decision {
     pub event: Event,
     pub name: Name,
@@ -50,8 +50,7 @@ pub fn decide(code: u8) -> Decision
 pub fn name_at(code: u8) -> Name
     ensures { result ≡ padded (name_at code) }
 {
-    let decision = decide(code);
-    decision.name
+    decide(code).name
 }
 
 // A row of one code: its event, and its name with zeros behind it.
@@ -60,7 +59,7 @@ fn named(event: Event, name: &[u8]) -> Decision
     ensures { (result.event ≡ event) × (result.name ≡ padded name.now) }
 {
     Decision {
-        event: event,
+        event,
         name: pad(name),
     }
 }
@@ -81,16 +80,13 @@ pub fn decimal(code: u8) -> Name
 {
     let ones = b'0' + code % 10;
     if code < 10 {
-        let digits = [ones];
-        return pad(&digits);
+        return pad(&[ones]);
     }
     let tens = b'0' + code / 10 % 10;
     if code < 100 {
-        let digits = [tens, ones];
-        return pad(&digits);
+        return pad(&[tens, ones]);
     }
-    let digits = [b'0' + code / 100, tens, ones];
-    pad(&digits)
+    pad(&[b'0' + code / 100, tens, ones])
 }
 
 // A text with zeros behind it.
@@ -98,14 +94,8 @@ fn pad(s: &[u8]) -> Name
     requires { length s.now ≤ 14 }
     ensures { result ≡ padded s.now }
 {
-    let mut bytes = [0u8; 14];
-    let mut i = 0;
-    while i < s.len() {
-        bytes[i] = s[i];
-        i += 1;
-    }
-    Name {
-        bytes: bytes,
-        len: i,
-    }
+    let len = s.len();
+    let mut bytes = [0; 14];
+    bytes[..len].copy_from_slice(s);
+    Name { bytes, len }
 }

@@ -4,14 +4,14 @@
 mod codes;
 pub mod events;
 pub mod kind;
-pub mod optional;
 
 ghost use Rattle.std.specs.Prelude.{◌≡◌};
-ghost use Rattle.entry.specs.Entry.{OwnPartAt, maybe_byte, maybe_event, maybe_flag, event_of_code, adapter_of, unplug_of};
+ghost use Rattle.text.specs.Told.{maybe};
+ghost use Rattle.entry.specs.Entry.{OwnPartAt, event_of_code, adapter_of, unplug_of};
 
-use crate::events::{Event, from_code};
+use crate::events::Event;
 
-#[derive(Clone, Copy)]
+#[derive(Clone, Copy, Debug, PartialEq, Eq, Hash)]
 pub struct Entry {
     pub task_at: usize,
     pub task_len: usize,
@@ -21,6 +21,7 @@ pub struct Entry {
     pub microseconds: u64,
     pub function_at: usize,
     pub function_len: usize,
+    // The number of a `Kind`; a caller of `writer::write` may set one that is none, which 37 refuses.
     pub kind: u8,
     pub size: u16,
     pub dropped: bool,
@@ -36,71 +37,59 @@ pub struct Entry {
     pub dwords: usize,
 }
 
-// The notification's event, where the entry has a code.
-pub fn event(e: Entry) -> Option<Event>
-    ensures { maybe_event result ≡ event_of_code e.code }
-{
-    let code = e.code;
-    match code {
-        Some(c) => Some(from_code(c)),
-        None => None,
+impl Entry {
+    // The notification's event, where the entry has a code.
+    #[tactic(auto, unfolding(crate::specs::Entry::event_of_code))]
+    pub fn event(self) -> Option<Event>
+        ensures { maybe result ≡ event_of_code self.code }
+    {
+        self.code.map(Event::from_code)
     }
-}
 
-// The adapter: the port, but for the two events that carry something else in its place.
-pub fn adapter_num(e: Entry) -> Option<u8>
-    ensures { maybe_byte result ≡ adapter_of e.code e.port }
-{
-    let code = e.code;
-    let port = e.port;
-    match code {
-        Some(c) => {
-            if c == 33 {
-                return None;
-            }
-            if c == 36 {
-                return None;
-            }
-            port
+    // The adapter: the port, but for the two events that carry something else in its place.
+    #[tactic(auto, unfolding(crate::specs::Entry::adapter_of))]
+    pub fn adapter_num(self) -> Option<u8>
+        ensures { maybe result ≡ adapter_of self.code self.port }
+    {
+        match self.code {
+            Some(33 | 36) => None,
+            _ => self.port,
         }
-        None => port,
     }
-}
 
-// Does the entry report an unplug? The byte itself stays in the entry.
-pub fn unplug(e: Entry) -> Option<bool>
-    ensures { maybe_flag result ≡ unplug_of e.unplug }
-{
-    let byte = e.unplug;
-    match byte {
-        Some(b) => Some(b == 1),
-        None => None,
+    // Does the entry report an unplug? The byte itself stays in the entry.
+    #[tactic(auto, unfolding(crate::specs::Entry::unplug_of))]
+    pub fn unplug(self) -> Option<bool>
+        ensures { maybe result ≡ unplug_of self.unplug }
+    {
+        self.unplug.map(|b| b == 1)
     }
-}
 
-// The task's bytes, the caller's own: a part of the text that the entry was read from; of another text that is too short, an empty part at its start.
-pub fn task<'a>(e: Entry, text: &'a [u8]) -> &'a [u8]
-    ensures { OwnPartAt 1 text.entry e.task_at e.task_len result }
-{
-    part(text, e.task_at, e.task_len)
-}
-
-// The function's bytes, likewise.
-pub fn function<'a>(e: Entry, text: &'a [u8]) -> &'a [u8]
-    ensures { OwnPartAt 1 text.entry e.function_at e.function_len result }
-{
-    part(text, e.function_at, e.function_len)
-}
-
-// The packet's dwords, the first of the lent slots; of slots that are too few, an empty part at their start.
-pub fn data<'a>(e: Entry, slots: &'a [u32]) -> &'a [u32]
-    ensures { OwnPartAt 4 slots.entry 0 e.dwords result }
-{
-    let n = e.dwords;
-    if slots.len() < n {
-        return &slots[..0];
+    // The task's bytes, the caller's own: a part of the text that the entry was read from; of another text that is too short, an empty part at its
+    // start.
+    pub fn task<'a>(self, text: &'a [u8]) -> &'a [u8]
+        ensures { OwnPartAt 1 text.entry self.task_at self.task_len result }
+    {
+        part(text, self.task_at, self.task_len)
     }
-    &slots[..n]
+
+    // The function's bytes, likewise.
+    pub fn function<'a>(self, text: &'a [u8]) -> &'a [u8]
+        ensures { OwnPartAt 1 text.entry self.function_at self.function_len result }
+    {
+        part(text, self.function_at, self.function_len)
+    }
+
+    // The packet's dwords, the first of the lent slots; of slots that are too few, an empty part at their start.
+    pub fn data<'a>(self, slots: &'a [u32]) -> &'a [u32]
+        ensures { OwnPartAt 4 slots.entry 0 self.dwords result }
+    {
+        let n = self.dwords;
+        if slots.len() < n {
+            return &slots[..0];
+        }
+        &slots[..n]
+    }
 }
 
 // The part that starts at a place, of a length; empty and at the start where it would lie outside.

@@ -59,7 +59,7 @@ latch_book =
     ++ (typed 4 ++ (field_bytes 3 (4 ∷ 0 ∷ packet_type) ++ (typed 5 ++ (plain 5 ++ plain 6))))))
 
 unfoldable pub packets_open : Unit {0}
-unfolding named plain typed packet_type latch_book three_entries uuid_book three_uuids four_uuids field_bytes step_from field_at walk_from walk parts filled number same_text range_of
+unfolding named plain typed packet_type latch_book three_entries uuid_book three_uuids four_uuids field_bytes step_from field_at walk_from walk parts filled number range_of
     Search.body_at Search.after Search.name_at Search.type_at Search.same_uuid Search.fits Search.wanted Search.first_part Search.first_wanted Search.has_wanted Search.table_want
     Reading.is_name Reading.optional_name Reading.value_body Reading.same_value Reading.values_fill Reading.range_body Reading.ranges_fill Reading.entry_body Reading.same_entry Reading.entries_fill Reading.control_body Reading.uuid_body Reading.table_body Reading.same_table Reading.tables_fill Reading.check_of
     Finders.inner_from Finders.seek_of Finders.count_inside Finders.nth_inside Finders.name_of Finders.type_of

@@ -16,7 +16,7 @@ use Rattle.pairs.proofs.PairLists.{placed}
 
 -- what an example has to compute with
 computes : Unit {0}
-unfolding between is_digit is_letter is_word in_class digit_of value all_digits number_of bad_first value_within reading_of digits_from hex_of first_of first_in found_below first_place run_end same_text bracket_end value_end with_value pair_with pair_at is_hit pair_from next_pair followed pairs_within pairs_from newer last_in last_pair decimal_in decimal_of ahead cut piece_of taken dwords_in dwords_of inside_of data_in data_of
+unfolding between is_digit is_letter is_word in_class digit_of value all_digits number_of bad_first value_within reading_of digits_from hex_of first_of first_in found_below first_place run_end bracket_end value_end with_value pair_with pair_at is_hit pair_from next_pair followed pairs_within pairs_from newer last_in last_pair decimal_in decimal_of ahead cut piece_of taken dwords_in dwords_of inside_of data_in data_of
 computes = tt
 
 -- `a=b=c`: one pair, a to b

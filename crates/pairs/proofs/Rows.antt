@@ -89,7 +89,7 @@ taken_by name n (q ∷ qs) key = go (same_text name q.name) refl (taken_by name 
 
 -- the one test that the table must pass
 keys_once : once (names keys) ≡ true
-unfolding keys same_text
+unfolding keys
 keys_once = refl
 
 module _ (name : List ℕ) where

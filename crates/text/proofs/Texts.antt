@@ -21,12 +21,10 @@ both_right true b e = e
 both_right false b e = absurd (let z : ◌≡◌ {A = ℕ} 0 1 = cc in omega arith)
 
 pub same_refl : (s : List ℕ) → same_text s s ≡ true
-unfolding same_text
 same_refl [] = refl
 same_refl (a ∷ s) = rw (eq-eqb a a refl) (same_refl s)
 
 pub same_true : (s t : List ℕ) → same_text s t ≡ true → s ≡ t
-unfolding same_text
 same_true [] [] e = refl
 same_true [] (b ∷ t) e = absurd (let z : ◌≡◌ {A = ℕ} 0 1 = cc in omega arith)
 same_true (a ∷ s) [] e = absurd (let z : ◌≡◌ {A = ℕ} 0 1 = cc in omega arith)
@@ -37,22 +35,8 @@ same_true (a ∷ s) (b ∷ t) e =
 
 -- texts of other lengths differ
 pub same_length : (s t : List ℕ) → (length s ≡ length t → ⊥) → same_text s t ≡ false
-unfolding same_text
 same_length s t h = go (same_text s t) refl
   where
     go : (b : Bool) → same_text s t ≡ b → b ≡ false
     go true e = absurd (h (ap length (same_true s t e)))
     go false e = refl
-
-module _ (s t : List ℕ) {i : ℕ} where
-  pub same_step : i < length s → i < length t → get_or s i 0 ≡ get_or t i 0 → same_text (drop i s) (drop i t) ≡ same_text (drop (i + 1) s) (drop (i + 1) t)
-  unfolding same_text
-  same_step a b e = rw (add-one, drop-cons s i 0, drop-cons t i 0, eq-eqb _ _ e)
-
-  pub same_stop : i < length s → i < length t → (get_or s i 0 ≡ get_or t i 0 → ⊥) → same_text (drop i s) (drop i t) ≡ false
-  unfolding same_text
-  same_stop a b e = rw (drop-cons s i 0, drop-cons t i 0, ne_eqb _ _ e)
-
-  pub same_over : length s ≤ i → length t ≤ i → same_text (drop i s) (drop i t) ≡ true
-  unfolding same_text
-  same_over a b = rw (drop_of_length-le s a, drop_of_length-le t b)

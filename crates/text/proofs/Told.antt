@@ -4,7 +4,8 @@ use Prim.Native.Nat.{ℕ, zero, suc}
 use mathlib.Core.Path.{◌≡◌, refl, sym, ap, ◌∙◌}
 use mathlib.Core.Logic.{◌⊎◌, inl, inr}
 use native.Mathlib.Omega.{arith}
-use Rattle.text.specs.Told.{Told, is, absent, refused, unless}
+use Rattle.std.specs.Prelude.{None, Option, Some}
+use Rattle.text.specs.Told.{Told, is, absent, refused, unless, maybe}
 
 -- an answer by its cases
 abbrev pub by_cases : {A B : Type 0} → (A → B) → B → (ℕ → B) → Told A → B
@@ -15,6 +16,14 @@ by_cases value none number (refused k) = number k
 -- what can be got back from what it tells is fixed by it
 pub fixed_by_told : {A B : Type 0} (told : A → B) (back : B → A) → ((a : A) → back (told a) ≡ a) → (a b : A) → told a ≡ told b → a ≡ b
 fixed_by_told told back same a b e = sym (same a) ∙ ap back e ∙ same b
+
+-- no second answer: two that tell the same, a value or none, are the same
+pub one_maybe : {A : Type 0} (a b : Option A) → maybe a ≡ maybe b → a ≡ b
+one_maybe {A} = fixed_by_told maybe (by_cases Some None (λ k. None)) same
+  where
+    same : (a : Option A) → by_cases Some None (λ k. None) (maybe a) ≡ a
+    same (Some a) = refl
+    same None = refl
 
 -- ---- a number that comes first
 

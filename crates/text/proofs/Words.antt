@@ -162,7 +162,7 @@ full_bytes (b ∷ s) = ltb 0 b && ltb b 256 && full_bytes s
 
 -- equal numbers are equal texts: past the end of s all bytes are 0, and none of the key's is
 pub same_word : (key s : List ℕ) (i : ℕ) → full_bytes key ≡ true → ((k : ℕ) → k < length key → get_or s (i + k) 0 < 256) → eqb (word_at (length key) s i) (word_of key) ≡ same_text (take (length key) (drop i s)) key
-unfolding word_at word_of same_text
+unfolding word_at word_of
 same_word [] s i a f = eq-eqb 0 0 refl
 same_word (x ∷ key) s i a f =
     by_order i (length s)

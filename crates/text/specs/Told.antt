@@ -1,12 +1,17 @@
 -- What a call tells, whatever enum its answer is: each crate says for each of its answers what each case tells.
 -- Assumes nothing.
-use Rattle.std.specs.Prelude.{ℕ, zero, suc}
+use Rattle.std.specs.Prelude.{ℕ, zero, suc, None, Option, Some}
 
 -- a value; "none", which is no number; or the one number that refuses
 pub data Told (A : Type 0) : Type 0 where
   is : A → Told A
   absent : Told A
   refused : ℕ → Told A
+
+-- a value, or none
+abbrev pub maybe : {A : Type 0} → Option A → Told A
+maybe (Some a) = is a
+maybe None = absent
 
 -- document 01's number, 0 where nothing is refused
 abbrev pub number_in : {A : Type 0} → Told A → ℕ

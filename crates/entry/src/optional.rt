@@ -1,3 +1,0 @@
-// What a line may leave out.
-use crate::events::Event;
-

@@ -6,7 +6,7 @@ use mathlib.Core.Path.{◌≡◌, refl, ap, ◌∙◌}
 use mathlib.Core.List.{List}
 use Rattle.text.specs.Told as T
 use Rattle.entry.specs.declared.Entry.{Entry}
-use Rattle.entry.specs.Entry.{maybe_byte, maybe_flag}
+use Rattle.text.specs.Told.{maybe}
 use Rattle.scan.specs.Parse.{slots_by}
 use Rattle.writer.specs.Writing.{Writing, written_told, buffer_by}
 use Rattle.c_entry.specs.declared.Flat.{Flat}
@@ -41,12 +41,12 @@ described_call want places out is left tells =
     record { is = tells ∙ ap packet_by is; list = left ∙ ap (λ (r : T.Told Packet). list_by r places out) is }
 
 -- what an entry is asked, as one number
-pub flat_byte_told : (b : Option ℕ) → flat_byte b ≡ flat_told (maybe_byte b)
+pub flat_byte_told : (b : Option ℕ) → flat_byte b ≡ flat_told (maybe b)
 unfolding flat_byte
 flat_byte_told (Some b) = refl
 flat_byte_told None = refl
 
-pub flat_flag_told : (f : Option Bool) → flat_flag f ≡ flat_told (as_number (maybe_flag f))
+pub flat_flag_told : (f : Option Bool) → flat_flag f ≡ flat_told (as_number (maybe f))
 unfolding flat_flag
 flat_flag_told (Some b) = refl
 flat_flag_told None = refl

@@ -38,8 +38,7 @@ ghost use Rattle.capi.specs.Calls.{Read, LineRead, EitherRead, Wrote, answer_by,
 
 use book::{Checked, check};
 use c_entry::{ABSENT, Flat, or_absent};
-use entry::events::{from_code, name_of};
-use entry::{adapter_num, unplug};
+use entry::events::{Event, Name};
 use intake::{What, what_is};
 use refusal::Refusal;
 use scan::{Pieces, parse};
@@ -174,26 +173,22 @@ pub fn ck_book_check(book: &[u8]) -> u8
 pub fn ck_event_name(code: u8) -> EventName
     ensures { result ≡ name_by code }
 {
-    let name = name_of(from_code(code));
-    let bytes = name.bytes;
-    EventName {
-        bytes: bytes,
-        len: name.len,
-    }
+    let Name { bytes, len } = Event::from_code(code).name();
+    EventName { bytes, len }
 }
 
 // The adapter of an entry, or ABSENT.
 pub fn ck_adapter_num(entry: Flat) -> u32
     ensures { result ≡ flat_told (adapter_of (byte_of entry.code) (byte_of entry.port)) }
 {
-    or_absent(adapter_num(entry.entry()))
+    or_absent(entry.entry().adapter_num())
 }
 
 // 1 if the entry reports an unplug, 0 if not, or ABSENT.
 pub fn ck_unplug(entry: Flat) -> u32
     ensures { result ≡ flat_told (as_number (unplug_of (byte_of entry.unplug))) }
 {
-    or_absent(unplug(entry.entry()))
+    or_absent(entry.entry().unplug())
 }
 
 fn answer_of(answer: Result<Entry, Refusal>) -> EntryAnswer

@@ -19,8 +19,7 @@ use Rattle.packet.specs.Steps.{values_named, exactly_four, gathered}
 use Rattle.packet.specs.Packet.{is_xdomain, first_from, number_of, places_of, uuid_of, view_from, word}
 use Rattle.packet.proofs.Packets.{length_places, passed}
 use Rattle.packet.proofs.Theorems.{packet_number_exactly, packet_answered_exactly}
-use Rattle.text.specs.Told.{Told, is, absent, refused, unless}
-use Rattle.entry.specs.Entry.{maybe_word}
+use Rattle.text.specs.Told.{Told, is, absent, refused, unless, maybe}
 use Rattle.packet.specs.Packet.{maybe_uuid}
 use Rattle.questions.specs.Described.{is_read, is_write, cut, asked_at, asked, adapter_in, address_in, size_in, uuid_in}
 use Rattle.questions.specs.Questions.{refusal, answer, adapter_of, address_of, size_of, uuid_by_name, uuid_answer, start_of}
@@ -252,7 +251,7 @@ module _ (k : ℕ) (s : List ℕ) (s-bytes : Bytes s) (ds : List ℕ) where
   unfolding start_of
   start_is = asks_exactly k s s-bytes ds (λ ts os u n. Kept n) _ (λ b os a p few clear. by (word (view_from k s (places_of k s ds))))
     where
-      by : (u : Option ℕ) → Kept (u) (maybe_word u)
+      by : (u : Option ℕ) → Kept (u) (maybe u)
       by (Some u) = refl
       by None = refl
 

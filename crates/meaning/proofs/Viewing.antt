@@ -9,8 +9,7 @@ use native.Mathlib.Omega.{arith}
 use lib.ListN.{length, take, drop, length-take, take-append-drop, length-append}
 use Rattle.tlv.specs.Number.{Bytes}
 use Rattle.packet.specs.Packet.{number_of, places_of, view_from, word}
-use Rattle.text.specs.Told.{Told, is, absent, refused, unless}
-use Rattle.entry.specs.Entry.{maybe_word}
+use Rattle.text.specs.Told.{Told, is, absent, refused, unless, maybe}
 use Rattle.questions.specs.Questions.{refusal, answer, start_of, view_at, view_of}
 use Rattle.questions.proofs.Views.{start_within}
 use Rattle.meaning.specs.Questions.{FromOnward, ViewTold, handed_out, Question}
@@ -62,7 +61,7 @@ module _ (k : ℕ) (s : List ℕ) (s-bytes : Bytes s) (ds : List ℕ) where
   unfolding view_answer view_of start_of answer
   view_handed = by (refusal k s ds) (word (view_from k s (places_of k s ds)))
     where
-      by : (r : ℕ) (w : Option ℕ) → view_at k s ds (unless r (maybe_word w)) ≡ handed_out (unless r (view_in ds w))
+      by : (r : ℕ) (w : Option ℕ) → view_at k s ds (unless r (maybe w)) ≡ handed_out (unless r (view_in ds w))
       by zero (Some n) = refl
       by zero None = refl
       by (suc r) w = refl

@@ -4,7 +4,7 @@
 // promised, so that no call tests again what is known. Their contracts are bounds; what they print is compared with the oracle in the gate.
 ghost use Rattle.std.specs.Prelude.{◌≤◌, length};
 
-use entry::events::{Name, name_of};
+use entry::events::Event;
 use print::hex::{put_dword, put_hex};
 use print::put::{put, put_decimal};
 
@@ -91,20 +91,10 @@ pub fn put_name(out: &mut [u8], at: usize, name: &[u8], v: Option<Event>) -> usi
     match v {
         Some(e) => {
             let behind = put_text(out, at, name);
-            put_start(out, behind, name_of(e))
+            put_text(out, behind, e.name().as_bytes())
         }
         None => put_none(out, at, name),
     }
-}
-
-// The bytes of a printed name, as many as it says.
-fn put_start(out: &mut [u8], at: usize, name: Name) -> usize
-    requires { (at ≤ length out.old) × (name.len ≤ length name.bytes) }
-    ensures { result ≤ length out.old }
-{
-    let bytes = name.bytes;
-    let count = name.len;
-    put_text(out, at, &bytes[..count])
 }
 
 // Dwords with a comma between them; a dash for none.

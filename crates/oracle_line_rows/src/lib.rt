@@ -9,7 +9,7 @@ ghost use Rattle.std.specs.Prelude.{◌≤◌, length};
 use crate::fields::{
     put_both, put_count, put_dwords, put_flag, put_maybe_byte, put_maybe_word, put_name, put_text,
 };
-use entry::{Entry, adapter_num, data, event, function, task, unplug};
+use entry::Entry;
 use scan::{Pieces, parse};
 
 // The row of a line, read by the choice into the lent slots. It asks for a place inside the buffer, as all that it calls does: the program
@@ -54,7 +54,7 @@ fn put_data(out: &mut [u8], at: usize, slots: &[u32], e: Entry) -> usize
 {
     let a = put_count(out, at, b" dwords=", e.dwords as u64);
     let b = put_text(out, a, b" data=");
-    put_dwords(out, b, data(e, slots))
+    put_dwords(out, b, e.data(slots))
 }
 
 // What the header says.
@@ -62,7 +62,7 @@ fn put_head(out: &mut [u8], at: usize, line: &[u8], e: Entry) -> usize
     requires { at ≤ length out.old }
     ensures { result ≤ length out.old }
 {
-    let a = put_both(out, at, b"entry task=", task(e, line));
+    let a = put_both(out, at, b"entry task=", e.task(line));
     let b = put_count(out, a, b" pid=", e.pid as u64);
     let c = put_count(out, b, b" cpu=", e.cpu as u64);
     put_stamp(out, c, line, e)
@@ -74,7 +74,7 @@ fn put_stamp(out: &mut [u8], at: usize, line: &[u8], e: Entry) -> usize
 {
     let a = put_count(out, at, b" sec=", e.seconds);
     let b = put_count(out, a, b" usec=", e.microseconds);
-    put_both(out, b, b" function=", function(e, line))
+    put_both(out, b, b" function=", e.function(line))
 }
 
 // What the payload must say.
@@ -122,7 +122,7 @@ fn put_questions(out: &mut [u8], at: usize, e: Entry) -> usize
     requires { at ≤ length out.old }
     ensures { result ≤ length out.old }
 {
-    let a = put_maybe_byte(out, at, b" adapter=", adapter_num(e));
-    let b = put_flag(out, a, b" unplugged=", unplug(e));
-    put_name(out, b, b" name=", event(e))
+    let a = put_maybe_byte(out, at, b" adapter=", e.adapter_num());
+    let b = put_flag(out, a, b" unplugged=", e.unplug());
+    put_name(out, b, b" name=", e.event())
 }

@@ -21,8 +21,7 @@ use Rattle.packet.proofs.Gathering.{first_within}
 use Rattle.questions.specs.declared.PacketType.{PacketType}
 use Rattle.questions.specs.Answers.{word_told, type_told}
 use Rattle.questions.specs.Questions.{refusal, answer, start_of, view_at, view_of, view_place, DataView, name_by}
-use Rattle.text.specs.Told.{Told, is, absent, unless}
-use Rattle.entry.specs.Entry.{maybe_word}
+use Rattle.text.specs.Told.{Told, is, absent, unless, maybe}
 use Rattle.questions.proofs.Over.{passed, no_number}
 
 -- the view of what was found, with no cut
@@ -61,10 +60,10 @@ module _ (kind : ℕ) (s ds : List ℕ) where
   pub start_is_not_cut : refusal kind s ds ≡ 0 → start_of kind s ds ≡ started (view_from kind s (places_of kind s ds))
   unfolding start_of
   start_is_not_cut none =
-      sym (no_number kind s ds (sym none) (maybe_word (word (view_from kind s (places_of kind s ds)))) refl)
+      sym (no_number kind s ds (sym none) (maybe (word (view_from kind s (places_of kind s ds)))) refl)
       ∙ by (view_from kind s (places_of kind s ds)) (start_within none)
     where
-      by : (f : Option ℕ) → ((n : ℕ) → f ≡ Some n → n ≤ length ds) → maybe_word (word f) ≡ started f
+      by : (f : Option ℕ) → ((n : ℕ) → f ≡ Some n → n ≤ length ds) → maybe (word f) ≡ started f
       by (Some n) within = ap is (let few = (passed kind s ds none).few in omega (arith, few, within n refl))
       by None within = refl
 
@@ -73,13 +72,13 @@ module _ (kind : ℕ) (s ds : List ℕ) where
   unfolding start_of answer
   start_fits n e = by (refusal kind s ds) refl e
     where
-      start : (f : Option ℕ) → view_from kind s (places_of kind s ds) ≡ f → refusal kind s ds ≡ 0 → is n ≡ maybe_word (word f) → n ≤ length ds
+      start : (f : Option ℕ) → view_from kind s (places_of kind s ds) ≡ f → refusal kind s ds ≡ 0 → is n ≡ maybe (word f) → n ≤ length ds
       start (Some m) f none h =
           let same : n ≡ m % 65536 = cc in
           omega (arith, same, start_within none m f)
       start None f none h = absurd (let q : ◌≡◌ {A = ℕ} 0 1 = cc in omega arith)
 
-      by : (k : ℕ) → refusal kind s ds ≡ k → is n ≡ unless k (maybe_word (word (view_from kind s (places_of kind s ds)))) → n ≤ length ds
+      by : (k : ℕ) → refusal kind s ds ≡ k → is n ≡ unless k (maybe (word (view_from kind s (places_of kind s ds)))) → n ≤ length ds
       by zero z h = start (view_from kind s (places_of kind s ds)) refl z h
       by (suc k) z h = absurd (let q : ◌≡◌ {A = ℕ} 0 1 = cc in omega arith)
 

@@ -9,9 +9,8 @@ use Rattle.packet.specs.Field.{name_in}
 use Rattle.packet.specs.Packet.{is_xdomain, number_of, places_of, uuid_of, view_from, word}
 use Rattle.field.specs.declared.Field.{Field}
 use Rattle.questions.specs.declared.PacketType.{PacketType}
-use Rattle.text.specs.Told.{Told, is, absent, refused, unless}
+use Rattle.text.specs.Told.{Told, is, absent, refused, unless, maybe}
 use Rattle.packet.specs.Packet.{maybe_uuid}
-use Rattle.entry.specs.Entry.{maybe_word}
 use Rattle.questions.specs.Described as described
 
 module _ (kind : ℕ) (s ds : List ℕ) where
@@ -45,7 +44,7 @@ module _ (kind : ℕ) (s ds : List ℕ) where
 
   -- where the data view starts
   unfoldable pub start_of : Told ℕ
-  start_of = answer (maybe_word (word (view_from kind s (places_of kind s ds))))
+  start_of = answer (maybe (word (view_from kind s (places_of kind s ds))))
 
   -- the caller's own dwords from the start onward
   abbrev pub view_at : Told ℕ → List ℕ

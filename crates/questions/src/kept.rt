@@ -2,7 +2,7 @@
 ghost use Rattle.std.specs.Prelude.{◌≡◌};
 ghost use Rattle.packet.specs.Packet.{number_checked};
 ghost use Rattle.packet.specs.Packet.{maybe_uuid};
-ghost use Rattle.entry.specs.Entry.{maybe_word};
+ghost use Rattle.text.specs.Told.{maybe};
 ghost use Rattle.questions.specs.Answers.{word_told, uuid_told};
 ghost use Rattle.questions.specs.Questions.{refusal};
 
@@ -34,7 +34,7 @@ fn number_checked(kind: u8, book: &[u8], count: usize) -> u8
 
 // The start that a packet keeps.
 pub fn start_in(start: Option<u16>) -> Result<Option<u16>, Refusal>
-    ensures { word_told result ≡ maybe_word start }
+    ensures { word_told result ≡ maybe start }
 {
     match start {
         Some(n) => Ok(Some(n)),

@@ -14,7 +14,7 @@ ghost use Rattle.listing_rows.specs.Rows.{word_and_number};
 ghost use Rattle.saying.specs.Telling.{Told, name_text, event_text};
 
 use channel::sink::{Sink, say};
-use entry::events::name_of;
+use entry::events::Event;
 use escape::put_escaped;
 use print::hex::put_dword;
 use print::put::put_decimal;
@@ -74,16 +74,20 @@ pub fn say_number(output: Stdout, out: &mut [u8], sink: Sink, word: &[u8], n: u6
 }
 
 // A word and then the name that an event prints; nothing for no event.
-pub fn say_event(output: Stdout, out: &mut [u8], sink: Sink, word: &[u8], what: Option<Event>) -> Sink
+pub fn say_event(
+    output: Stdout,
+    out: &mut [u8],
+    sink: Sink,
+    word: &[u8],
+    what: Option<Event>,
+) -> Sink
     ensures { Told out.old sink (event_text word.now what) out.new result }
 {
     match what {
         Some(e) => {
-            let name = name_of(e);
-            let bytes = name.bytes;
-            let end = name.len;
+            let name = e.name();
             let worded = say(output, out, sink, word);
-            say(output, out, worded, &bytes[..end])
+            say(output, out, worded, name.as_bytes())
         }
         None => sink,
     }

@@ -58,7 +58,7 @@ pub fn read_body(
     let route = values[ROUTE];
     let from = values[TYPE] as usize;
     let to = ends[TYPE];
-    let kind = kind_of(&p[from..to], function);
+    let kind = kind_of(&p[from..to], function).number();
     let dropped = is_one(values[DROPPED], ends[DROPPED]);
     let optionals = read_optionals(values, ends);
     Ok(Body {

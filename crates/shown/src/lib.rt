@@ -13,7 +13,7 @@ ghost use Rattle.units.specs.Feeding.{text_length};
 use crate::dwords::show_packet;
 use crate::words::{say_kind, say_refusal};
 use channel::sink::{Sink, say};
-use entry::{Entry, data, event, function};
+use entry::Entry;
 use saying::{say_event, say_hex, say_number};
 use scan::Pieces;
 use std::io::Stdout;
@@ -40,7 +40,7 @@ pub fn show_unit(
     match answer {
         Ok(Some(e)) => {
             let headed = show_head(output, unit, e, out, counted);
-            show_packet(output, book, e.kind, data(e, &slots), out, headed)
+            show_packet(output, book, e.kind, e.data(&slots), out, headed)
         }
         Err(refusal) => say_refusal(output, out, counted, b" refused ", refusal),
         Ok(None) => counted,
@@ -52,11 +52,11 @@ fn show_head(output: Stdout, text: &[u8], e: Entry, out: &mut [u8], sink: Sink) 
     let a = say_number(output, out, sink, b"  ", e.seconds);
     let b = say_number(output, out, a, b" s ", e.microseconds);
     let c = say(output, out, b, b" us  ");
-    let d = say(output, out, c, function(e, text));
+    let d = say(output, out, c, e.function(text));
     let f = say(output, out, d, b"  ");
     let g = say_kind(output, out, f, e.kind);
     let h = say(output, out, g, b"  route ");
     let i = say_hex(output, out, h, e.route);
-    let j = say_event(output, out, i, b"  event ", event(e));
+    let j = say_event(output, out, i, b"  event ", e.event());
     say(output, out, j, b"\n")
 }

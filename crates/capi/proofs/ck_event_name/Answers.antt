@@ -7,4 +7,4 @@ use Rattle.capi.proofs.ck_event_name.Goals as goal
 
 pub returns : goal.returns
 unfolding name_by
-returns c = let n = c.name_of-name.ensures ∙ ap (λ (e : Event). padded (name_of e)) c.from_code.ensures in λ i. record { bytes = (n i).bytes; len = (n i).len }
+returns c = let n = c.name.ensures ∙ ap (λ (e : Event). padded (name_of e)) c.from_code.ensures in λ i. record { bytes = (n i).bytes; len = (n i).len }

@@ -1,20 +1,13 @@
 -- `say_event` meets its contract: a printed name is the start of its bytes, and is said behind the word. Assumes nothing.
-use Rattle.entry.proofs.Pads.{name_within, name_start}
+use Rattle.entry.proofs.Pads.{name_start}
 use Rattle.saying.proofs.Telling.{said_told, told_then, told_same, nothing_told}
 use Rattle.saying.specs.Telling.{event_text}
-use lib.Seq.{length-take-le}
-use mathlib.Core.Path.{sym}
+use mathlib.Core.Path.{◌∙◌}
 use Rattle.saying.proofs.say_event.Goals as goal
-
-pub slice_bounds-bytes-end : goal.slice_bounds-bytes-end
-slice_bounds-bytes-end c = name_within _ c.name_of-name.ensures
-
-pub slice_bounds-say-end : goal.slice_bounds-say-end
-slice_bounds-say-end c = sym (length-take-le _ _ (name_within _ c.name_of-name.ensures))
 
 pub returns-in-Some : goal.returns-in-Some
 unfolding event_text
-returns-in-Some c = rw c.in-Some.is (told_then (said_told c.say-worded.ensures) (told_same (name_start _ c.name_of-name.ensures) (said_told c.say.ensures)))
+returns-in-Some c = rw c.in-Some.is (told_then (said_told c.say-worded.ensures) (told_same (c.as_bytes.ensures ∙ name_start _ c.name-name.ensures) (said_told c.say.ensures)))
 
 pub returns-in-None : goal.returns-in-None
 unfolding event_text

@@ -61,7 +61,7 @@ returns c =
       ne_eqb _ _ c.if-ends-eq0-3.false,
       route_said _ c.requires,
       ne_eqb _ _ c.if-ends-eq0-4.false,
-      c.kind_of-kind.ensures,
+      c.number-kind.ensures ∙ c.kind_of.ensures,
       dropped_said _ c.requires,
       c.is_one-dropped.ensures,
       c.read_optionals-optionals.ensures _ c.requires,

@@ -18,7 +18,7 @@ ghost use Rattle.filters.specs.Calls.{CutPut, LastPut, Took, Finished};
 
 use crate::packing::pack_unit;
 use crate::row::{put_row, see_line, see_unit};
-use listing_rows::put_totals;
+use listing_rows::at::put_totals;
 use scan::Pieces;
 use units::{Framing, State, Unit, feed_on, units_in};
 

@@ -10,7 +10,7 @@ ghost use Rattle.filters.specs.Calls.{CutPut};
 use crate::Run;
 use crate::row::{Seen, count};
 use entry::Entry;
-use listing_rows::put_refused;
+use listing_rows::at::put_refused;
 use scan::Pieces;
 use stream::read_unit;
 use units::Unit;

@@ -8,7 +8,7 @@ ghost use Rattle.filters.specs.Filter.{one_more, counted};
 ghost use Rattle.filters.specs.Rows.{RowPut};
 
 use crate::{Counts, Run};
-use listing_rows::{put_entry, put_refused};
+use listing_rows::at::{put_entry, put_refused};
 use scan::{Pieces, parse};
 use stream::read_unit;
 use units::Unit;

@@ -1,6 +1,7 @@
 -- The listing's rows, and a row put into a buffer.
 use Rattle.std.specs.Prelude.{ℕ, ◌+◌, ◌≤◌, ◌≡◌, List, [], ◌∷◌, ◌++◌, length}
 use Rattle.std.proofs.lemmas.List.Edits.{sets}
+use Rattle.print.specs.declared.page.Page.{Page}
 use Rattle.text.specs.Decimal.{decimal_text}
 use Rattle.text.specs.Quote.{bytes}
 
@@ -26,3 +27,12 @@ pub record Put (out : List ℕ) (at : ℕ) (s exit : List ℕ) (r : ℕ) : Type 
   pub fits : at + length s ≤ length out
   pub buffer : exit ≡ sets out at s
   pub place : r ≡ at + length s
+
+-- a page has room for n bytes more
+abbrev pub Room : Page → ℕ → Type 0
+Room p n = p.at + n ≤ length p.out.now
+
+-- all of a text on a page behind what it had, all else as found; the buffer is the one that was lent
+pub record PutOn (p : Page) (s : List ℕ) (q : Page) : Type 0 where
+  pub put : Put p.out.now p.at s q.out.now q.at
+  pub same : q.out.ghost_name ≡ p.out.ghost_name

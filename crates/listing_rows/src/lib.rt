@@ -1,47 +1,49 @@
 // The listing's rows of text. No row takes more than 64 bytes, which is what a caller makes room for.
 #![tactic(auto)]
 
-ghost use Rattle.std.specs.Prelude.{◌+◌, ◌≤◌, length};
-ghost use Rattle.listing_rows.specs.Rows.{Put, word_and_number, refused_row, entry_row, totals_row};
+pub mod at;
 
-use print::put::{put, put_decimal};
+ghost use Rattle.std.specs.Prelude.{◌+◌, length};
+ghost use Rattle.listing_rows.specs.Rows.{Room, PutOn, word_and_number, refused_row, entry_row, totals_row};
+
+use print::page::Page;
 
 // The row of a refused line: its place among the lines, and the number.
-pub fn put_refused(out: &mut [u8], at: usize, line: u64, number: u8) -> usize
-    requires { at + 64 ≤ length out.old }
-    ensures { Put out.old at (refused_row line number) out.new result }
+pub fn put_refused(page: &mut Page, line: u64, number: u8)
+    requires { Room page.old 64 }
+    ensures { PutOn page.old (refused_row line number) page.new }
 {
-    let a = put_decimal(out, at, line);
-    let b = put_number(out, a, b" refused ", number as u64);
-    put(out, b, b"\n")
+    page.put_decimal(line);
+    put_number(page, b" refused ", number as u64);
+    page.put(b"\n");
 }
 
 // The row of an entry: its place among the lines, its kind, and how many dwords it has.
-pub fn put_entry(out: &mut [u8], at: usize, line: u64, kind: u8, dwords: u64) -> usize
-    requires { at + 64 ≤ length out.old }
-    ensures { Put out.old at (entry_row line kind dwords) out.new result }
+pub fn put_entry(page: &mut Page, line: u64, kind: u8, dwords: u64)
+    requires { Room page.old 64 }
+    ensures { PutOn page.old (entry_row line kind dwords) page.new }
 {
-    let a = put_decimal(out, at, line);
-    let b = put_number(out, a, b" kind ", kind as u64);
-    let c = put_number(out, b, b" dwords ", dwords);
-    put(out, c, b"\n")
+    page.put_decimal(line);
+    put_number(page, b" kind ", kind as u64);
+    put_number(page, b" dwords ", dwords);
+    page.put(b"\n");
 }
 
 // The last row: how many lines there were, and how many were entries.
-pub fn put_totals(out: &mut [u8], at: usize, lines: u64, entries: u64) -> usize
-    requires { at + 64 ≤ length out.old }
-    ensures { Put out.old at (totals_row lines entries) out.new result }
+pub fn put_totals(page: &mut Page, lines: u64, entries: u64)
+    requires { Room page.old 64 }
+    ensures { PutOn page.old (totals_row lines entries) page.new }
 {
-    let a = put_number(out, at, b"lines ", lines);
-    let b = put_number(out, a, b" entries ", entries);
-    put(out, b, b"\n")
+    put_number(page, b"lines ", lines);
+    put_number(page, b" entries ", entries);
+    page.put(b"\n");
 }
 
 // A word and then a number.
-fn put_number(out: &mut [u8], at: usize, word: &[u8], n: u64) -> usize
-    requires { at + length word.now + 20 ≤ length out.old }
-    ensures { Put out.old at (word_and_number word.now n) out.new result }
+fn put_number(page: &mut Page, word: &[u8], n: u64)
+    requires { Room page.old (length word.now + 20) }
+    ensures { PutOn page.old (word_and_number word.now n) page.new }
 {
-    let behind = put(out, at, word);
-    put_decimal(out, behind, n)
+    page.put(word);
+    page.put_decimal(n);
 }

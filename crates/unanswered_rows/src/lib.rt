@@ -16,7 +16,7 @@ ghost use Rattle.unanswered_rows.specs.Rows.{row_text, word_row, answered_row, w
 
 use crate::hex::put_route;
 use crate::parts::{put_number, put_six, put_text};
-use listing_rows::put_refused;
+use listing_rows::at::put_refused;
 use slots::Four;
 
 // What became of a line: what is reported of its entry, or the number that refuses it. An answer says which line it answers, and how many

@@ -1,6 +1,9 @@
--- `put_number` meets its contract: the word, and the number behind it. Assumes nothing.
+-- `put_number` meets its contract: its parts one behind the other. Assumes nothing.
+use borrow.Author.Rules.{rules}
 use Rattle.listing_rows.proofs.Putting.{word_number}
+use native.Mathlib.Omega.{arith}
 use Rattle.listing_rows.proofs.put_number.Goals as goal
 
 pub returns : goal.returns
-returns c = word_number _ c.requires c.put-behind.ensures c.put_decimal.ensures
+returns c =
+    record { put = word_number _ (omega (arith, c.requires)) c.put.ensures.placed c.put_decimal.ensures.placed; same = search rules }

@@ -1,7 +1,8 @@
 // The calls on packets.
+ghost use Rattle.refusal.specs.Told.{told};
 ghost use Rattle.std.specs.Prelude.{◌≡◌, length};
 ghost use Rattle.scan.specs.declared.Pieces.TheVariants as P;
-ghost use Rattle.packet.specs.Packet.{answer_told, parse_of, over_of, places_of};
+ghost use Rattle.packet.specs.Packet.{parse_of, over_of, places_of};
 ghost use Rattle.batch.specs.Batch.{Batch};
 ghost use Rattle.capi.specs.Packets.{Described, packet_by, made_by, uuid_by, of_packet, text_by, TextRead};
 
@@ -54,7 +55,7 @@ pub fn ck_packet_all(
 }
 
 pub fn packet_answer(answer: Result<Packet, Refusal>) -> PacketAnswer
-    ensures { result ≡ packet_by (answer_told answer) }
+    ensures { result ≡ packet_by (told answer) }
 {
     match answer {
         Ok(p) => made(p),
@@ -146,7 +147,7 @@ fn read_packet_by(
 }
 
 fn text_packet(answer: Result<Packet, Refusal>) -> TextPacket
-    ensures { result ≡ text_by (answer_told answer) }
+    ensures { result ≡ text_by (told answer) }
 {
     match answer {
         Ok(p) => of_packet(p),

@@ -1,5 +1,6 @@
 -- Demand 3 for packets: a packet is asked for kind and dwords alone, and these are what the text says; a line and its record say one thing. However often a
 -- text is written and read again it says the same, so nothing is ever cut but what it says. Assumes nothing.
+use Rattle.refusal.specs.Told as answers
 use Rattle.std.specs.Prelude.{Err, None, Ok, Result, Some}
 use Rattle.refusal.specs.declared.Refusal.{Refusal}
 use Prim.Native.Nat.{ℕ, zero, suc, ◌≤◌, ◌%◌}
@@ -20,7 +21,7 @@ use Rattle.scan.specs.declared.Pieces.{Pieces}
 use Rattle.scan.specs.Parse.{slots_by}
 use Rattle.scan.proofs.Values.{dwords_part}
 use Rattle.packet.specs.declared.Packet.{Packet}
-use Rattle.packet.specs.Packet.{is_read_response_or_write_request, entries_of, number_checked, number_of, places_of, view_from, packet_of, parse_of, list_by, answer_told}
+use Rattle.packet.specs.Packet.{is_read_response_or_write_request, entries_of, number_checked, number_of, places_of, view_from, packet_of, parse_of, list_by}
 use Rattle.packet.proofs.Packets.{passed_whole, length_places, one_packet_answer}
 use Rattle.questions.specs.Questions.{refusal, view_of, DataView}
 use Rattle.questions.proofs.Views.{view_is_from_n, view_is_the_callers_own}
@@ -89,16 +90,16 @@ module _ (pieces : Pieces) (text book slots places : List ℕ) (answer : Result 
   unfolding packet_taken packet_by packet_for
   gives v b =
       let r = says v b in
-      let first : answer_told answer ≡ parse_of r.entry.kind book (taken_dwords text) (length places) = c.contract.answer ∙ rw r.answer in
-      let by_value : answer_told answer ≡ parse_of v.kind book v.dwords (length places) =
+      let first : answers.told answer ≡ parse_of r.entry.kind book (taken_dwords text) (length places) = c.contract.answer ∙ rw r.answer in
+      let by_value : answers.told answer ≡ parse_of v.kind book v.dwords (length places) =
       first ∙ ap₂ (λ (k : ℕ) (ds : List ℕ). parse_of k book ds (length places)) r.kind r.dwords in
       record {
         is = by_value ∙ enough_places v.kind v.dwords (length places) (omega (arith, r.few, c.enough_places));
-        slots_hold = c.contract.slots_left ∙ ap (λ (ds : List ℕ). list_by (answer_told answer) ds slots) r.dwords;
+        slots_hold = c.contract.slots_left ∙ ap (λ (ds : List ℕ). list_by (answers.told answer) ds slots) r.dwords;
         places_hold =
             c.contract.places_left
-            ∙ ap (λ (ds : List ℕ). list_by (answer_told answer) (places_of (kind_in (answer_told answer)) book ds) places) r.dwords
-            ∙ sym (places_by_kind v.kind book v.dwords places (length places) (answer_told answer) by_value);
+            ∙ ap (λ (ds : List ℕ). list_by (answers.told answer) (places_of (kind_in (answers.told answer)) book ds) places) r.dwords
+            ∙ sym (places_by_kind v.kind book v.dwords places (length places) (answers.told answer) by_value);
       }
 
 -- ---- one packet
@@ -107,7 +108,7 @@ module _ (pieces : Pieces) (text book slots places : List ℕ) (answer : Result 
 module _ (v : EntryValue) (book slots places : List ℕ) {answer : Result Packet Refusal} {slots_left places_left : List ℕ} (g : Gives v book slots places answer slots_left places_left) {p : Packet} (e : answer ≡ Ok p) where
   is_packet : p ≡ packet_of v.kind book v.dwords
   unfolding packet_for
-  is_packet = packet_is v.kind book v.dwords (length v.dwords) (sym g.is ∙ ap answer_told e)
+  is_packet = packet_is v.kind book v.dwords (length v.dwords) (sym g.is ∙ ap answers.told e)
 
   count_is : p.dwords ≡ length v.dwords
   unfolding packet_of

@@ -1,4 +1,5 @@
 -- The text's packet from its parts: once the text is read its number is settled, and the packet call says the rest. Assumes nothing.
+use Rattle.refusal.specs.Told.{told}
 use Rattle.std.specs.Prelude.{Err, Ok, Result}
 use Rattle.refusal.specs.declared.Refusal.{Refusal}
 use Rattle.packet.specs.declared.Packet.{Packet}
@@ -12,7 +13,7 @@ use Rattle.entry.specs.declared.Entry.{Entry}
 use Rattle.pairs.specs.Data.{filled}
 use Rattle.scan.specs.declared.Pieces.{Pieces}
 use Rattle.packet.specs.declared.Packet as Described
-use Rattle.packet.specs.Packet.{number_of, packet_of, answer_told, parse_of, places_of, list_by, Parsed}
+use Rattle.packet.specs.Packet.{number_of, packet_of, parse_of, places_of, list_by, Parsed}
 use Rattle.packet.proofs.Packets.{one_packet_answer, length_listed}
 use Rattle.intake.specs.Intake.{taken_of, taken_dwords}
 use Rattle.intake.specs.Packets.{packet_by, packet_taken, kind_in, PacketTaken, Handed}
@@ -24,12 +25,12 @@ module _ (kind : ℕ) (s ds slots places : List ℕ) {places' : List ℕ} {r : R
   pub handed_packet : {p : Described.Packet} → r ≡ Ok p → {slots' : List ℕ} → slots' ≡ filled ds slots
       → Handed kind s ds slots slots' places places' (Ok p)
   unfolding list_by
-  handed_packet e x = record { answer = ap answer_told (sym e) ∙ parsed.answer; slots_left = x; places_left = parsed.places ∙ rw e }
+  handed_packet e x = record { answer = ap told (sym e) ∙ parsed.answer; slots_left = x; places_left = parsed.places ∙ rw e }
 
   -- a number, and the slots as found
   pub handed_refused : {k : ℕ} → r ≡ Err k → Handed kind s ds slots slots places places' (Err k)
   unfolding list_by
-  handed_refused e = record { answer = ap answer_told (sym e) ∙ parsed.answer; slots_left = refl; places_left = parsed.places ∙ rw e }
+  handed_refused e = record { answer = ap told (sym e) ∙ parsed.answer; slots_left = refl; places_left = parsed.places ∙ rw e }
 
   -- as many places as were lent
   pub places_kept : length places' ≡ length places
@@ -66,7 +67,7 @@ module _ (pieces : Pieces) (t s slots places : List ℕ) where
       record {
         answer = h.answer ∙ rw a;
         slots_left = h.slots_left;
-        places_left = h.places_left ∙ places_by_kind e.kind s (taken_dwords t) places (length places) (answer_told r) h.answer;
+        places_left = h.places_left ∙ places_by_kind e.kind s (taken_dwords t) places (length places) (told r) h.answer;
       }
 
   -- the text is refused, and nothing is touched
@@ -87,5 +88,5 @@ pub no_second_packet : (pieces : Pieces) (t s slots places : List ℕ) {slots' p
     → PacketTaken pieces t s slots slots' places places' q → PacketTaken pieces t s slots slots'' places places'' r
     → (q ≡ r) × (slots' ≡ slots'') × (places' ≡ places'')
 no_second_packet pieces t s slots places {q = q} {r = r} a b =
-    let same : answer_told q ≡ answer_told r = a.answer ∙ sym b.answer in
+    let same : told q ≡ told r = a.answer ∙ sym b.answer in
     (one_packet_answer q r same, a.slots_left ∙ rw same (sym b.slots_left), a.places_left ∙ rw same (sym b.places_left))

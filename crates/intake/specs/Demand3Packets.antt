@@ -1,5 +1,6 @@
 -- Demand 3 for packets: a line and its record give one packet, and its data view is cut once. It is stated over the contracts of four calls, `read` and
 -- `packet` of crate `intake`, `write` of crate `writer`, and `data` of crate `questions`, and over the choice, as Demand3 is.
+use Rattle.refusal.specs.Told.{told}
 use Rattle.refusal.specs.declared.Refusal.{Refusal}
 use Rattle.std.specs.Prelude.{ℕ, ◌≤◌, ◌≡◌, true, List, length, take, drop, Err, None, Ok, Result, Some}
 use Rattle.text.specs.Part.{Slice, OwnDwords}
@@ -10,7 +11,7 @@ use Rattle.entry.specs.Entry.{EntryValue}
 use Rattle.scan.specs.declared.Pieces.{Pieces}
 use Rattle.scan.specs.Line.{Line}
 use Rattle.packet.specs.declared.Packet.{Packet}
-use Rattle.packet.specs.Packet.{is_read_response_or_write_request, entries_of, places_of, parse_of, list_by, answer_told}
+use Rattle.packet.specs.Packet.{is_read_response_or_write_request, entries_of, places_of, parse_of, list_by}
 use Rattle.questions.specs.Questions.{view_of, DataView}
 use Rattle.record.specs.Grammar.{IsRecord}
 use Rattle.intake.specs.Intake.{Belongs}
@@ -36,11 +37,11 @@ packet_for v book = parse_of v.kind book v.dwords (length v.dwords)
 -- A call gave the packet of v, or the number that refuses it.
 pub record Gives (v : EntryValue) (book slots places : List ℕ) (answer : Result Packet Refusal) (slots_left places_left : List ℕ) : Type 0 where
   -- The answer is that packet or that number.
-  pub is : answer_told answer ≡ packet_for v book
+  pub is : told answer ≡ packet_for v book
   -- With a packet the slots start with v's dwords, and the rest is as found; with a number all are as found.
-  pub slots_hold : slots_left ≡ list_by (answer_told answer) v.dwords slots
+  pub slots_hold : slots_left ≡ list_by (told answer) v.dwords slots
   -- The places likewise start with the places of the entries that describe these dwords.
-  pub places_hold : places_left ≡ list_by (answer_told answer) (places_of v.kind book v.dwords) places
+  pub places_hold : places_left ≡ list_by (told answer) (places_of v.kind book v.dwords) places
 
 -- Two calls gave the same.
 pub record SamePacket (a : Result Packet Refusal) (slots-a places-a : List ℕ) (b : Result Packet Refusal) (slots-b places-b : List ℕ) : Type 0 where

@@ -1,11 +1,12 @@
 -- The packet of a text: its entry's kind and dwords over a book.
+use Rattle.refusal.specs.Told as answers
 use Rattle.refusal.specs.declared.Refusal.{Refusal}
 use Rattle.std.specs.Prelude.{ℕ, ◌≡◌, List, length, Result}
 use Rattle.text.specs.Told.{Told, is, absent, refused, and_then}
 use Rattle.entry.specs.declared.Entry.{Entry}
 use Rattle.scan.specs.declared.Pieces.{Pieces}
 use Rattle.packet.specs.declared.Packet.{Packet}
-use Rattle.packet.specs.Packet.{answer_told, parse_of, places_of, list_by}
+use Rattle.packet.specs.Packet.{parse_of, places_of, list_by}
 use Rattle.intake.specs.Intake.{taken_of, taken_dwords}
 
 -- the packet of what is told of a text: the text's number comes first, then those of the packet
@@ -24,12 +25,12 @@ kind_in (refused k) = 0
 
 -- the answer, each slot and each place: a packet writes its dwords and their places from the first and no others, a refusal nothing
 pub record PacketTaken (pieces : Pieces) (t s slots slots' places places' : List ℕ) (r : Result Packet Refusal) : Type 0 where
-  pub answer : answer_told r ≡ packet_taken pieces t s (length slots) (length places)
-  pub slots_left : slots' ≡ list_by (answer_told r) (taken_dwords t) slots
-  pub places_left : places' ≡ list_by (answer_told r) (places_of (kind_in (answer_told r)) s (taken_dwords t)) places
+  pub answer : answers.told r ≡ packet_taken pieces t s (length slots) (length places)
+  pub slots_left : slots' ≡ list_by (answers.told r) (taken_dwords t) slots
+  pub places_left : places' ≡ list_by (answers.told r) (places_of (kind_in (answers.told r)) s (taken_dwords t)) places
 
 -- the same of a kind and dwords that were read
 pub record Handed (kind : ℕ) (s ds slots slots' places places' : List ℕ) (r : Result Packet Refusal) : Type 0 where
-  pub answer : answer_told r ≡ parse_of kind s ds (length places)
-  pub slots_left : slots' ≡ list_by (answer_told r) ds slots
-  pub places_left : places' ≡ list_by (answer_told r) (places_of kind s ds) places
+  pub answer : answers.told r ≡ parse_of kind s ds (length places)
+  pub slots_left : slots' ≡ list_by (answers.told r) ds slots
+  pub places_left : places' ≡ list_by (answers.told r) (places_of kind s ds) places

@@ -1,6 +1,7 @@
 -- What is proved of packets, as one record: the packet call, the questions and the calls of a field answer what the relation says, and nothing else
 -- is what it says.
 -- Assumes nothing.
+use Rattle.refusal.specs.Told as answers
 use Rattle.refusal.specs.declared.Refusal.{Refusal}
 use Rattle.packet.specs.declared.Packet.{Packet}
 use Rattle.std.specs.Prelude.{ℕ, ◌≡◌, true, List, [], ◌∷◌, ◌++◌, ◌↔◌, ◌⊎◌, length, Option, Result}
@@ -8,7 +9,7 @@ use Rattle.tlv.specs.Number.{Bytes}
 use Rattle.book.specs.declared.Uuid.{Uuid}
 use Rattle.book.specs.Grammar.{text_of, Value, Range, Table, IsBook}
 use Rattle.packet.specs.declared.field.Ask.TheVariants as Ask
-use Rattle.packet.specs.Packet.{is_read_response_or_write_request, is_xdomain, answer_told, Parsed}
+use Rattle.packet.specs.Packet.{is_read_response_or_write_request, is_xdomain, Parsed}
 use Rattle.field.specs.declared.Field.{Field}
 use Rattle.field.specs.declared.Range.{Range as RangeAnswer}
 use Rattle.field.specs.declared.Span.{Span}
@@ -70,7 +71,7 @@ pub record Kinds (k : ℕ) : Type 0 where
 -- The packet call.
 pub record ParseCall : Type 0 where
   -- What it answers, and what it leaves in the place list, is what the relation says; and whatever the relation says is that.
-  pub exactly : (k : ℕ) (s : List ℕ) → Bytes s → (ds out exit : List ℕ) (r : Result Packet Refusal) → Parsed k s ds out exit r ↔ Means k s ds out exit (answer_told r)
+  pub exactly : (k : ℕ) (s : List ℕ) → Bytes s → (ds out exit : List ℕ) (r : Result Packet Refusal) → Parsed k s ds out exit r ↔ Means k s ds out exit (answers.told r)
   -- A kind, tables and dwords make one packet.
   pub one_packet : (k : ℕ) (tables : List Table) (ds : List ℕ) (os qs : List (Option Description)) (u v : Option Uuid) (n m : Option ℕ)
       → IsPacket k tables ds os u n → IsPacket k tables ds qs v m → (os ≡ qs) × (u ≡ v) × (n ≡ m)

@@ -12,7 +12,9 @@ use borrow.Author.Tests.{leb-true, ltb-false, le-ltb, lt-ltb}
 use lib.Dec.{eqb, leb, ltb}
 use lib.ListN.{length, drop, replicate, length-append, length-drop}
 use Rattle.text.specs.Told as T
-use Rattle.text.proofs.Told.{by_cases, fixed_by_told}
+use Rattle.refusal.specs.Number as numbers
+use Rattle.refusal.specs.Told.{told}
+use Rattle.refusal.proofs.Told.{one_told}
 use Rattle.text.specs.Quote.{bytes}
 use Rattle.book.specs.Reading.{accepted, check_of, tables_fill}
 use Rattle.book.specs.Finders.{control_table, uuid_table, place_of}
@@ -41,33 +43,24 @@ use Rattle.packet.specs.Packet.{
   view_from,
   word,
   packet_of,
-  answer_told,
   parse_of,
   over_of,
   list_by,
   Parsed,
   Over,
 }
-use Rattle.packet.specs.Inner.{header_of, header_for, opened_told, tables_of, open_of, places_with, uuid_with, Described, Made}
+use Rattle.packet.specs.Inner.{header_of, header_for, tables_of, open_of, places_with, uuid_with, Described, Made}
 use Rattle.packet.proofs.Filling.{length_filled, length_map_from}
 use Rattle.packet.proofs.Clearing.{filled_zeros}
 
 -- ---- what is told fixes the answer
 
 -- two answers that tell the same are the same
-pub one_packet_answer : (a b : Result Packet Refusal) → answer_told a ≡ answer_told b → a ≡ b
-one_packet_answer = fixed_by_told answer_told (by_cases Ok (Err 0) Err) same
-  where
-    same : (a : Result Packet Refusal) → by_cases Ok (Err 0) Err (answer_told a) ≡ a
-    same (Ok p) = refl
-    same (Err k) = refl
+pub one_packet_answer : (a b : Result Packet Refusal) → told a ≡ told b → a ≡ b
+one_packet_answer = one_told
 
-pub one_opened : (a b : Result Tables Refusal) → opened_told a ≡ opened_told b → a ≡ b
-one_opened = fixed_by_told opened_told (by_cases Ok (Err 0) Err) same
-  where
-    same : (a : Result Tables Refusal) → by_cases Ok (Err 0) Err (opened_told a) ≡ a
-    same (Ok t) = refl
-    same (Err k) = refl
+pub one_opened : (a b : Result Tables Refusal) → told a ≡ told b → a ≡ b
+one_opened = one_told
 
 -- ---- how many places
 
@@ -266,11 +259,11 @@ module _ (kind : ℕ) (s ds out : List ℕ) (fits : length s ≤ 65535) where
       length-append ps (drop (length ds) out) ∙ omega (arith, size, length-drop (length ds) out, o.fit)
 
   -- a number: nothing is touched
-  pub over_number : {k : ℕ} → open_of kind s (length ds) (length out) ≡ T.refused k → Over kind s ds out out (Err k)
+  pub over_number : {e : Refusal} → open_of kind s (length ds) (length out) ≡ T.refused (numbers.number_of e) → Over kind s ds out out (Err e)
   unfolding over_of list_by
-  over_number {k} e =
-      let w = opened_refused kind s (length ds) (length out) e in
-      record { answer = sym (refuses k (number_is ∙ w.0) w.1); places = refl }
+  over_number {e} h =
+      let w = opened_refused kind s (length ds) (length out) h in
+      record { answer = sym (refuses (numbers.number_of e) (number_is ∙ w.0) w.1); places = refl }
     where
       refuses : (n : ℕ) → number_over kind s (length ds) (length out) ≡ n → 0 < n
           → T.unless (number_over kind s (length ds) (length out)) (T.is (packet_of kind s ds)) ≡ T.refused n
@@ -296,11 +289,11 @@ checked_fits s e = by (leb (length s) 65535) refl (tables_fill s 0) e
     by false h b x = absurd (let q : ◌≡◌ {A = ℕ} 0 1 = cc in omega arith)
 
 -- number 20
-pub parsed_20 : (kind : ℕ) (s ds out : List ℕ) {k : ℕ} → check_of s ≡ T.refused k → Parsed kind s ds out out (Err k)
+pub parsed_20 : (kind : ℕ) (s ds out : List ℕ) {e : Refusal} → check_of s ≡ T.refused (numbers.number_of e) → Parsed kind s ds out out (Err e)
 unfolding parse_of number_of list_by
-parsed_20 kind s ds out {k} e =
-    let twenty : k ≡ 20 = number_20 s e in
-    let none : check_of s ≡ T.refused 20 = e ∙ ap T.refused twenty in
+parsed_20 kind s ds out {e} h =
+    let twenty : numbers.number_of e ≡ 20 = number_20 s h in
+    let none : check_of s ≡ T.refused 20 = h ∙ ap T.refused twenty in
     record { answer = rw (twenty, none); places = refl }
 
 -- a call leaves as many places as it was lent

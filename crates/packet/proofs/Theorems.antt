@@ -37,7 +37,6 @@ use Rattle.packet.specs.Packet.{
   parse_of,
   places_of,
   packet_of,
-  answer_told,
   list_by,
   Parsed,
   Over,
@@ -45,6 +44,9 @@ use Rattle.packet.specs.Packet.{
 use Rattle.packet.specs.declared.fill.Pick.TheVariants.{Any}
 use Rattle.packet.specs.Steps.{entry_of}
 use Rattle.packet.specs.Conditions.{Has, HasNot, NoHeader, TooFew, Condition, Applies}
+use Rattle.refusal.specs.Number as numbers
+use Rattle.refusal.specs.Told.{told}
+use Rattle.refusal.proofs.Told.{number_some}
 use Rattle.packet.proofs.Packets.{one_packet_answer, length_places}
 
 -- ---- tables
@@ -250,11 +252,11 @@ module _ (s : List ℕ) (b : IsBook s) (k : ℕ) (t : Table) (h : Has s (kind k)
 -- ---- the call
 
 -- a refusal is the first number that applies, and no place is touched
-pub refused_packet : {k : ℕ} {s ds out exit : List ℕ} {n : ℕ} → Bytes s → 0 < n → Parsed k s ds out exit (Err n)
-    → Applies k s (length ds) (length out) n × (exit ≡ out)
+pub refused_packet : {k : ℕ} {s ds out exit : List ℕ} {e : Refusal} → Bytes s → Parsed k s ds out exit (Err e)
+    → Applies k s (length ds) (length out) (numbers.number_of e) × (exit ≡ out)
 unfolding list_by
-refused_packet {k} {s} {ds} {out} {exit} {n} bytes some p =
-    ((packet_answer_number k s bytes ds (length out) n some).0 (sym (ap T.number_in p.answer)), p.places)
+refused_packet {k} {s} {ds} {out} {exit} {e} bytes p =
+    ((packet_answer_number k s bytes ds (length out) (numbers.number_of e) (omega (arith, number_some e))).0 (sym (ap T.number_in p.answer)), p.places)
 
 -- a packet writes as many places as it has dwords, and leaves the others
 pub packet_writes_its_places : {k : ℕ} {s ds out exit : List ℕ} {p : Packet} → Parsed k s ds out exit (Ok p)
@@ -269,13 +271,13 @@ packet_writes_its_places {k} {s} {ds} {out} p =
 -- no second answer satisfies the contract, places included
 pub no_second_packet : {k : ℕ} {s ds out exit exit' : List ℕ} {r r' : Result Packet Refusal} → Parsed k s ds out exit r → Parsed k s ds out exit' r' → (r ≡ r') × (exit ≡ exit')
 no_second_packet {k} {s} {ds} {out} {exit} {exit'} {r} {r'} a b =
-    let same : answer_told r ≡ answer_told r' = a.answer ∙ sym b.answer in
+    let same : told r ≡ told r' = a.answer ∙ sym b.answer in
     (one_packet_answer r r' same, a.places ∙ rw same (sym b.places))
 
 -- nor that of a call over a book that was checked before
 pub no_second_packet_over : {k : ℕ} {s ds out exit exit' : List ℕ} {r r' : Result Packet Refusal} → Over k s ds out exit r → Over k s ds out exit' r' → (r ≡ r') × (exit ≡ exit')
 no_second_packet_over {k} {s} {ds} {out} {exit} {exit'} {r} {r'} a b =
-    let same : answer_told r ≡ answer_told r' = a.answer ∙ sym b.answer in
+    let same : told r ≡ told r' = a.answer ∙ sym b.answer in
     (one_packet_answer r r' same, a.places ∙ rw same (sym b.places))
 
 -- the same answer whatever the place list held

@@ -1,9 +1,8 @@
 -- What the functions below the packet call promise each other. A reader of the packet call's promise needs nothing from here.
 -- Assumes nothing.
-use Rattle.refusal.specs.declared.Refusal.{Refusal}
 use Rattle.book.specs.declared.Uuid.{Uuid}
-use Rattle.std.specs.Prelude.{ℕ, zero, suc, ◌≤◌, ◌≡◌, Bool, true, false, cond, ◌&&◌, List, [], eqb, ltb, length, get_or, set, replicate, Err, None, Ok, Option, Result, Some}
-use Rattle.text.specs.Told.{Told, is, refused, unless}
+use Rattle.std.specs.Prelude.{ℕ, zero, suc, ◌≤◌, ◌≡◌, Bool, true, false, cond, ◌&&◌, List, [], eqb, ltb, length, get_or, set, replicate, None, Option, Some}
+use Rattle.text.specs.Told.{Told, is, unless}
 use Rattle.text.specs.Quote.{bytes}
 use Rattle.text.specs.Same.{same_text}
 use Rattle.tlv.specs.Number.{number}
@@ -79,11 +78,6 @@ abbrev pub is_missing : Header → Bool
 is_missing (H.At table) = false
 is_missing H.Missing = true
 is_missing H.Unasked = false
-
--- what each case of the opening's answer tells: the tables, or the number
-abbrev pub opened_told : Result Tables Refusal → Told Tables
-opened_told (Ok tables) = is tables
-opened_told (Err k) = refused k
 
 -- the tables of a kind
 abbrev pub tables_of : ℕ → List ℕ → Tables

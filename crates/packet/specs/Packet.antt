@@ -1,7 +1,8 @@
 -- The packet of a kind, a book and dwords, and the number that refuses it.
 -- Assumes nothing.
 use Rattle.refusal.specs.declared.Refusal.{Refusal}
-use Rattle.std.specs.Prelude.{ℕ, zero, suc, ◌+◌, ◌%◌, ◌≡◌, Bool, true, false, cond, ◌&&◌, ◌||◌, List, [], ◌∷◌, ◌++◌, eqb, ltb, length, drop, Err, None, Ok, Option, Result, Some}
+use Rattle.refusal.specs.Told.{told}
+use Rattle.std.specs.Prelude.{ℕ, zero, suc, ◌+◌, ◌%◌, ◌≡◌, Bool, true, false, cond, ◌&&◌, ◌||◌, List, [], ◌∷◌, ◌++◌, eqb, ltb, length, drop, None, Option, Result, Some}
 use Rattle.text.specs.Told.{Told, is, absent, refused, number_in, unless}
 use Rattle.text.specs.Quote.{bytes}
 use Rattle.book.specs.declared.Uuid.{Uuid}
@@ -106,11 +107,6 @@ packet_of kind s ds =
 
 -- ---- the answer
 
--- what each case of an answer tells: the packet, or document 01's number
-abbrev pub answer_told : Result Packet Refusal → Told Packet
-answer_told (Ok p) = is p
-answer_told (Err k) = refused k
-
 -- the UUID, as a packet keeps it
 abbrev pub maybe_uuid : Option Uuid → Told Uuid
 maybe_uuid (Some u) = is u
@@ -132,10 +128,10 @@ list_by (refused k) ps out = out
 
 -- the answer, and each lent place
 pub record Parsed (kind : ℕ) (s ds out exit : List ℕ) (r : Result Packet Refusal) : Type 0 where
-  pub answer : answer_told r ≡ parse_of kind s ds (length out)
-  pub places : exit ≡ list_by (answer_told r) (places_of kind s ds) out
+  pub answer : told r ≡ parse_of kind s ds (length out)
+  pub places : exit ≡ list_by (told r) (places_of kind s ds) out
 
 -- the same over a book that was checked before; over a checked book it gives `Parsed` (`over_is_parsed`)
 pub record Over (kind : ℕ) (s ds out exit : List ℕ) (r : Result Packet Refusal) : Type 0 where
-  pub answer : answer_told r ≡ over_of kind s ds (length out)
-  pub places : exit ≡ list_by (answer_told r) (places_of kind s ds) out
+  pub answer : told r ≡ over_of kind s ds (length out)
+  pub places : exit ≡ list_by (told r) (places_of kind s ds) out

@@ -20,7 +20,7 @@ ghost use Rattle.packet.specs.Inner.{Ready, Made};
 
 use crate::numbers::{open, start_of};
 use crate::steps::describe;
-use book::{Checked, Uuid};
+use book::Uuid;
 use refusal::Refusal;
 
 // The header table, which kinds 8 and 9 ask for and no other.
@@ -52,15 +52,17 @@ pub struct Packet {
 pub fn parse(kind: u8, book: &[u8], dwords: &[u32], places: &mut [u32]) -> Result<Packet, Refusal>
     ensures { Parsed kind book.now dwords.now places.old places.new result }
 {
-    let checked = book::check(book);
-    match checked {
-        Checked::Accepted => parse_checked(kind, book, dwords, places),
-        Checked::Refused(number) => Err(number),
-    }
+    book::check(book)?;
+    parse_checked(kind, book, dwords, places)
 }
 
 // The same over a book that is known to be checked.
-pub fn parse_checked(kind: u8, book: &[u8], dwords: &[u32], places: &mut [u32]) -> Result<Packet, Refusal>
+pub fn parse_checked(
+    kind: u8,
+    book: &[u8],
+    dwords: &[u32],
+    places: &mut [u32],
+) -> Result<Packet, Refusal>
     requires { check_of book.now ≡ accepted }
     ensures { Parsed kind book.now dwords.now places.old places.new result }
 {
@@ -69,7 +71,12 @@ pub fn parse_checked(kind: u8, book: &[u8], dwords: &[u32], places: &mut [u32]) 
 
 // The same for whoever checked the book before. Any book is taken: one that did not pass is described as far as its fields can be read, and
 // one that is too long to have passed is refused.
-pub fn parse_over(kind: u8, book: &[u8], dwords: &[u32], places: &mut [u32]) -> Result<Packet, Refusal>
+pub fn parse_over(
+    kind: u8,
+    book: &[u8],
+    dwords: &[u32],
+    places: &mut [u32],
+) -> Result<Packet, Refusal>
     ensures { Over kind book.now dwords.now places.old places.new result }
 {
     if 65_535 < book.len() {
@@ -78,13 +85,7 @@ pub fn parse_over(kind: u8, book: &[u8], dwords: &[u32], places: &mut [u32]) -> 
     let n = dwords.len();
     let opened = open(kind, book, n, places.len());
     match opened {
-        Ok(tables) => Ok(make(
-            kind,
-            book,
-            tables,
-            dwords,
-            &mut places[..n],
-        )),
+        Ok(tables) => Ok(make(kind, book, tables, dwords, &mut places[..n])),
         Err(number) => Err(number),
     }
 }

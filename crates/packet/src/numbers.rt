@@ -1,8 +1,9 @@
 // Numbers 21 to 26 in their order, and where the data view starts.
 ghost use Rattle.std.specs.Prelude.{◌≡◌, ◌&&◌, ltb};
+ghost use Rattle.refusal.specs.Told.{told};
 ghost use Rattle.book.specs.Finders.{entry_count};
 ghost use Rattle.packet.specs.Packet.{is_read_response_or_write_request, is_xdomain, control_at, view_from, word};
-ghost use Rattle.packet.specs.Inner.{header_for, is_missing, opened_told, open_of};
+ghost use Rattle.packet.specs.Inner.{header_for, is_missing, open_of};
 
 use crate::field::Ask;
 use crate::seek::first_asked;
@@ -32,7 +33,7 @@ pub fn is_xdomain_kind(kind: u8) -> bool
 
 // The tables of a packet with so many dwords and places, or the number that refuses it.
 pub fn open(kind: u8, book: &[u8], count: usize, room: usize) -> Result<Tables, Refusal>
-    ensures { opened_told result ≡ open_of kind book.now count room }
+    ensures { told result ≡ open_of kind book.now count room }
 {
     if kind == 0 {
         return Err(Refusal::NoKind);

@@ -8,7 +8,13 @@ use crate::field::{Ask, is_asked, wide};
 use book::Uuid;
 
 // The first index from `start` on at which the entry is as asked.
-pub fn first_asked(book: &[u8], ask: Ask, name: &[u8], places: &[u32], start: usize) -> Option<usize>
+pub fn first_asked(
+    book: &[u8],
+    ask: Ask,
+    name: &[u8],
+    places: &[u32],
+    start: usize,
+) -> Option<usize>
     ensures { result ≡ first_from (asks ask book.now name.now) start (drop start places.now) }
 {
     let mut i = start;

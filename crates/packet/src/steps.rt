@@ -7,7 +7,7 @@ use crate::field::{name_in, named_in, or_else, range_in};
 use crate::fill::{Pick, fill};
 use crate::seek::gather;
 use crate::{Header, Tables};
-use book::find;
+use book::{Uuid, find};
 
 // The place of each dword's entry, 0 for none, and the UUID that the fields named so make.
 pub fn describe(book: &[u8], tables: Tables, dwords: &[u32], places: &mut [u32]) -> Option<Uuid>

@@ -1,5 +1,6 @@
 -- What a parse into 256 places tells a question: 26 does not come, a number stands before every answer, and the first places are the packet's,
 -- whatever was there before. Assumes nothing.
+use Rattle.refusal.specs.Told as answers
 use Rattle.std.specs.Prelude.{Err, Ok, Result}
 use Rattle.refusal.specs.declared.Refusal.{Refusal}
 use Prim.Native.Nat.{ℕ, zero, suc, ◌≤◌}
@@ -14,7 +15,7 @@ use lib.Seq.{take_at}
 use Rattle.text.specs.Told as T
 use Rattle.book.specs.Reading.{accepted as checked, check_of}
 use Rattle.packet.specs.declared.Packet.{Packet}
-use Rattle.packet.specs.Packet.{Parsed, after, number_checked, number_of, places_of, packet_of, answer_told, parse_of, list_by}
+use Rattle.packet.specs.Packet.{Parsed, after, number_checked, number_of, places_of, packet_of, parse_of, list_by}
 use Rattle.packet.proofs.Packets.{Passed, passed_whole, length_places, parsed_20}
 use Rattle.text.specs.Told.{Told, is, refused, unless}
 use Rattle.questions.specs.Questions.{refusal, answer}
@@ -81,7 +82,7 @@ module _ {kind : ℕ} {s ds out exit : List ℕ} {r : Result Packet Refusal} (pa
   pub refused_first : {k : ℕ} → r ≡ Err k → {B : Type 0} (told : Told B) → refused k ≡ answer kind s ds told
   unfolding parse_of
   refused_first e told =
-      let w = refused_by (packet_of kind s ds) (number_of kind s (length ds) (length out)) (sym parsed.answer ∙ ap answer_told e) in
+      let w = refused_by (packet_of kind s ds) (number_of kind s (length ds) (length out)) (sym parsed.answer ∙ ap answers.told e) in
       number_first kind s ds (w.0 ∙ number_is) told w.1
 
   -- a packet: its places come first
@@ -94,10 +95,10 @@ module _ {kind : ℕ} {s ds out exit : List ℕ} {r : Result Packet Refusal} (pa
   pub accepted : {p : Packet} → r ≡ Ok p → Accepted p
   unfolding parse_of list_by
   accepted {p} e =
-      let w = accepted_by (packet_of kind s ds) (number_of kind s (length ds) (length out)) (sym parsed.answer ∙ ap answer_told e) in
+      let w = accepted_by (packet_of kind s ds) (number_of kind s (length ds) (length out)) (sym parsed.answer ∙ ap answers.told e) in
       let ps : List ℕ = places_of kind s ds in
       let size : length ps ≡ length ds = length_places kind s ds in
-      let exit-is : exit ≡ ps ++ drop (length ps) out = parsed.places ∙ ap (λ (a : Result Packet Refusal). list_by (answer_told a) ps out) e in
+      let exit-is : exit ≡ ps ++ drop (length ps) out = parsed.places ∙ ap (λ (a : Result Packet Refusal). list_by (answers.told a) ps out) e in
       record {
         none = sym number_is ∙ w.0;
         is_packet = w.1;

@@ -1,5 +1,6 @@
 -- Document 01's numbers tell the refusals apart, so what an answer tells fixes the answer. Assumes nothing.
 use Rattle.std.specs.Prelude.{ℕ, ◌≡◌, cond, eqb, Err, None, Ok, Option, Result, Some}
+use Rattle.std.specs.Result.{IsErrAnd}
 use mathlib.Core.Path.{refl, sym, ap, ◌∙◌}
 use native.Mathlib.Omega.{arith}
 use Rattle.text.specs.Told.{Told}
@@ -123,3 +124,8 @@ number_some e z =
     let first : e ≡ R.Idle = sym (back e) ∙ ap refusal_of z in
     let one : 1 ≡ 0 = sym (ap number_of first) ∙ z in
     omega (arith, one)
+
+-- what a `?` passes on is the refusal that it met
+pub passed_on : {T E : Type 0} (r : Result T E) {e : E} → IsErrAnd r (λ y. y ≡ e) → r ≡ Err e
+passed_on (Ok a) is = absurd is
+passed_on (Err y) is = ap Err is

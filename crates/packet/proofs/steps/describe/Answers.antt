@@ -6,8 +6,8 @@ use mathlib.Core.List.{[]}
 use mathlib.Core.Path.{ap, ◌∙◌}
 use Rattle.packet.proofs.steps.describe.Goals as goal
 
-pub returns-in-Some : goal.returns-in-Some
-returns-in-Some c = described_at c.args.book.now c.args.dwords.now (c.fill.ensures ∙ ap (filled (entry_of Any [] c.args.book.now c.args.tables.control)) c.clear.ensures ∙ control_filled c.args.book.now c.args.tables.control c.args.dwords.now c.args.places.now c.requires.2) c.in-Some.is c.describe_xdomain.ensures
+pub returns-in-At : goal.returns-in-At
+returns-in-At c = described_at c.args.book.now c.args.dwords.now (c.fill.ensures ∙ ap (filled (entry_of Any [] c.args.book.now c.args.tables.control)) c.clear.ensures ∙ control_filled c.args.book.now c.args.tables.control c.args.dwords.now c.args.places.now c.requires.2) c.in-At.is c.describe_xdomain.ensures
 
 pub returns-in-Unasked : goal.returns-in-Unasked
 returns-in-Unasked c = described_unasked c.args.book.now c.args.dwords.now (c.fill.ensures ∙ ap (filled (entry_of Any [] c.args.book.now c.args.tables.control)) c.clear.ensures ∙ control_filled c.args.book.now c.args.tables.control c.args.dwords.now c.args.places.now c.requires.2) c.in-Unasked.is

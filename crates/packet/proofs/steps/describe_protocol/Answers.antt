@@ -8,4 +8,4 @@ pub returns-in_default-uuid_table : goal.returns-in_default-uuid_table
 returns-in_default-uuid_table c = rw (c.in-Some.is, ← c.uuid_table.ensures, c.in_default-uuid_table.is)
 
 pub returns : goal.returns
-returns c = rw (c.in-Some.is, ← c.uuid_table.ensures, c.in-Some.is) c.latch_through.ensures
+returns c = rw (c.in-Some.is, ← c.uuid_table.ensures, c.in-Some-uuid_table.is) c.latch_through.ensures

@@ -11,7 +11,6 @@ ghost use Rattle.book.specs.Reading.{accepted, check_of};
 ghost use Rattle.batch.specs.Batch.{start_code, Batch, Each, One};
 
 use crate::cut::{cut, least, wide};
-use book::Checked;
 use packet::parse_checked;
 
 // Packet k has kind `kinds[k]` and the next `counts[k]` dwords, as far as they go; its places stand where its dwords do. `codes[k]` tells where
@@ -27,10 +26,9 @@ pub fn parse_all(
 ) -> usize
     ensures { Batch book.now kinds.now counts.now dwords.now places.old places.new codes.old codes.new result }
 {
-    let checked = book::check(book);
-    match checked {
-        Checked::Accepted => parse_each(book, kinds, counts, dwords, places, codes),
-        Checked::Refused(_) => refuse_each(kinds.len(), counts.len(), codes),
+    match book::check(book) {
+        Ok(()) => parse_each(book, kinds, counts, dwords, places, codes),
+        Err(_) => refuse_each(kinds.len(), counts.len(), codes),
     }
 }
 
@@ -80,13 +78,9 @@ fn parse_one(kind: u8, book: &[u8], dwords: &[u32], places: &mut [u32]) -> u32
     requires { check_of book.now ≡ accepted }
     ensures { One kind book.now dwords.now places.old places.new result }
 {
-    let answer = parse_checked(kind, book, dwords, places);
-    match answer {
-        Ok(p) => {
-            let start = p.start;
-            start_code(start)
-        }
-        Err(number) => 65_536 + number as u32,
+    match parse_checked(kind, book, dwords, places) {
+        Ok(packet) => start_code(packet.start),
+        Err(e) => 65_536 + e.number() as u32,
     }
 }
 
@@ -94,8 +88,5 @@ fn parse_one(kind: u8, book: &[u8], dwords: &[u32], places: &mut [u32]) -> u32
 fn start_code(start: Option<u16>) -> u32
     ensures { result ≡ start_code start }
 {
-    match start {
-        Some(n) => n as u32,
-        None => 65_536,
-    }
+    start.map_or(65_536, |n| n as u32)
 }

@@ -5,7 +5,7 @@ use Prim.Native.Nat.{ℕ, zero, suc, ◌+◌, ◌-◌, ◌*◌, ◌/◌, ◌%◌
 use mathlib.Core.Path.{◌≡◌, ◌∙◌, sym, ap, ap₂, refl}
 use mathlib.Core.Bool.{Bool, true, false, cond}
 use mathlib.Core.List.{List, [], ◌∷◌, ◌++◌, map, append-nil}
-use mathlib.Core.Option
+use Rattle.std.specs.Option.{option_map}
 use native.Mathlib.Omega.{arith}
 use borrow.Author.Tests.{eqb-true, leb-true, ltb-true, eq-eqb, le-leb, lt-ltb}
 use lib.Dec.{ltb, eqb}
@@ -14,13 +14,13 @@ use lib.Seq.{take_all, take-add, drop-drop, drop_at}
 use Rattle.text.proofs.Texts.{both_left, both_right}
 use Rattle.tlv.specs.Number.{Bytes, number, number_bytes}
 use Rattle.tlv.specs.Grammar.{Piece, All}
-use Rattle.tlv.specs.Reading.{Part, between, piece_of, parts, all}
+use Rattle.std.specs.List.{list_all}
+use Rattle.tlv.specs.Reading.{Part, between, piece_of, parts}
 use Rattle.tlv.proofs.Numbers.{number_take, number_drop, number_made, number_bytes_is, number_bytes_length, number_below}
 use Rattle.tlv.proofs.Places.{bytes_take, bytes_drop, between_is, between_length, number_between}
 use Rattle.entry.specs.Entry.{part_of}
 use Rattle.entry.proofs.Parts.{part_in}
 use Rattle.record.specs.declared.find.Span.{Span}
-use Rattle.record.specs.declared.find.Span.TheVariants.{At, Absent}
 use Rattle.record.specs.Grammar.{dwords_bytes, Below}
 use Rattle.record.specs.Rule.{fits_text, fits_number, fits_dwords}
 use Rattle.record.specs.Finding.{span_among, span_of, is_there, place_of, maybe_of, number_of}
@@ -50,11 +50,11 @@ fits_number_all k limit n h l =
 
 -- ---- texts
 
-pub all_is : (ok : ℕ → Bool) (P : ℕ → Type 0) → ((b : ℕ) → ok b ≡ true → P b) → (s : List ℕ) → all ok s ≡ true → All P s
+pub all_is : (ok : ℕ → Bool) (P : ℕ → Type 0) → ((b : ℕ) → ok b ≡ true → P b) → (s : List ℕ) → list_all ok s ≡ true → All P s
 all_is ok P f [] e = tt
 all_is ok P f (b ∷ s) e = (f b (both_left _ _ e), all_is ok P f s (both_right (ok b) _ e))
 
-pub all_all : (ok : ℕ → Bool) (P : ℕ → Type 0) → ((b : ℕ) → P b → ok b ≡ true) → (s : List ℕ) → All P s → all ok s ≡ true
+pub all_all : (ok : ℕ → Bool) (P : ℕ → Type 0) → ((b : ℕ) → P b → ok b ≡ true) → (s : List ℕ) → All P s → list_all ok s ≡ true
 all_all ok P f [] a = refl
 all_all ok P f (b ∷ s) a = rw (f b a.0) (all_all ok P f s a.1)
 
@@ -130,9 +130,9 @@ module _ (t : List ℕ) where
   abbrev pub pieces_in : List Piece
   pieces_in = map (piece_of t) (parts t 3)
 
-  abbrev body_by : Span → Option (List ℕ)
-  body_by (At from to) = Some (between t from to)
-  body_by Absent = None
+  abbrev body_by : Option Span → Option (List ℕ)
+  body_by (Some s) = Some (between t s.from s.to)
+  body_by None = None
 
   lookup_among : (tag : ℕ) (ps : List Part) → lookup tag (map (piece_of t) ps) ≡ body_by (span_among tag ps)
   unfolding lookup span_among
@@ -140,7 +140,7 @@ module _ (t : List ℕ) where
   lookup_among tag (p ∷ ps) = go (eqb p.tag tag) (lookup_among tag ps)
     where
       go : (x : Bool) → lookup tag (map (piece_of t) ps) ≡ body_by (span_among tag ps)
-          → cond x (Some (between t p.from p.to)) (lookup tag (map (piece_of t) ps)) ≡ body_by (cond x (At p.from p.to) (span_among tag ps))
+          → cond x (Some (between t p.from p.to)) (lookup tag (map (piece_of t) ps)) ≡ body_by (cond x (Some (record { from = p.from; to = p.to })) (span_among tag ps))
       go true e = refl
       go false e = e
 
@@ -153,7 +153,7 @@ module _ (t : List ℕ) where
   pub record Body (tag : ℕ) (b : List ℕ) : Type 0 where
     pub from : ℕ
     pub to : ℕ
-    pub span : span_of t tag ≡ At from to
+    pub span : span_of t tag ≡ Some (record { from = from; to = to })
     pub is : between t from to ≡ b
     pub up : from ≤ to
     pub within : to ≤ length t
@@ -161,24 +161,24 @@ module _ (t : List ℕ) where
   pub body_found : (tag : ℕ) (b : List ℕ) → lookup tag pieces_in ≡ Some b → Body tag b
   body_found tag b e = go (span_of t tag) refl
     where
-      go : (s : Span) → span_of t tag ≡ s → Body tag b
-      go (At from to) h =
+      go : (o : Option Span) → span_of t tag ≡ o → Body tag b
+      go (Some s) h =
           let m = span_moves t tag h in
-          let same : Some (between t from to) ≡ Some b = sym (ap body_by h) ∙ sym (lookup_span tag) ∙ e in
-          let is : between t from to ≡ b = cc in
-          record { from = from; to = to; span = h; is = is; up = m.0; within = m.1 }
-      go Absent h =
+          let same : Some (between t s.from s.to) ≡ Some b = sym (ap body_by h) ∙ sym (lookup_span tag) ∙ e in
+          let is : between t s.from s.to ≡ b = cc in
+          record { from = s.from; to = s.to; span = h; is = is; up = m.0; within = m.1 }
+      go None h =
           let same : None ≡ Some b = sym (ap body_by h) ∙ sym (lookup_span tag) ∙ e in
           absurd (let z : ◌≡◌ {A = ℕ} 0 1 = cc in omega arith)
 
-  pub body_absent : (tag : ℕ) → lookup tag pieces_in ≡ None → span_of t tag ≡ Absent
+  pub body_absent : (tag : ℕ) → lookup tag pieces_in ≡ None → span_of t tag ≡ None
   body_absent tag e = go (span_of t tag) refl
     where
-      go : (s : Span) → span_of t tag ≡ s → s ≡ Absent
-      go (At from to) h =
-          let same : Some (between t from to) ≡ None = sym (ap body_by h) ∙ sym (lookup_span tag) ∙ e in
+      go : (o : Option Span) → span_of t tag ≡ o → o ≡ None
+      go (Some s) h =
+          let same : Some (between t s.from s.to) ≡ None = sym (ap body_by h) ∙ sym (lookup_span tag) ∙ e in
           absurd (let z : ◌≡◌ {A = ℕ} 0 1 = cc in omega arith)
-      go Absent h = refl
+      go None h = refl
 
   pub body_there : (tag : ℕ) (b : List ℕ) → lookup tag pieces_in ≡ Some b → is_there (span_of t tag) ≡ true
   body_there tag b e = rw (body_found tag b e).span
@@ -229,7 +229,7 @@ module _ (t : List ℕ) where
     unfolding number_of
     made_number = rw made_some
 
-  pub made_maybe : (tag k : ℕ) (o : Option ℕ) → lookup tag pieces_in ≡ Option.map (number_bytes k) o → Below (256 ^ k) o → maybe_of k t tag ≡ o
+  pub made_maybe : (tag k : ℕ) (o : Option ℕ) → lookup tag pieces_in ≡ option_map (number_bytes k) o → Below (256 ^ k) o → maybe_of k t tag ≡ o
   unfolding maybe_of
   made_maybe tag k None e h = rw (body_absent tag e)
   made_maybe tag k (Some n) e h = made_some tag k n e h

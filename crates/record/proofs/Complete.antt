@@ -5,7 +5,7 @@ use Prim.Native.Nat.{ℕ, ◌+◌, ◌-◌, ◌*◌, ◌^◌, ◌≤◌, ◌<◌
 use mathlib.Core.Path.{◌≡◌, ◌∙◌, sym, ap, refl}
 use mathlib.Core.Bool.{Bool, true, false}
 use mathlib.Core.List.{List, [], append-nil}
-use mathlib.Core.Option.{map}
+use Rattle.std.specs.Option.{option_map}
 use native.Mathlib.Omega.{arith}
 use borrow.Author.Tests.{eq-eqb, ne_eqb, lt-ltb, le-leb}
 use lib.Dec.{eqb}
@@ -26,7 +26,7 @@ use Rattle.record.specs.declared.rule.Rule.TheVariants as R
 use Rattle.record.specs.Grammar.{flag, dwords_bytes, rows_of, present, record_bytes, Below, Ranged, IsRecord}
 use Rattle.record.specs.Rule.{bytes_of, rule_of, is_letter, fits_rule}
 use Rattle.record.specs.Judging.{framed, task_size, judged, has_required, refusal_of}
-use Rattle.record.specs.Finding.{maybe_of, number_of, byte_of, word_of, place_of}
+use Rattle.record.specs.Finding.{number_of, byte_of, word_of, place_of}
 use Rattle.record.specs.Gathering.{origin_of, packet_of, noted_of, entry_of}
 use Rattle.record.specs.Reading.{dword_count, dwords_of}
 use Rattle.record.proofs.Finding.{lookup}
@@ -52,15 +52,6 @@ use Rattle.record.proofs.Bodies.{
 -- the value that the fields of a text give
 unfoldable pub value_in : List ℕ → EntryValue
 value_in t = value_of (entry_of t) t (dwords_of t)
-
--- optional fields of the entry, as values
-pub byte_value_lem : (o : Option ℕ) → o ≡ o
-byte_value_lem None = refl
-byte_value_lem (Some n) = refl
-
-pub word_value_lem : (o : Option ℕ) → o ≡ o
-word_value_lem None = refl
-word_value_lem (Some n) = refl
 
 -- all the dwords of a list
 pub part_all : (ds : List ℕ) (n : ℕ) → n ≡ length ds → part_of ds 0 n ≡ ds
@@ -92,7 +83,7 @@ module _ (task : ℕ) (w : Width) (limit : ℕ) where
       rw (← same) (fits_number_all (bytes_of w) limit n h l)
 
   maybe_fits : (o : Option ℕ) → Below (256 ^ bytes_of w) o → ((n : ℕ) → n < 256 ^ bytes_of w → n ≤ limit) → (b : List ℕ)
-      → map (number_bytes (bytes_of w)) o ≡ Some b → fits_rule (R.Number w limit) task b ≡ true
+      → option_map (number_bytes (bytes_of w)) o ≡ Some b → fits_rule (R.Number w limit) task b ≡ true
   maybe_fits None h l b e = absurd (let z : ◌≡◌ {A = ℕ} 0 1 = cc in omega arith)
   maybe_fits (Some n) h l b e = number_fits n h (l n h) b e
 
@@ -306,13 +297,13 @@ module _ (t : List ℕ) (v : EntryValue) (r : IsRecord t v) where
   number_here : (tag k n : ℕ) → body_at tag (rows_of v) ≡ Some (number_bytes k n) → n < 256 ^ k → number_of k t tag ≡ n
   number_here tag k n e h = made_number t tag k n (row_found tag ∙ e) h
 
-  byte_here : (tag : ℕ) (o : Option ℕ) → body_at tag (rows_of v) ≡ map (number_bytes 1) o → Below (2 ^ 8) o → (byte_of t tag) ≡ o
+  byte_here : (tag : ℕ) (o : Option ℕ) → body_at tag (rows_of v) ≡ option_map (number_bytes 1) o → Below (2 ^ 8) o → (byte_of t tag) ≡ o
   unfolding byte_of
-  byte_here tag o e h = byte_value_lem (maybe_of 1 t tag) ∙ made_maybe t tag 1 o (row_found tag ∙ e) h
+  byte_here tag o e h = made_maybe t tag 1 o (row_found tag ∙ e) h
 
-  word_here : (tag : ℕ) (o : Option ℕ) → body_at tag (rows_of v) ≡ map (number_bytes 2) o → Below (2 ^ 16) o → (word_of t tag) ≡ o
+  word_here : (tag : ℕ) (o : Option ℕ) → body_at tag (rows_of v) ≡ option_map (number_bytes 2) o → Below (2 ^ 16) o → (word_of t tag) ≡ o
   unfolding word_of
-  word_here tag o e h = word_value_lem (maybe_of 2 t tag) ∙ made_maybe t tag 2 o (row_found tag ∙ e) h
+  word_here tag o e h = made_maybe t tag 2 o (row_found tag ∙ e) h
 
   -- the fields give the value that the record was made from
   pub record_value : value_in t ≡ v

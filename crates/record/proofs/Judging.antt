@@ -1,24 +1,20 @@
 -- The judgement of a text's fields: the number from a place on is that of the field there, if it has one, else the number from its end on.
 -- Assumes nothing.
-use Prim.Native.Nat.{ℕ, ◌+◌, ◌≤◌, ◌<◌}
+use Prim.Native.Nat.{ℕ, ◌≤◌, ◌<◌}
 use mathlib.Core.Path.{◌≡◌, ◌∙◌, sym, ap, refl}
 use mathlib.Core.Bool.{Bool, true, false, cond}
 use mathlib.Core.List.{List, map}
 use native.Mathlib.Omega.{arith}
 use borrow.Author.Tests.{eq-eqb, ne_eqb, lt-ltb, le-ltb, ltb-true, eqb-true, eqb-false}
 use mathlib.Core.Bool.{◌&&◌, false≢true}
-use native.Mathlib.Numerals.{add-one}
 use lib.Dec.{eqb, ltb}
-use lib.ListN.{get_or, drop, drop_of_length-le}
-use lib.Seq.{drop-cons}
 use Rattle.tlv.specs.declared.Step.TheVariants.{Field, End}
-use Rattle.tlv.specs.Reading.{field_at, Part, Stands, between, piece_of, parts, fills, all}
+use Rattle.tlv.specs.Reading.{field_at, Part, Stands, between, piece_of, parts, fills}
 use Rattle.tlv.specs.Reading.{refusal_of as cut_of}
 use Rattle.tlv.proofs.Walks.{by_fields, walk_end, walk_cut, walk_field, parts_end, parts_field, filled_end, filled_cut, filled_field}
-use Rattle.record.specs.Judging.{framed, task_size, judge_field, joined, judged, required_tags, has_required, refusal_of}
+use Rattle.record.specs.Judging.{framed, task_size, judge_field, joined, judged, has_required, refusal_of}
 use Rattle.record.specs.Conditions.{GoodField, GoodFields}
 use Rattle.record.specs.Rule.{rule_of, is_known, fits_rule}
-use Rattle.record.specs.Finding.{span_of, is_there}
 
 module _ (t : List ℕ) where
   pub judged_end : (at last : ℕ) → field_at t at ≡ End → judged t at last ≡ 0
@@ -51,17 +47,17 @@ module _ (t : List ℕ) where
     pub judging_cut : cut_of (field_at t at) ≡ 31 → 31 ≡ judged t 3 0
     judging_cut e = sym (so_far.same ∙ judged_cut at last e)
 
-    module _ {tag from to : ℕ} (here : field_at t at ≡ Field tag from to) (n : ℕ) (e : n ≡ number_of tag from to last) where
-      pub judging-stops : (n ≡ 0 → ⊥) → n ≡ judged t 3 0
-      judging-stops h =
+    module _ {tag from to : ℕ} (here : field_at t at ≡ Field tag from to) where
+      pub judging-stops : (n : ℕ) → n ≡ number_of tag from to last → (n ≡ 0 → ⊥) → n ≡ judged t 3 0
+      judging-stops n e h =
           let p : Part = record { at = at; tag = tag; from = from; to = to } in
           let other : number_of tag from to last ≡ 0 → ⊥ = λ z. h (e ∙ z) in
           e ∙ sym (so_far.same ∙ judged_field p last here ∙ rw (ne_eqb (number_of tag from to last) 0 other))
 
-      pub judging-steps : n ≡ 0 → SoFar to tag
-      judging-steps h =
+      pub judging-steps : 0 ≡ number_of tag from to last → SoFar to tag
+      judging-steps e =
           let p : Part = record { at = at; tag = tag; from = from; to = to } in
-          record { same = so_far.same ∙ judged_field p last here ∙ rw (eq-eqb (number_of tag from to last) 0 (sym e ∙ h)) }
+          record { same = so_far.same ∙ judged_field p last here ∙ rw (eq-eqb (number_of tag from to last) 0 (sym e)) }
 
 -- the ways to a field's number
 module _ (task tag last : ℕ) (body : List ℕ) where
@@ -82,26 +78,6 @@ module _ (task tag last : ℕ) (body : List ℕ) where
       pub body-bad : fits_rule (rule_of tag) task body ≡ false → 34 ≡ judge_field task tag body last
       unfolding judge_field
       body-bad e = rw (lt-ltb last tag up, known, e)
-
--- the required tags, one after the other
-module _ (t : List ℕ) where
-  pub record Checked (i : ℕ) : Type 0 where
-    pub within : i ≤ 12
-    pub same : has_required t ≡ all (λ tag. is_there (span_of t tag)) (drop i required_tags)
-
-  pub checking_starts : Checked 0
-  unfolding has_required
-  checking_starts = record { within = omega arith; same = refl }
-
-  module _ {i : ℕ} (c : Checked i) where
-    pub checking_stops : i < 12 → is_there (span_of t (get_or required_tags i 0)) ≡ false → false ≡ has_required t
-    checking_stops h e = sym (c.same ∙ rw (drop-cons required_tags i 0 h, e))
-
-    pub checking_steps : i < 12 → is_there (span_of t (get_or required_tags i 0)) ≡ true → Checked (i + 1)
-    checking_steps h e = record { within = omega arith; same = c.same ∙ rw (add-one i, drop-cons required_tags i 0 h, e) }
-
-    pub checking_ends : 12 ≤ i → true ≡ has_required t
-    checking_ends h = sym (c.same ∙ rw (drop_of_length-le required_tags {i = i} h))
 
 -- a field without a number is good, and a good field has none
 pub field_good : (task tag last : ℕ) (body : List ℕ) → judge_field task tag body last ≡ 0 → GoodField task last (record { tag = tag; body = body })

@@ -14,7 +14,8 @@ use lib.ListN.{length, take, drop, length-take, drop_of_length-le}
 use lib.Seq.{take_at, take-take}
 use Rattle.tlv.specs.Number.{Bytes}
 use Rattle.tlv.specs.Grammar.{Piece, field_bytes, fields_bytes, FieldAt}
-use Rattle.tlv.specs.Reading.{Part, part_at, Stands, between, piece_of, all}
+use Rattle.std.specs.List.{list_all}
+use Rattle.tlv.specs.Reading.{Part, part_at, Stands, between, piece_of}
 use Rattle.tlv.proofs.Fields.{Found, field_found, field_all, field_is, refusal_is, refusal_all, end_all}
 use Rattle.tlv.proofs.Places.{between_length, between_end, between_join, between_is, stands_widens}
 use Rattle.tlv.proofs.Walks.{by_fields}
@@ -24,7 +25,6 @@ use Rattle.record.specs.Rule.{rule_of, is_known, fits_rule}
 use Rattle.record.specs.Judging.{framed, task_size, judge_field, joined, judged, required_tags, has_required, refusal_of}
 use Rattle.record.specs.Conditions.{GoodField, GoodFields, last_tag, Framed, GoodUpTo, Lacks, Breaks, unframed, runs_past, wrong_tag, wrong_body, lacks_tag}
 use Rattle.record.specs.Finding.{span_of, is_there}
-use Rattle.record.specs.declared.find.Span.TheVariants.{Absent}
 use Rattle.record.proofs.Finding.{lookup}
 use Rattle.record.proofs.Bodies.{pieces_in, body_absent, body_there}
 use Rattle.record.proofs.Judging.{judged_end, judged_cut, judged_field, field_good, body-good, body-bad, judged_zero, not_framed, field_refused, tag-missing}
@@ -77,7 +77,7 @@ none_lacks tag (p ∷ ps) e = go (eqb p.tag tag) refl (none_lacks tag ps)
         absurd (let z : ◌≡◌ {A = ℕ} 0 1 = cc in omega arith)
     go false h rest = (eqb-false p.tag tag h, rest (rw h at e))
 
-all_false : (ok : ℕ → Bool) (x : ℕ) (l : List ℕ) → Memᴰ x l → ok x ≡ false → all ok l ≡ false
+all_false : (ok : ℕ → Bool) (x : ℕ) (l : List ℕ) → Memᴰ x l → ok x ≡ false → list_all ok l ≡ false
 all_false ok x [] m e = absurd (Memᴰ.not-nil m)
 all_false ok x (y ∷ l) m e =
     ⊎_elim
@@ -91,11 +91,11 @@ record Fails (ok : ℕ → Bool) (l : List ℕ) : Type 0 where
   in_list : Memᴰ at l
   fails : ok at ≡ false
 
-one_fails : (ok : ℕ → Bool) (l : List ℕ) → all ok l ≡ false → Fails ok l
+one_fails : (ok : ℕ → Bool) (l : List ℕ) → list_all ok l ≡ false → Fails ok l
 one_fails ok [] e = absurd (false≢true (sym e))
 one_fails ok (x ∷ l) e = go (ok x) refl (λ r. one_fails ok l r)
   where
-    go : (b : Bool) → ok x ≡ b → (all ok l ≡ false → Fails ok l) → Fails ok (x ∷ l)
+    go : (b : Bool) → ok x ≡ b → (list_all ok l ≡ false → Fails ok l) → Fails ok (x ∷ l)
     go false h rest = record { at = x; in_list = Memᴰ.head refl; fails = h }
     go true h rest =
         let r : Fails ok l = rest (rw h at e) in
@@ -181,7 +181,7 @@ breaks_number t k (wrong_body e at ps tag from to g f up known h) =
 breaks_number t k (lacks_tag e ps tag g m l) =
     let zero-all : judged t 3 0 ≡ 0 = judged_so_far t g ∙ judged_end t (length t) (last_tag 0 ps) (end_all t (length t) (omega arith)) in
     let pieces : pieces_in t ≡ ps = made_pieces t ps 3 (sym (between_end t 3) ∙ g.fields) in
-    let absent : span_of t tag ≡ Absent = body_absent t tag (ap (lookup tag) pieces ∙ lacks_none tag ps l) in
+    let absent : span_of t tag ≡ None = body_absent t tag (ap (lookup tag) pieces ∙ lacks_none tag ps l) in
     rw e (sym (tag-missing t (framed_all t g.frame) zero-all (not_all t tag m (ap is_there absent))))
 
 -- ---- a number gives its condition
@@ -252,7 +252,7 @@ module _ (t : List ℕ) (bytes : Bytes t) where
 
   number_breaks : (k : ℕ) → refusal_of t ≡ k → (k ≡ 0 → ⊥) → Breaks t k
   unfolding refusal_of has_required fields_bytes
-  number_breaks k e h = go (framed t) (eqb (judged t 3 0) 0) (all (λ n. is_there (span_of t n)) required_tags) refl refl refl e
+  number_breaks k e h = go (framed t) (eqb (judged t 3 0) 0) (list_all (λ n. is_there (span_of t n)) required_tags) refl refl refl e
     where
       start : framed t ≡ true → GoodUpTo t 3 []
       start f =
@@ -265,7 +265,7 @@ module _ (t : List ℕ) (bytes : Bytes t) where
             good = tt;
           }
 
-      go : (x y z : Bool) → framed t ≡ x → eqb (judged t 3 0) 0 ≡ y → all (λ n. is_there (span_of t n)) required_tags ≡ z
+      go : (x y z : Bool) → framed t ≡ x → eqb (judged t 3 0) 0 ≡ y → list_all (λ n. is_there (span_of t n)) required_tags ≡ z
           → cond x (cond y (cond z 0 33) (judged t 3 0)) 30 ≡ k → Breaks t k
       go false y z a b c e = unframed (sym e) (λ f. false≢true (sym a ∙ framed_all t f))
       go true false z a b c e = field_breaks 3 [] k (start a) e h

@@ -1,20 +1,22 @@
 -- The promises of reading: with 256 slots a text is accepted exactly if it is a record, and its entry is the one that the record is of; a record has
 -- one reading and at most 5,227 bytes; each number is told exactly where its condition holds; a refusal changes nothing; no second answer. Assumes nothing.
-use Rattle.std.specs.Prelude.{Err, None, Ok, Option, Result, Some}
+use Rattle.std.specs.Prelude.{Err, None, Option, Result, Some}
 use Rattle.refusal.specs.declared.Refusal.{Refusal}
+use Rattle.refusal.specs.Told.{told}
+use Rattle.refusal.proofs.Told.{one_told}
 use Prim.Native.Nat.{ℕ, ◌+◌, ◌≤◌, ◌<◌}
 use mathlib.Core.Path.{◌≡◌, ◌∙◌, sym, ap, refl}
 use mathlib.Core.Bool.{Bool, true, false, cond}
 use mathlib.Core.List.{List}
 use mathlib.Core.Logic.{◌↔◌, ⊎_elim}
-use mathlib.Core.Option.{map}
+use Rattle.std.specs.Option.{option_map}
 use native.Mathlib.Omega.{arith}
 use borrow.Author.Tests.{le-leb, lt-leb, leb-true, leb-false}
 use lib.Dec.{leb}
 use lib.ListN.{length, drop, length-append}
 use lib.Seq.{take-append_seam}
 use Rattle.text.specs.Told as T
-use Rattle.text.proofs.Told.{by_cases, fixed_by_told, number_first, value_behind, number_behind}
+use Rattle.text.proofs.Told.{number_first, value_behind, number_behind}
 use Rattle.tlv.specs.Number.{Bytes, number_bytes}
 use Rattle.tlv.specs.Grammar.{fields_bytes}
 use Rattle.tlv.proofs.Numbers.{number_bytes_length}
@@ -26,7 +28,7 @@ use Rattle.record.specs.Grammar.{rows_of, present, record_bytes, IsRecord}
 use Rattle.record.specs.Judging.{refusal_of}
 use Rattle.record.specs.Conditions.{Breaks, unframed, runs_past, wrong_tag, wrong_body, lacks_tag, Refuses, breaks, few_slots}
 use Rattle.record.specs.Gathering.{entry_of}
-use Rattle.record.specs.Reading.{over, dword_count, dwords_of, answer_told, read_of, slots_by, Reading}
+use Rattle.record.specs.Reading.{over, dword_count, dwords_of, read_of, slots_by, Reading}
 use Rattle.record.proofs.Rows.{size_of, present_length}
 use Rattle.record.proofs.Bodies.{dwords_bytes_length}
 use Rattle.record.proofs.Complete.{value_in, part_all, record_not_refused, record_dword_count, record_value}
@@ -104,7 +106,7 @@ accepted_is_record t bytes n e q = passes_is t bytes (passes_all t (entry_answer
 pub one_record_reading : (t : List ℕ) (v w : EntryValue) → IsRecord t v → IsRecord t w → v ≡ w
 one_record_reading t v w a b = sym (record_value t v a) ∙ record_value t w b
 
-optional_size : (k : ℕ) (o : Option ℕ) → size_of (map (number_bytes k) o) ≤ k + 3
+optional_size : (k : ℕ) (o : Option ℕ) → size_of (option_map (number_bytes k) o) ≤ k + 3
 optional_size k None = omega arith
 optional_size k (Some n) = omega (arith, number_bytes_length k n)
 
@@ -141,7 +143,7 @@ record_at_most_5227 t v r =
     )
 
 -- a refusal changes nothing
-pub refused_reading_changes_nothing : (t slots : List ℕ) (n : ℕ) (left : List ℕ) → Reading t slots (Err n) left → left ≡ slots
+pub refused_reading_changes_nothing : (t slots : List ℕ) (n : Refusal) (left : List ℕ) → Reading t slots (Err n) left → left ≡ slots
 unfolding slots_by
 refused_reading_changes_nothing t slots n left r = r.slots_left
 
@@ -190,17 +192,9 @@ record_refused_exactly t bytes slots k = (is, all)
 
 -- ---- no second answer
 
--- two answers that tell the same are the same
-pub one_record_answer : (a b : Result Entry Refusal) → answer_told a ≡ answer_told b → a ≡ b
-one_record_answer = fixed_by_told answer_told (by_cases Ok (Err 0) Err) same
-  where
-    same : (a : Result Entry Refusal) → by_cases Ok (Err 0) Err (answer_told a) ≡ a
-    same (Ok e) = refl
-    same (Err n) = refl
-
 -- no second answer satisfies the contract, slots included
 pub no_second_reading : (t slots : List ℕ) {r s : Result Entry Refusal} {left other : List ℕ} → Reading t slots r left → Reading t slots s other
     → (r ≡ s) × (left ≡ other)
 no_second_reading t slots {r} {s} a b =
-    let same : answer_told r ≡ answer_told s = a.answer ∙ sym b.answer in
-    (one_record_answer r s same, a.slots_left ∙ rw same (sym b.slots_left))
+    let same : told r ≡ told s = a.answer ∙ sym b.answer in
+    (one_told r s same, a.slots_left ∙ rw same (sym b.slots_left))

@@ -5,7 +5,7 @@ use Prim.Native.Nat.{ℕ, suc, ◌+◌, ◌*◌, ◌/◌, ◌≤◌, ◌<◌}
 use mathlib.Core.Path.{◌≡◌, ◌∙◌, sym, ap, refl}
 use mathlib.Core.Bool.{Bool, true, false, cond, not, false≢true}
 use mathlib.Core.List.{List, [], ◌∷◌, ◌++◌, append-nil}
-use mathlib.Core.Option.{map}
+use Rattle.std.specs.Option.{option_map}
 use native.Mathlib.Omega.{arith}
 use native.Mathlib.Decide.{dec_le}
 use borrow.Author.Tests.{eqb-true, eqb-false, leb-true, ltb-true, not-true}
@@ -29,7 +29,6 @@ use Rattle.record.specs.declared.rule.Letters.TheVariants as L
 use Rattle.record.specs.declared.rule.Rule.{Rule}
 use Rattle.record.specs.declared.rule.Rule.TheVariants as R
 use Rattle.record.specs.declared.find.Span.{Span}
-use Rattle.record.specs.declared.find.Span.TheVariants.{At, Absent}
 use Rattle.record.specs.Grammar.{flag, dwords_bytes, rows_of, present, record_bytes, Below, TaskText, FunctionText, Ranged, IsRecord}
 use Rattle.record.specs.Rule.{bytes_of, rule_of, is_known, is_letter, fits_text, fits_rule}
 use Rattle.record.specs.Judging.{framed, framed_by, task_size, judged, required_tags, has_required, refusal_of}
@@ -43,7 +42,7 @@ use Rattle.record.proofs.Rows.{rows_from, found_by_tag, good_rising, good_lookup
 use Rattle.record.proofs.Judging.{judged_zero}
 use Rattle.record.proofs.Slots.{dwords_length}
 use Rattle.record.proofs.Bodies.{all_is, bytes_number, fits_number_is, fits_text_is, fits_dwords_is, dwords_made, dwords_below, pieces_in, Body, body_found, body_absent, body_bytes, number_read, text_read, place_within, place_length, dwords_read}
-use Rattle.record.proofs.Complete.{value_in, byte_value_lem, word_value_lem, part_all, task_size_lem}
+use Rattle.record.proofs.Complete.{value_in, part_all, task_size_lem}
 
 -- ---- what no number says
 
@@ -97,7 +96,7 @@ good_low task last (p ∷ ps) g = (known_low p.tag g.0.known, good_low task p.ta
 module _ (t : List ℕ) (bytes : Bytes t) (good : GoodFields (task_size t) 0 (pieces_in t)) where
   -- a number's field is the bytes of the number that is read, and the number is within its limit
   record Numbered (tag k limit : ℕ) : Type 0 where
-    is : map (number_bytes k) (maybe_of k t tag) ≡ lookup tag (pieces_in t)
+    is : option_map (number_bytes k) (maybe_of k t tag) ≡ lookup tag (pieces_in t)
     low : Below (suc limit) (maybe_of k t tag)
 
   numbered : (tag : ℕ) (w : Width) (limit : ℕ) → rule_of tag ≡ R.Number w limit → Numbered tag (bytes_of w) limit
@@ -106,7 +105,7 @@ module _ (t : List ℕ) (bytes : Bytes t) (good : GoodFields (task_size t) 0 (pi
     where
       go : (o : Option (List ℕ)) → lookup tag (pieces_in t) ≡ o → Numbered tag (bytes_of w) limit
       go None e =
-          let absent : span_of t tag ≡ Absent = body_absent t tag e in
+          let absent : span_of t tag ≡ None = body_absent t tag e in
           record { is = rw (absent, e); low = rw absent tt }
       go (Some b) e =
           let fits : fits_rule (R.Number w limit) (task_size t) b ≡ true = rw rule at (good_lookup (task_size t) (pieces_in t) 0 good tag b e) in
@@ -114,7 +113,7 @@ module _ (t : List ℕ) (bytes : Bytes t) (good : GoodFields (task_size t) 0 (pi
           let body : Body t tag b = body_found t tag b e in
           let read : maybe_of (bytes_of w) t tag ≡ Some (number (bytes_of w) b 0) = number_read t body (bytes_of w) f.0 in
           record {
-            is = ap (map (number_bytes (bytes_of w))) read ∙ rw e (ap Some (sym (bytes_number (bytes_of w) b (body_bytes t body bytes) f.0)));
+            is = ap (option_map (number_bytes (bytes_of w))) read ∙ rw e (ap Some (sym (bytes_number (bytes_of w) b (body_bytes t body bytes) f.0)));
             low = rw read (omega (arith, f.1));
           }
 
@@ -127,9 +126,9 @@ module _ (t : List ℕ) (bytes : Bytes t) (good : GoodFields (task_size t) 0 (pi
   unfolding number_of maybe_of
   needed tag w limit rule there = go (span_of t tag) refl there (numbered tag w limit rule)
     where
-      go : (s : Span) → span_of t tag ≡ s → is_there s ≡ true → Numbered tag (bytes_of w) limit → Needed tag (bytes_of w) limit
-      go (At from to) h k n = record { is = rw h (rw h at n.is); low = rw h (rw h at n.low) }
-      go Absent h k n = absurd (false≢true k)
+      go : (o : Option Span) → span_of t tag ≡ o → is_there o ≡ true → Numbered tag (bytes_of w) limit → Needed tag (bytes_of w) limit
+      go (Some s) h k n = record { is = rw h (rw h at n.is); low = rw h (rw h at n.low) }
+      go None h k n = absurd (false≢true k)
 
   -- a field that is not a number, by its body
   record Bodied (tag : ℕ) (rule : Rule) : Type 0 where
@@ -292,17 +291,13 @@ module _ (t : List ℕ) (bytes : Bytes t) (p : Passes t) where
       let e06 : Some (value_in t).function ≡ lookup 6 (pieces_in t) = ap Some (text_read t function.has) ∙ sym function.found in
       let e09 : Some (number_bytes 1 (flag (eqb (number_of 1 t 9) 1))) ≡ lookup 9 (pieces_in t) =
       ap (λ (n : ℕ). Some (number_bytes 1 n)) (flag_forth (number_of 1 t 9) dropped.low) ∙ dropped.is in
-      let word : (tag : ℕ) → map (number_bytes 2) (word_of t tag) ≡ map (number_bytes 2) (maybe_of 2 t tag) =
-      λ tag. ap (map (number_bytes 2)) (word_value_lem (maybe_of 2 t tag)) in
-      let byte : (tag : ℕ) → map (number_bytes 1) (byte_of t tag) ≡ map (number_bytes 1) (maybe_of 1 t tag) =
-      λ tag. ap (map (number_bytes 1)) (byte_value_lem (maybe_of 1 t tag)) in
-      let e0c : map (number_bytes 2) (value_in t).offset ≡ lookup 12 (pieces_in t) = word 12 ∙ offset.is in
-      let e0d : map (number_bytes 1) (value_in t).code ≡ lookup 13 (pieces_in t) = byte 13 ∙ code.is in
-      let e0e : map (number_bytes 2) (value_in t).len ≡ lookup 14 (pieces_in t) = word 14 ∙ len.is in
-      let e0f : map (number_bytes 1) (value_in t).port ≡ lookup 15 (pieces_in t) = byte 15 ∙ port.is in
-      let e10 : map (number_bytes 1) (value_in t).config ≡ lookup 16 (pieces_in t) = byte 16 ∙ config.is in
-      let e11 : map (number_bytes 1) (value_in t).seq ≡ lookup 17 (pieces_in t) = byte 17 ∙ seq.is in
-      let e12 : map (number_bytes 1) (value_in t).unplug ≡ lookup 18 (pieces_in t) = byte 18 ∙ unplug.is in
+      let e0c : option_map (number_bytes 2) (value_in t).offset ≡ lookup 12 (pieces_in t) = offset.is in
+      let e0d : option_map (number_bytes 1) (value_in t).code ≡ lookup 13 (pieces_in t) = code.is in
+      let e0e : option_map (number_bytes 2) (value_in t).len ≡ lookup 14 (pieces_in t) = len.is in
+      let e0f : option_map (number_bytes 1) (value_in t).port ≡ lookup 15 (pieces_in t) = port.is in
+      let e10 : option_map (number_bytes 1) (value_in t).config ≡ lookup 16 (pieces_in t) = config.is in
+      let e11 : option_map (number_bytes 1) (value_in t).seq ≡ lookup 17 (pieces_in t) = seq.is in
+      let e12 : option_map (number_bytes 1) (value_in t).unplug ≡ lookup 18 (pieces_in t) = unplug.is in
       let e13 : Some (dwords_bytes (value_in t).dwords) ≡ lookup 19 (pieces_in t) =
       ap (λ (ds : List ℕ). Some (dwords_bytes ds)) dwords_part ∙ ap Some dwords_bytes_lem ∙ sym words.found in
       λ i.
@@ -386,13 +381,13 @@ module _ (t : List ℕ) (bytes : Bytes t) (p : Passes t) where
         size = size.low;
         domain = domain.low;
         route = route.low;
-        offset = rw (word_value_lem (maybe_of 2 t 12)) offset.low;
-        code = rw (byte_value_lem (maybe_of 1 t 13)) code.low;
-        len = rw (word_value_lem (maybe_of 2 t 14)) len.low;
-        port = rw (byte_value_lem (maybe_of 1 t 15)) port.low;
-        config = rw (byte_value_lem (maybe_of 1 t 16)) config.low;
-        seq = rw (byte_value_lem (maybe_of 1 t 17)) seq.low;
-        unplug = rw (byte_value_lem (maybe_of 1 t 18)) unplug.low;
+        offset = offset.low;
+        code = code.low;
+        len = len.low;
+        port = port.low;
+        config = config.low;
+        seq = seq.low;
+        unplug = unplug.low;
         dwords = rw (dwords_part, dwords_are) (dwords_below words.body (body_bytes t words.has bytes) (length words.body / 4) 0);
         few = rw (dwords_part, dwords_count) count_few;
       }

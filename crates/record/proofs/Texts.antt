@@ -8,7 +8,8 @@ use borrow.Author.Tests.{lt-ltb, le-ltb, le-leb, lt-leb, eq-eqb, ne_eqb}
 use lib.Dec.{leb}
 use lib.ListN.{length, get_or, drop_of_length-le, length-take, get_or-eq_default}
 use Rattle.tlv.specs.Number.{number}
-use Rattle.tlv.specs.Reading.{between, all}
+use Rattle.std.specs.List.{list_all}
+use Rattle.tlv.specs.Reading.{between}
 use Rattle.tlv.proofs.Places.{between_length, between_first, number_between}
 use Rattle.record.specs.declared.rule.Letters.TheVariants as L
 use Rattle.record.specs.declared.rule.Rule.TheVariants as R
@@ -28,7 +29,7 @@ pub record Passed (s : List ℕ) (to : ℕ) (ok : ℕ → Bool) (from i : ℕ) :
   pub some : from < to
   pub up : from ≤ i
   pub inside : i ≤ to
-  pub same : all ok (between s from to) ≡ all ok (between s i to)
+  pub same : list_all ok (between s from to) ≡ list_all ok (between s i to)
 
 module _ (s : List ℕ) (to : ℕ) (within : to ≤ length s) where
   -- nothing lies between a place and itself
@@ -43,7 +44,7 @@ module _ (s : List ℕ) (to : ℕ) (within : to ≤ length s) where
     pub passed_starts : from ≤ to → (from ≡ to → ⊥) → Passed s to ok from from
     passed_starts h n = record { some = omega arith; up = omega arith; inside = h; same = refl }
 
-    fits_all : from < to → fits_text ok (between s from to) ≡ all ok (between s from to)
+    fits_all : from < to → fits_text ok (between s from to) ≡ list_all ok (between s from to)
     unfolding fits_text
     fits_all h = rw (lt-ltb 0 (length (between s from to)) (omega (arith, between_length s from to within)))
 

@@ -1,7 +1,7 @@
 -- The record of an entry, as what its bytes are made from. Nothing here searches: the bytes are a function of what the entry says.
 -- Assumes nothing.
 use Rattle.std.specs.Prelude.{ℕ, ◌+◌, ◌≤◌, ◌<◌, ◌^◌, ◌≡◌, Bool, true, cond, List, [], ◌∷◌, ◌++◌, length, None, Option, Some}
-use Rattle.std.proofs.Math.Option.{map}
+use Rattle.std.specs.Option.{option_map}
 use Rattle.text.specs.Class.{is_word}
 use Rattle.tlv.specs.Number.{number_bytes}
 use Rattle.tlv.specs.Grammar.{Piece, field_bytes, fields_bytes, All}
@@ -18,7 +18,7 @@ required tag body = record { tag = tag; body = Some body }
 
 -- a number of k bytes that is there exactly when the entry has it
 abbrev pub optional : ℕ → ℕ → Option ℕ → Row
-optional tag k n = record { tag = tag; body = map (number_bytes k) n }
+optional tag k n = record { tag = tag; body = option_map (number_bytes k) n }
 
 -- a flag as a number, 0 or 1
 abbrev pub flag : Bool → ℕ

@@ -1,9 +1,10 @@
 -- Numbers 30 to 34 of a text, in the order of document 01: 30; field by field 31, 32, 34; then 33.
 -- Assumes nothing.
 use Rattle.std.specs.Prelude.{ℕ, ◌-◌, Bool, false, cond, ◌&&◌, List, [], ◌∷◌, ltb, eqb, length}
+use Rattle.std.specs.List.{list_all}
 use Rattle.tlv.specs.declared.Step.{Step}
 use Rattle.tlv.specs.declared.Step.TheVariants.{Field, Stray, Overrun, End}
-use Rattle.tlv.specs.Reading.{field_at, Part, between, walk, all}
+use Rattle.tlv.specs.Reading.{field_at, Part, between, walk}
 use Rattle.record.specs.Rule.{rule_of, is_known, fits_rule}
 use Rattle.record.specs.Finding.{span_of, is_there}
 
@@ -50,7 +51,7 @@ required_tags = 1 ∷ 2 ∷ 3 ∷ 4 ∷ 5 ∷ 6 ∷ 7 ∷ 8 ∷ 9 ∷ 10 ∷ 11 
 
 -- number 33 is not due
 unfoldable pub has_required : List ℕ → Bool
-has_required t = all (λ tag. is_there (span_of t tag)) required_tags
+has_required t = list_all (λ tag. is_there (span_of t tag)) required_tags
 
 -- a number that is 0 gives way to the next
 abbrev pub or_else : ℕ → ℕ → ℕ

@@ -1,7 +1,8 @@
 -- What reading a record answers, and what it leaves in the slots.
 -- Assumes nothing.
 use Rattle.refusal.specs.declared.Refusal.{Refusal}
-use Rattle.std.specs.Prelude.{ℕ, zero, suc, ◌+◌, ◌/◌, ◌≡◌, cond, List, [], ◌∷◌, ◌++◌, leb, length, drop, Err, Ok, Result}
+use Rattle.std.specs.Prelude.{ℕ, zero, suc, ◌+◌, ◌/◌, ◌≡◌, cond, List, [], ◌∷◌, ◌++◌, leb, length, drop, Result}
+use Rattle.refusal.specs.Told.{told}
 use Rattle.text.specs.Told.{Told, is, absent, refused, unless}
 use Rattle.tlv.specs.Number.{number}
 use Rattle.entry.specs.declared.Entry.{Entry}
@@ -26,11 +27,6 @@ dword_count t = (place_of t 0x13).len / 4
 unfoldable pub dwords_of : List ℕ → List ℕ
 dwords_of t = dwords_at t (place_of t 0x13).from (dword_count t)
 
--- what each case of an answer tells: the entry, or document 01's number
-abbrev pub answer_told : Result Entry Refusal → Told Entry
-answer_told (Ok e) = is e
-answer_told (Err n) = refused n
-
 -- what is told of a text, with so many slots lent: 30 to 34, then 35, else the entry
 unfoldable pub read_of : List ℕ → ℕ → Told Entry
 read_of t slots = unless (refusal_of t) (cond (leb (dword_count t) slots) (is (entry_of t)) (refused 35))
@@ -43,5 +39,5 @@ slots_by (refused n) new slots = slots
 
 -- what a call answers and leaves in the slots
 pub record Reading (t slots : List ℕ) (r : Result Entry Refusal) (left : List ℕ) : Type 0 where
-  pub answer : answer_told r ≡ read_of t (length slots)
-  pub slots_left : left ≡ slots_by (answer_told r) (dwords_of t) slots
+  pub answer : told r ≡ read_of t (length slots)
+  pub slots_left : left ≡ slots_by (told r) (dwords_of t) slots

@@ -3,7 +3,7 @@
 use Rattle.std.specs.Prelude.{ℕ, ◌+◌, ◌%◌, Bool, true, false, not, ◌&&◌, List, [], ◌∷◌, ltb, leb, eqb, length, get_or}
 use Rattle.text.specs.Class.{is_word}
 use Rattle.tlv.specs.Number.{number}
-use Rattle.tlv.specs.Reading.{all}
+use Rattle.std.specs.List.{list_all}
 use Rattle.record.specs.declared.rule.Width.{Width}
 use Rattle.record.specs.declared.rule.Width.TheVariants.{One, Two, Four, Eight}
 use Rattle.record.specs.declared.rule.Letters.{Letters}
@@ -62,7 +62,7 @@ is_letter L.Function b = is_word b
 
 -- one or more bytes that all pass
 unfoldable pub fits_text : (ℕ → Bool) → List ℕ → Bool
-fits_text ok s = ltb 0 (length s) && all ok s
+fits_text ok s = ltb 0 (length s) && list_all ok s
 
 -- a number of k bytes within a limit
 unfoldable pub fits_number : ℕ → ℕ → List ℕ → Bool

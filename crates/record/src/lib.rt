@@ -17,7 +17,7 @@ ghost use Rattle.record.specs.Reading.{Reading, dwords_at, over};
 
 use crate::find::place_of;
 use crate::gather::entry_of;
-use crate::judge::refusal;
+use crate::judge::judge;
 use entry::Entry;
 use refusal::Refusal;
 use tlv::four_at;
@@ -27,10 +27,7 @@ use tlv::four_at;
 pub fn read(text: &[u8], slots: &mut [u32]) -> Result<Entry, Refusal>
     ensures { Reading text.now slots.old result slots.new }
 {
-    let number = refusal(text);
-    if number != 0 {
-        return Err(number);
-    }
+    judge(text)?;
     let data = place_of(text, 0x13);
     let n = data.len / 4;
     if slots.len() < n {

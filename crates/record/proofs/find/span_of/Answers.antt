@@ -1,7 +1,6 @@
 -- `find::span_of` meets its contract: the field sought is the one `Sought` from the loop's place on. Assumes nothing.
-use Rattle.record.proofs.Finding.{Moves, field_moves, seeking_starts, sought_end, sought_cut, sought-hit, sought-miss}
-use Rattle.tlv.specs.Reading.{refusal_of}
-use mathlib.Core.Path.{sym, ap, ◌∙◌}
+use Rattle.record.proofs.Finding.{Moves, field_moves, seeking_starts, sought_over, sought-hit, sought-miss}
+use mathlib.Core.Path.{sym, ◌∙◌}
 use native.Mathlib.Omega.{arith}
 use Rattle.record.proofs.find.span_of.Goals as goal
 
@@ -9,19 +8,13 @@ pub loop-found-init : goal.loop-found-init
 loop-found-init c = seeking_starts _ _
 
 pub returns-then-found-tag : goal.returns-then-found-tag
-returns-then-found-tag c = sought-hit _ _ c.loop-found.invariant (sym c.field_at-step.ensures ∙ c.in-Field.is) c.if-found-tag.true
+returns-then-found-tag c = sought-hit _ _ c.loop-found.invariant (sym c.field_at.ensures ∙ c.in-Field.is) c.if-found-tag.true
 
 pub loop-found-smaller : goal.loop-found-smaller
-loop-found-smaller c = let m : Moves _ _ _ _ = field_moves _ _ (sym c.field_at-step.ensures ∙ c.in-Field.is) in omega arith
+loop-found-smaller c = let m : Moves _ _ _ _ = field_moves _ _ (sym c.field_at.ensures ∙ c.in-Field.is) in omega arith
 
 pub loop-found-preserved : goal.loop-found-preserved
-loop-found-preserved c = sought-miss _ _ c.loop-found.invariant (sym c.field_at-step.ensures ∙ c.in-Field.is) c.if-found-tag.false
+loop-found-preserved c = sought-miss _ _ c.loop-found.invariant (sym c.field_at.ensures ∙ c.in-Field.is) c.if-found-tag.false
 
-pub returns-in-Stray : goal.returns-in-Stray
-returns-in-Stray c = sought_cut _ _ c.loop-found.invariant (ap refusal_of (sym c.field_at-step.ensures ∙ c.in-Stray.is))
-
-pub returns-in-Overrun : goal.returns-in-Overrun
-returns-in-Overrun c = sought_cut _ _ c.loop-found.invariant (ap refusal_of (sym c.field_at-step.ensures ∙ c.in-Overrun.is))
-
-pub returns-in-End : goal.returns-in-End
-returns-in-End c = sought_end _ _ c.loop-found.invariant (sym c.field_at-step.ensures ∙ c.in-End.is)
+pub returns : goal.returns
+returns c = sought_over _ _ c.loop-found.invariant (λ tag from to e. c.in_default.not-Field tag from to (c.field_at.ensures ∙ e))

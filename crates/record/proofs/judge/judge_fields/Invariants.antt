@@ -1,8 +1,8 @@
--- `judge::judge` meets its contract: the number so far is `SoFar`. Assumes nothing.
+-- `judge::judge_fields` meets its contract: the number so far is `SoFar`. Assumes nothing.
 use Prim.Native.Nat.{◌-◌}
 use Rattle.record.proofs.Judging.{SoFar}
 use lib.ListN.{length}
-use Rattle.record.proofs.judge.judge.Given as goal
+use Rattle.record.proofs.judge.judge_fields.Given as goal
 
 abbrev pub invariant-loop-tag : goal.invariant-loop-tag
 invariant-loop-tag l = SoFar l.text l.at l.last

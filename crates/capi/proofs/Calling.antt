@@ -4,11 +4,12 @@ use Rattle.refusal.specs.declared.Refusal.{Refusal}
 use Prim.Native.Nat.{ℕ}
 use mathlib.Core.Path.{◌≡◌, refl, ap, ◌∙◌}
 use mathlib.Core.List.{List}
+use Rattle.refusal.specs.Told.{told}
 use Rattle.text.specs.Told as T
 use Rattle.entry.specs.declared.Entry.{Entry}
 use Rattle.text.specs.Told.{maybe}
 use Rattle.scan.specs.Parse.{slots_by}
-use Rattle.writer.specs.Writing.{Writing, written_told, buffer_by}
+use Rattle.writer.specs.Writing.{Writing, buffer_by}
 use Rattle.c_entry.specs.declared.Flat.{Flat}
 use Rattle.c_entry.specs.Flat.{flat_byte, flat_flag, raised_told, raise_of}
 use Rattle.capi.specs.declared.EntryAnswer.{EntryAnswer}
@@ -25,7 +26,7 @@ pub handed_on : {q want : T.Told Entry} {ds out exit : List ℕ} {r : EntryAnswe
 handed_on is e s = record { is = is ∙ ap answer_by e; slots = rw (← e) s }
 
 module _ (text : List ℕ) (f : Flat) (dwords out : List ℕ) {q : Option Entry} (raised : raised_told q ≡ raise_of f) {r : WriteAnswer} where
-  pub wrote_entry : {e : Entry} {w : Result ℕ Refusal} {exit : List ℕ} → q ≡ Some e → Writing text e dwords out w exit → r ≡ written_by (written_told w) → Wrote text f dwords out exit r
+  pub wrote_entry : {e : Entry} {w : Result ℕ Refusal} {exit : List ℕ} → q ≡ Some e → Writing text e dwords out w exit → r ≡ written_by (told w) → Wrote text f dwords out exit r
   unfolding write_for record_for
   wrote_entry e p is =
       record { is = rw (← raised, e) (is ∙ ap written_by p.answer); buffer = rw (← raised, e, ← p.answer) p.buffer }

@@ -26,7 +26,7 @@ pub mod told;
 ghost use Rattle.std.specs.Prelude.{◌≡◌, length};
 ghost use Rattle.scan.specs.declared.Pieces.TheVariants as P;
 ghost use Rattle.scan.specs.Parse.{answer_told};
-ghost use Rattle.writer.specs.Writing.{written_told};
+ghost use Rattle.refusal.specs.Told.{told};
 ghost use Rattle.record.specs.Reading.{read_of, dwords_of};
 ghost use Rattle.intake.specs.What.{what_of};
 ghost use Rattle.book.specs.Reading.{check_of};
@@ -207,7 +207,7 @@ fn answer_of(answer: Result<Entry, Refusal>) -> EntryAnswer
 }
 
 fn written_of(written: Result<usize, Refusal>) -> WriteAnswer
-    ensures { result ≡ written_by (written_told written) }
+    ensures { result ≡ written_by (told written) }
 {
     match written {
         Ok(bytes) => WriteAnswer {

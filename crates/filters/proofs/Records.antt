@@ -9,6 +9,7 @@ use native.Mathlib.Omega.{arith}
 use lib.ListN.{length, take, drop, length-drop, replicate, length-replicate}
 use lib.Seq.{sets-eq, take_all, drop-drop, drop-length}
 use borrow.Rule.Slice.PartMut.{Post-is, put_mid, post_of}
+use Rattle.refusal.specs.Told.{told}
 use Rattle.text.specs.Told as T
 use Rattle.tlv.specs.Number.{Bytes}
 use Rattle.tlv.proofs.Places.{bytes_take}
@@ -18,8 +19,9 @@ use Rattle.scan.specs.declared.Pieces.{Pieces}
 use Rattle.scan.specs.Parse.{slots_by}
 use Rattle.scan.proofs.Values.{dwords_part, dwords_whole}
 use Rattle.record.specs.Grammar.{record_bytes}
-use Rattle.writer.specs.Writing.{Writing, written_told, bytes_of, buffer_by}
-use Rattle.writer.proofs.RoundTrips.{one_written, some_written}
+use Rattle.writer.specs.Writing.{Writing, bytes_of, buffer_by}
+use Rattle.refusal.proofs.Told.{one_told}
+use Rattle.writer.proofs.RoundTrips.{some_written}
 use Rattle.intake.specs.Intake.{starts_a1, taken_of, taken_dwords}
 use Rattle.intake.specs.Demand3.{ReadCall, HasRecord}
 use Rattle.intake.proofs.Demand3.{line_has_a_record, record_is_the_writers}
@@ -75,7 +77,7 @@ module _ (pieces : Pieces) (cut : Unit) (rest slots left : List ℕ) {e : Entry}
             let n : length {A = ℕ} (replicate room 0) ≡ room = length-replicate room 0 in
             let r = some_written (take (text_length cut) rest) e left (length {A = ℕ} (replicate room 0)) in
             let w = h.1.written (replicate room 0) r.0 _ (record { enough = omega arith; contract = record { answer = r.1; buffer = refl } }) in
-            rw same (rw n at (sym r.1 ∙ ap written_told w.number));
+            rw same (rw n at (sym r.1 ∙ ap told w.number));
       }
 
   pub unit_record : record_by (take (text_length cut) rest) (T.is e) ≡ bytes_of (take (text_length cut) rest) e left
@@ -97,7 +99,7 @@ module _ (text : List ℕ) (e : Entry) (dwords : List ℕ) (has : Recorded text 
   pub rest_written : r ≡ Ok (length (bytes_of text e dwords))
   rest_written =
       let size : length (take (length out - at) (drop at out)) ≡ length out - at = ap length rest_is ∙ length-drop at out in
-      one_written r (Ok (length (bytes_of text e dwords))) (w.answer ∙ rw size (has.written (length out - at) (omega arith)))
+      one_told r (Ok (length (bytes_of text e dwords))) (w.answer ∙ rw size (has.written (length out - at) (omega arith)))
 
   pub rest_put : Put out at (bytes_of text e dwords) (put_mid at (length out - at) out left) (at + length (bytes_of text e dwords))
   unfolding buffer_by

@@ -12,6 +12,7 @@ use native.Mathlib.Decide.{dec_le}
 use borrow.Author.Tests.{eq-eqb, ne_eqb}
 use lib.Dec.{leb}
 use lib.ListN.{length, replicate}
+use Rattle.refusal.specs.Told.{told}
 use Rattle.text.specs.Told as T
 use Rattle.text.proofs.Told.{by_cases, fixed_by_told}
 use Rattle.tlv.specs.Number.{Bytes}
@@ -30,7 +31,7 @@ use Rattle.record.specs.Conditions.{Breaks, unframed, runs_past, wrong_tag, wron
 use Rattle.record.specs.Reading.{dword_count, read_of}
 use Rattle.record.proofs.Numbers.{number_exactly}
 use Rattle.record.proofs.Records.{record_refused_exactly}
-use Rattle.writer.specs.Writing.{bytes_of, written_told, write_of, buffer_by}
+use Rattle.writer.specs.Writing.{bytes_of, write_of, buffer_by}
 use Rattle.writer.proofs.RoundTrips.{some_written}
 use Rattle.intake.specs.declared.What.{What}
 use Rattle.intake.specs.declared.What.TheVariants as W
@@ -244,11 +245,11 @@ record_comes pieces t bytes v r = Comes.once round
     says : (w : EntryValue) × (record_bytes w ≡ t) × HasRecord t accepted.0 left w
     says = record_is_the_writers pieces t slots accepted.0 left (a1_first t v r) read
 
-    answer : (r : Result ℕ Refusal) × (written_told r ≡ write_of t accepted.0 left 5227)
+    answer : (r : Result ℕ Refusal) × (told r ≡ write_of t accepted.0 left 5227)
     answer = some_written t accepted.0 left 5227
 
     written : List ℕ
-    written = buffer_by (written_told answer.0) (bytes_of t accepted.0 left) buffer
+    written = buffer_by (told answer.0) (bytes_of t accepted.0 left) buffer
 
     wrote : Wrote (record_bytes says.0) buffer answer.0 written
     wrote = says.2.written buffer answer.0 written (record { enough = omega arith; contract = record { answer = answer.1; buffer = refl } })
@@ -259,8 +260,8 @@ record_comes pieces t bytes v r = Comes.once round
           enough = omega arith;
           contract =
               record {
-                answer = ap written_told (sym wrote.number) ∙ answer.1;
-                buffer = ap (λ (a : Result ℕ Refusal). buffer_by (written_told a) (bytes_of t accepted.0 left) buffer) wrote.number;
+                answer = ap told (sym wrote.number) ∙ answer.1;
+                buffer = ap (λ (a : Result ℕ Refusal). buffer_by (told a) (bytes_of t accepted.0 left) buffer) wrote.number;
               };
         }
 

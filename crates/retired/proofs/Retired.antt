@@ -12,6 +12,7 @@ use mathlib.Core.Logic.{inl, inr}
 use native.Mathlib.Omega.{arith}
 use lib.Dec.{leb, ltb}
 use lib.ListN.{length, get_or}
+use Rattle.refusal.specs.Told.{told}
 use Rattle.text.specs.Told as T
 use Rattle.text.specs.Told.{Told, number_in, and_then}
 use Rattle.text.proofs.Told.{number_first, number_behind}
@@ -38,7 +39,7 @@ use Rattle.record.specs.Judging.{refusal_of}
 use Rattle.record.specs.Reading as Records
 use Rattle.record.specs.Reading.{read_of}
 use Rattle.record.proofs.Records.{record_refused_exactly}
-use Rattle.writer.specs.Writing.{written_told, bytes_of, write_of}
+use Rattle.writer.specs.Writing.{bytes_of, write_of}
 use Rattle.writer.specs.Ranges.{writable}
 use Rattle.intake.specs.Intake.{starts_a1, taken_of, taken_dwords}
 use Rattle.intake.specs.Packets.{packet_by, packet_taken}
@@ -321,7 +322,7 @@ calls_never =
       payload_of = λ t r c e. payload_never t (sym c.is ∙ ap Reasons.payload_told e);
       record_read = λ t b slots left r c e. record_never t b (length slots) (sym c.answer ∙ ap Records.answer_told e);
       refusal = λ t b r c e. refusal_never t b (sym c ∙ e);
-      write = λ t f dwords buffer left r c e. write_never t f dwords (length buffer) (sym c.answer ∙ ap written_told e);
+      write = λ t f dwords buffer left r c e. write_never t f dwords (length buffer) (sym c.answer ∙ ap told e);
       read = λ pieces t b slots left r c e. taken_never pieces t b (length slots) (sym c.answer ∙ ap Line.answer_told e);
       packet = λ pieces t b s d slots slots_left places places_left r c e. text_packet_never pieces t b s d (length slots) (length places) (sym c.answer ∙ ap Packets.answer_told e);
       what_is = λ pieces t b r c e. what_never pieces t b (sym c ∙ ap what_told e);

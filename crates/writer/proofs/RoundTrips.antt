@@ -2,7 +2,7 @@
 -- gives; a refusal changes nothing; no second answer. Assumes nothing.
 use Rattle.std.specs.Prelude.{Err, Ok, Result}
 use Rattle.refusal.specs.declared.Refusal.{Refusal}
-use Rattle.refusal.specs.declared.Refusal.TheVariants as Refusal
+use Rattle.refusal.specs.declared.Refusal.TheVariants as R
 use Prim.Native.Nat.{ℕ, suc, ◌+◌, ◌-◌, ◌^◌, ◌≤◌, ◌<◌}
 use mathlib.Core.Path.{◌≡◌, ◌∙◌, sym, ap, refl}
 use mathlib.Core.Bool.{Bool, true, false, cond, false≢true}
@@ -16,8 +16,9 @@ use lib.ListN.{length, get_or, take, drop, length-take, get_or-eq_default}
 use lib.Seq.{take-append_seam, get_or-take}
 use Rattle.text.specs.Class.{is_word}
 use Rattle.text.specs.Told as T
-use Rattle.text.proofs.Told.{by_cases, fixed_by_told}
-use Rattle.tlv.specs.Number.{Ok as AreBytes}
+use Rattle.refusal.specs.Told.{told}
+use Rattle.refusal.proofs.Told.{one_told}
+use Rattle.tlv.specs.Number.{Bytes as AreBytes}
 use Rattle.tlv.specs.Grammar.{All}
 use Rattle.tlv.specs.Reading.{between}
 use Rattle.tlv.proofs.Places.{between_is, bytes_take}
@@ -34,7 +35,7 @@ use Rattle.record.proofs.Sound.{task_byte, function_byte}
 use Rattle.record.proofs.Records.{Accepts, record_accepted_exactly, record_at_most_5227}
 use Rattle.writer.specs.Ranges.{fits_part, fits_texts, fits_numbers, writable}
 use Rattle.writer.specs.Typed.{Typed}
-use Rattle.writer.specs.Writing.{bytes_of, written_told, write_of, buffer_by, Writing}
+use Rattle.writer.specs.Writing.{bytes_of, write_of, buffer_by, Writing}
 use Rattle.writer.specs.Conditions.{Writable, Refuses, not_writable, short_buffer}
 use Rattle.writer.proofs.Puts.{part_length}
 use Rattle.writer.proofs.Writes.{Fits, fits_all}
@@ -142,14 +143,6 @@ module _ (text : List ℕ) (e : Entry) (dwords : List ℕ) where
   pub writable_exactly : Typed e dwords → (writable text e dwords ≡ true) ↔ Writable text e dwords
   writable_exactly t = (writable_is t, writable_all)
 
--- two answers that tell the same are the same
-pub one_written : (a b : Result ℕ Refusal) → written_told a ≡ written_told b → a ≡ b
-one_written = fixed_by_told written_told (by_cases Ok (Err 0) Err) same
-  where
-    same : (a : Result ℕ Refusal) → by_cases Ok (Err 0) Err (written_told a) ≡ a
-    same (Ok n) = refl
-    same (Err k) = refl
-
 -- an answer that is bytes: the entry was writable, and the bytes are the record's
 bytes_answered : (text : List ℕ) (e : Entry) (dwords : List ℕ) (room n : ℕ) → write_of text e dwords room ≡ T.is n
     → (writable text e dwords ≡ true) × (length (bytes_of text e dwords) ≤ room) × (length (bytes_of text e dwords) ≡ n)
@@ -221,13 +214,13 @@ unfolding write_of bytes_of buffer_by
 writable_is_written text e dwords out {r} {left} w room c =
     let short : length (record_bytes (value_of e text dwords)) ≤ 5227 =
     record_at_most_5227 (record_bytes (value_of e text dwords)) (value_of e text dwords) (record { ranged = w.ranged; bytes = refl }) in
-    let told : written_told r ≡ T.is (length (record_bytes (value_of e text dwords))) =
+    let same : told r ≡ T.is (length (record_bytes (value_of e text dwords))) =
     c.answer ∙ rw (writable_all text e dwords w, le-leb (length (record_bytes (value_of e text dwords))) (length out) (omega (arith, short))) in
-    let answer : r ≡ Ok (length (record_bytes (value_of e text dwords))) = one_written r (Ok (length (record_bytes (value_of e text dwords)))) told in
+    let answer : r ≡ Ok (length (record_bytes (value_of e text dwords))) = one_told r (Ok (length (record_bytes (value_of e text dwords)))) same in
     (answer, c.buffer ∙ rw answer)
 
 -- a refusal changes nothing
-pub refused_writing_changes_nothing : (text : List ℕ) (e : Entry) (dwords out : List ℕ) (k : ℕ) (left : List ℕ)
+pub refused_writing_changes_nothing : (text : List ℕ) (e : Entry) (dwords out : List ℕ) (k : Refusal) (left : List ℕ)
     → Writing text e dwords out (Err k) left → left ≡ out
 unfolding buffer_by
 refused_writing_changes_nothing text e dwords out k left w = w.buffer
@@ -270,16 +263,16 @@ write_refused_exactly text e dwords typed room k = (is, all)
 pub no_second_writing : (text : List ℕ) (e : Entry) (dwords out : List ℕ) {r s : Result ℕ Refusal} {left other : List ℕ}
     → Writing text e dwords out r left → Writing text e dwords out s other → (r ≡ s) × (left ≡ other)
 no_second_writing text e dwords out {r} {s} a b =
-    let same : written_told r ≡ written_told s = a.answer ∙ sym b.answer in
-    (one_written r s same, a.buffer ∙ rw same (sym b.buffer))
+    let same : told r ≡ told s = a.answer ∙ sym b.answer in
+    (one_told r s same, a.buffer ∙ rw same (sym b.buffer))
 
 -- every call has an answer: some answer tells what is told
-pub some_written : (text : List ℕ) (e : Entry) (dwords : List ℕ) (room : ℕ) → (r : Result ℕ Refusal) × (written_told r ≡ write_of text e dwords room)
+pub some_written : (text : List ℕ) (e : Entry) (dwords : List ℕ) (room : ℕ) → (r : Result ℕ Refusal) × (told r ≡ write_of text e dwords room)
 unfolding write_of
 some_written text e dwords room = go (writable text e dwords) (leb (length (bytes_of text e dwords)) room)
   where
     go : (x y : Bool)
-        → (r : Result ℕ Refusal) × (written_told r ≡ cond x (cond y (T.is (length (bytes_of text e dwords))) (T.refused 36)) (T.refused 37))
-    go false y = (Err Refusal.BadEntry, refl)
-    go true false = (Err Refusal.ShortBuffer, refl)
+        → (r : Result ℕ Refusal) × (told r ≡ cond x (cond y (T.is (length (bytes_of text e dwords))) (T.refused 36)) (T.refused 37))
+    go false y = (Err R.BadEntry, refl)
+    go true false = (Err R.ShortBuffer, refl)
     go true true = (Ok (length (bytes_of text e dwords)), refl)

@@ -2,12 +2,12 @@
 -- Assumes nothing.
 use Rattle.std.specs.Prelude.{Err, None, Ok, Option, Some}
 use Rattle.refusal.specs.declared.Refusal.{Refusal}
-use Rattle.refusal.specs.declared.Refusal.TheVariants as Refusal
+use Rattle.refusal.specs.declared.Refusal.TheVariants as R
 use Prim.Native.Nat.{ℕ, zero, suc, ◌+◌, ◌-◌, ◌≤◌, ◌<◌}
 use mathlib.Core.Path.{◌≡◌, ◌∙◌, sym, ap, refl}
 use mathlib.Core.Bool.{true, false, cond, ◌&&◌}
 use mathlib.Core.List.{List, [], ◌∷◌, ◌++◌}
-use mathlib.Core.Option.{map}
+use Rattle.std.specs.Option.{option_map}
 use native.Mathlib.Omega.{arith}
 use borrow.Author.Tests.{leb-true, le-leb, lt-leb}
 use lib.Dec.{leb}
@@ -116,22 +116,22 @@ module _ (text dwords : List ℕ) where
   word_lies (Some w) = omega arith
   word_lies None = tt
 
-  byte_body : (m : Option ℕ) → map (number_bytes 1) m ≡ body_of (byte_item m) text dwords
+  byte_body : (m : Option ℕ) → option_map (number_bytes 1) m ≡ body_of (byte_item m) text dwords
   unfolding byte_item
   byte_body (Some b) = refl
   byte_body None = refl
 
-  word_body : (m : Option ℕ) → map (number_bytes 2) m ≡ body_of (word_item m) text dwords
+  word_body : (m : Option ℕ) → option_map (number_bytes 2) m ≡ body_of (word_item m) text dwords
   unfolding word_item
   word_body (Some w) = refl
   word_body None = refl
 
-byte_size_lem : (m : Option ℕ) → size_of (map (number_bytes 1) (m)) ≡ byte_size m
+byte_size_lem : (m : Option ℕ) → size_of (option_map (number_bytes 1) m) ≡ byte_size m
 unfolding byte_size
 byte_size_lem (Some b) = omega (arith, number_bytes_length 1 b)
 byte_size_lem None = refl
 
-word_size_lem : (m : Option ℕ) → size_of (map (number_bytes 2) (m)) ≡ word_size m
+word_size_lem : (m : Option ℕ) → size_of (option_map (number_bytes 2) m) ≡ word_size m
 unfolding word_size
 word_size_lem (Some w) = omega (arith, number_bytes_length 2 w)
 word_size_lem None = refl
@@ -246,7 +246,7 @@ module _ (text : List ℕ) (e : Entry) (dwords : List ℕ) where
 -- ---- the ways to an answer
 
 module _ (text : List ℕ) (e : Entry) (dwords out : List ℕ) where
-  pub refused_37 : writable text e dwords ≡ false → Writing text e dwords out (Err Refusal.BadEntry) out
+  pub refused_37 : writable text e dwords ≡ false → Writing text e dwords out (Err R.BadEntry) out
   unfolding write_of buffer_by
   refused_37 h = record { answer = rw h; buffer = refl }
 
@@ -264,7 +264,7 @@ module _ (text : List ℕ) (e : Entry) (dwords out : List ℕ) where
         → ItemsLie e text dwords × (n - 3 < 65536) × (3 + length (fields_from 19 1 e text dwords) ≤ length out)
     record_asks n s k = (items_lie text e dwords f, omega (arith, (size_small text e dwords f).1), omega (arith, size_is text e dwords f))
 
-    pub refused_36 : (n : ℕ) → n ≡ record_size e → length out < n → Writing text e dwords out (Err Refusal.ShortBuffer) out
+    pub refused_36 : (n : ℕ) → n ≡ record_size e → length out < n → Writing text e dwords out (Err R.ShortBuffer) out
     unfolding write_of buffer_by
     refused_36 n s k =
         let l : length (bytes_of text e dwords) ≡ n = length_is text e dwords f ∙ sym s in

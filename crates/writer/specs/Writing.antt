@@ -1,7 +1,8 @@
 -- What writing a record answers, and what it leaves in the buffer.
 -- Assumes nothing.
 use Rattle.refusal.specs.declared.Refusal.{Refusal}
-use Rattle.std.specs.Prelude.{ℕ, ◌≡◌, cond, List, leb, length, Err, Ok, Result}
+use Rattle.std.specs.Prelude.{ℕ, ◌≡◌, cond, List, leb, length, Result}
+use Rattle.refusal.specs.Told.{told}
 use Rattle.text.specs.Told.{Told, is, absent, refused}
 use Rattle.entry.specs.declared.Entry.{Entry}
 use Rattle.entry.specs.Entry.{value_of}
@@ -12,11 +13,6 @@ use Rattle.writer.specs.Ranges.{writable}
 -- the record of the entry
 unfoldable pub bytes_of : List ℕ → Entry → List ℕ → List ℕ
 bytes_of text e dwords = record_bytes (value_of e text dwords)
-
--- what each case of an answer tells: how many bytes were written, or document 01's number
-abbrev pub written_told : Result ℕ Refusal → Told ℕ
-written_told (Ok n) = is n
-written_told (Err k) = refused k
 
 -- what is told with so many bytes of buffer lent: 37, then 36, else the record's length
 unfoldable pub write_of : List ℕ → Entry → List ℕ → ℕ → Told ℕ
@@ -33,5 +29,5 @@ buffer_by (refused k) bytes out = out
 
 -- what a call answers and leaves in the buffer
 pub record Writing (text : List ℕ) (e : Entry) (dwords out : List ℕ) (r : Result ℕ Refusal) (left : List ℕ) : Type 0 where
-  pub answer : written_told r ≡ write_of text e dwords (length out)
-  pub buffer : left ≡ buffer_by (written_told r) (bytes_of text e dwords) out
+  pub answer : told r ≡ write_of text e dwords (length out)
+  pub buffer : left ≡ buffer_by (told r) (bytes_of text e dwords) out

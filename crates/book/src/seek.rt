@@ -16,7 +16,6 @@ ghost use Rattle.book.specs.Search.{
 
 use crate::Uuid;
 use crate::field::{after, body_at};
-use text::same::same;
 use tlv::Step;
 
 // What a search is for. A key goes with it where a text must be the same, and an empty key is "no type".
@@ -79,9 +78,9 @@ fn is_wanted(s: &[u8], want: Want, key: &[u8], tag: u8, from: usize) -> bool
             if tlv::two_at(s, from) != offset {
                 return false;
             }
-            same(type_at(s, from), key)
+            type_at(s, from) == key
         }
-        Want::Range => same(name_at(s, from), key),
+        Want::Range => name_at(s, from) == key,
         Want::Value(value) => tlv::four_at(s, from) == value,
     }
 }

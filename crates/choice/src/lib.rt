@@ -7,7 +7,6 @@ ghost use Rattle.choice.specs.Words.{asked_by, NotStrict, StrictByNone};
 
 use scan::Pieces;
 use std::env::{Env, FillError};
-use text::same::same;
 
 // What the arguments behind the first so many say, the program's name counted: nothing more is strict, `lenient` alone is lenient.
 pub fn ask_choice<E: Env>(env: &E, before: usize) -> Option<Pieces> {
@@ -52,11 +51,9 @@ fn choice_at<E: Env>(env: &E, place: usize) -> Option<Pieces>
     }
 }
 
+#[tactic(auto, unfolding(crate::specs::Words::asked_by))]
 fn choice_of(word: &[u8]) -> Option<Pieces>
     ensures { result ≡ asked_by word.now }
 {
-    if same(word, b"lenient") {
-        return Some(Pieces::Lenient);
-    }
-    None
+    (word == b"lenient".as_slice()).then_some(Pieces::Lenient)
 }

@@ -14,7 +14,6 @@ use entry::Entry;
 use oracle_line_rows::fields::{put_both, put_count, put_text};
 use oracle_line_rows::put_row;
 use record::read;
-use text::same::same;
 use writer::write;
 
 // The row of a record, read into the lent slots, and its entry, with one number set, written again into the lent room. It asks for a place inside
@@ -83,7 +82,7 @@ fn put_bytes(out: &mut [u8], at: usize, text: &[u8], room: &[u8], n: usize) -> u
         return put_text(out, at, b"more than the room");
     }
     let made = &room[..n];
-    if same(text, made) {
+    if text == made {
         return put_text(out, at, b"same");
     }
     put_both(out, at, b"", made)

@@ -5,7 +5,6 @@ ghost use Rattle.book.specs.Finders.{OwnName};
 ghost use Rattle.packet.specs.Field.{or_else, name_in, range_in, value_in, named_in, asks};
 
 use book::find;
-use text::same::same;
 
 // What an entry is asked for: its own name, or a bit range of that name.
 #[derive(Clone, Copy)]
@@ -81,5 +80,5 @@ fn is_named(book: &[u8], name: &[u8], entry: usize) -> bool
     if name.len() == 0 {
         return false;
     }
-    same(name_in(book, entry), name)
+    name_in(book, entry) == name
 }

@@ -5,7 +5,6 @@ ghost use Rattle.packet.specs.Steps.{entry_of, filled};
 ghost use Rattle.packet.specs.Inner.{entry_from, picked, with_entry};
 
 use book::find;
-use text::same::same;
 use tlv::Step;
 
 // Which entries of a table count: any, or those of one type, where the empty type is no type.
@@ -70,6 +69,6 @@ fn is_picked(s: &[u8], at: usize, pick: Pick, name: &[u8]) -> bool
 {
     match pick {
         Pick::Any => true,
-        Pick::Typed => same(find::type_of(s, at), name),
+        Pick::Typed => find::type_of(s, at) == name,
     }
 }

@@ -8,7 +8,6 @@ ghost use Rattle.pairs.specs.Pair.{bracket_end, value_end, pair_with, NextPair, 
 use text::class::Class;
 use text::place::byte_at;
 use text::run::{behind_last, run_end, until};
-use text::same::same;
 
 // A pair by its places: where its key starts, where its `=` stands, where its value ends.
 #[derive(Clone, Copy)]
@@ -33,7 +32,7 @@ pub fn last_pair(s: &[u8], key: &[u8]) -> Option<Span>
     let mut best = None;
     let mut at = 0;
     while let Some(hit) = next_before(s, at, tail) {
-        if same(&s[hit.key..hit.equals], key) {
+        if &s[hit.key..hit.equals] == key {
             best = Some(Span {
                 from: hit.equals + 1,
                 to: hit.end,

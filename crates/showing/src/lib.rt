@@ -15,7 +15,6 @@ use std::env::{Env, FillError};
 use std::fs::File;
 use std::io::Stderr;
 use std::process::ExitCode;
-use text::same::same;
 
 // EINVAL, for a path that is no text: std opens none by it.
 const NO_TEXT: u32 = 22;
@@ -42,7 +41,7 @@ fn show_named(rt: &HostRuntime, pieces: Pieces) -> ExitCode {
 }
 
 fn show_asked(rt: &HostRuntime, path: &[u8], pieces: Pieces) -> ExitCode {
-    if same(path, b"--help") {
+    if path == b"--help".as_slice() {
         return give_usage(rt.stderr(), Program::Show(pieces));
     }
     match str::from_utf8(path) {

@@ -8,6 +8,5 @@ pub mod class;
 pub mod number;
 pub mod place;
 pub mod run;
-pub mod same;
 pub mod table;
 pub mod word;

@@ -33,12 +33,12 @@ returns-in-Offset c = sym (right_tag c.args.want _ (c.if-tag-tag_of.false ∙ c.
 pub returns-else-two_at-offset : goal.returns-else-two_at-offset
 unfolding fits
 returns-else-two_at-offset c =
-    sym (right_tag c.args.want _ (c.if-tag-tag_of.false ∙ c.tag_of.ensures) ∙ rw (c.in-Typed.is, sym c.two_at-in-Typed.ensures.is, eq-eqb _ _ c.if-two_at-offset.false) (ap (λ (l : List ℕ). same_text l c.args.key.now) (sym c.type_at.ensures.is) ∙ sym c.same.ensures))
+    sym (right_tag c.args.want _ (c.if-tag-tag_of.false ∙ c.tag_of.ensures) ∙ rw (c.in-Typed.is, sym c.two_at-in-Typed.ensures.is, eq-eqb _ _ c.if-two_at-offset.false) (ap (λ (l : List ℕ). same_text l c.args.key.now) (sym c.type_at.ensures.is) ∙ sym c.eq.ensures))
 
 pub returns-in-Range : goal.returns-in-Range
 unfolding fits
 returns-in-Range c =
-    sym (right_tag c.args.want _ (c.if-tag-tag_of.false ∙ c.tag_of.ensures) ∙ rw c.in-Range.is (ap (λ (l : List ℕ). same_text l c.args.key.now) (sym c.name_at.ensures.is) ∙ sym c.same-in-Range.ensures))
+    sym (right_tag c.args.want _ (c.if-tag-tag_of.false ∙ c.tag_of.ensures) ∙ rw c.in-Range.is (ap (λ (l : List ℕ). same_text l c.args.key.now) (sym c.name_at.ensures.is) ∙ sym c.eq-in-Range.ensures))
 
 pub returns-in-Value : goal.returns-in-Value
 unfolding fits

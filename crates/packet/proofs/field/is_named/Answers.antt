@@ -13,4 +13,4 @@ returns-then-name-eq0 c = rw (no_byte c.args.name.now c.if-name-eq0.true)
 
 pub returns : goal.returns
 unfolding asks
-returns c = rw (some_byte_lem c.args.name.now c.if-name-eq0.false) (c.same.ensures ∙ ap (λ (l : List ℕ). same_text l c.args.name.now) c.name_in.ensures.is)
+returns c = rw (some_byte_lem c.args.name.now c.if-name-eq0.false) (c.eq.ensures ∙ ap (λ (l : List ℕ). same_text l c.args.name.now) c.name_in.ensures.is)

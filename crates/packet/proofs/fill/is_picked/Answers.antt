@@ -9,4 +9,4 @@ pub returns-in-Any : goal.returns-in-Any
 returns-in-Any c = rw c.in-Any.is
 
 pub returns-in-Typed : goal.returns-in-Typed
-returns-in-Typed c = rw c.in-Typed.is (c.same.ensures ∙ ap (λ (l : List ℕ). same_text l c.args.name.now) c.type_of.ensures.is)
+returns-in-Typed c = rw c.in-Typed.is (c.eq.ensures ∙ ap (λ (l : List ℕ). same_text l c.args.name.now) c.type_of.ensures.is)

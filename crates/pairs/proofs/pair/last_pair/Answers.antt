@@ -15,14 +15,14 @@ pub next_before-requires : goal.next_before-requires
 unfolding in_class
 next_before-requires c = search rules
 
-pub slice_bounds-same-count : goal.slice_bounds-same-count
-slice_bounds-same-count c = omega (arith, c.next_before.ensures.rise _ _ _ c.in-Some.is)
+pub slice_bounds-eq-count : goal.slice_bounds-eq-count
+slice_bounds-eq-count c = omega (arith, c.next_before.ensures.rise _ _ _ c.in-Some.is)
 
-pub slice_bounds-same-start : goal.slice_bounds-same-start
-slice_bounds-same-start c = omega (arith, c.next_before.ensures.rise _ _ _ c.in-Some.is)
+pub slice_bounds-eq-start : goal.slice_bounds-eq-start
+slice_bounds-eq-start c = omega (arith, c.next_before.ensures.rise _ _ _ c.in-Some.is)
 
-pub slice_bounds-same-end : goal.slice_bounds-same-end
-slice_bounds-same-end c = omega (arith, c.next_before.ensures.rise _ _ _ c.in-Some.is)
+pub slice_bounds-eq-end : goal.slice_bounds-eq-end
+slice_bounds-eq-end c = omega (arith, c.next_before.ensures.rise _ _ _ c.in-Some.is)
 
 pub overflow_add-best : goal.overflow_add-best
 overflow_add-best c =
@@ -32,20 +32,20 @@ overflow_add-best c =
           c.in-Some.is,
     )
 
-pub loop-hit-smaller-then-same : goal.loop-hit-smaller-then-same
-loop-hit-smaller-then-same c =
+pub loop-hit-smaller-then-eq : goal.loop-hit-smaller-then-eq
+loop-hit-smaller-then-eq c =
     omega (
       arith,
       c.next_before.ensures.rise _ _ _
           c.in-Some.is,
     )
 
-pub loop-hit-preserved-then-same : goal.loop-hit-preserved-then-same
-loop-hit-preserved-then-same c =
+pub loop-hit-preserved-then-eq : goal.loop-hit-preserved-then-eq
+loop-hit-preserved-then-eq c =
     c.loop-hit.invariant ∙ last_takes _ _ _ _
     (sym c.next_before.ensures.is
     ∙ c.in-Some.is)
-    (sym c.same.ensures ∙ c.if-same.true)
+    (sym c.eq.ensures ∙ c.if-eq.true)
 
 pub loop-hit-smaller : goal.loop-hit-smaller
 loop-hit-smaller c =
@@ -60,7 +60,7 @@ loop-hit-preserved c =
     c.loop-hit.invariant ∙ last_passes _ _ _ _
     (sym c.next_before.ensures.is
     ∙ c.in-Some.is)
-    (sym c.same.ensures ∙ c.if-same.false)
+    (sym c.eq.ensures ∙ c.if-eq.false)
 
 pub returns : goal.returns
 returns c =

@@ -10,8 +10,9 @@ use lib.ListN.{length, get_or, take, length-append}
 use lib.Seq.{take-suc, take-length, length-take-le}
 use borrow.Author.Tests.{le-leb, lt-leb}
 use Rattle.print.specs.Hex.{byte_text}
-use Rattle.print.specs.Put.{Placed}
-use Rattle.listing_rows.specs.Rows.{Put}
+use Rattle.print.specs.declared.page.Page.{Page}
+use Rattle.print.specs.Page.{Puts}
+use Rattle.listing_rows.specs.Rows.{Put, Room, PutOn}
 use Rattle.listing_rows.proofs.Putting.{put_whole, put_then, put_size}
 use Rattle.escape.specs.Escape.{is_plain, shown_byte, escaped}
 
@@ -67,31 +68,30 @@ escaped_more s i h =
 pub put_within : {out s exit : List ℕ} {at r : ℕ} → Put out at s exit r → r ≤ length exit
 put_within p = omega (arith, p.fits, p.place, put_size p)
 
-module _ (out : List ℕ) (at : ℕ) (s : List ℕ) where
+module _ (p : Page) (s : List ℕ) where
   -- the first i bytes are shown in place
-  pub record Shown (now : List ℕ) (behind i : ℕ) : Type 0 where
+  pub record Shown (q : Page) (i : ℕ) : Type 0 where
     pub within : i ≤ length s
-    pub size : length now ≡ length out
-    pub is : Put out at (escaped (take i s)) now behind
+    pub is : PutOn p (escaped (take i s)) q
 
-  module _ (room : at + 4 * length s ≤ length out) where
-    pub shown_starts : Shown out at 0
+  module _ (room : Room p (4 * length s)) where
+    pub shown_starts : Shown p 0
     unfolding escaped
-    shown_starts = record { within = omega arith; size = refl; is = record { fits = omega arith; buffer = refl; place = omega arith } }
-
-    pub shown_steps : {now exit : List ℕ} {behind i r : ℕ} → Shown now behind i → i < length s → Placed now behind (shown_byte (get_or s i 0)) exit r → Shown exit r (i + 1)
-    shown_steps {now} {exit} {behind} {i} {r} h l p =
-        let n : length (take i s) ≡ i = length-take-le i s h.within in
-        let fits : behind + length (shown_byte (get_or s i 0)) ≤ length now = omega (arith, h.is.place, h.size, escaped_length (take i s), shown_length (get_or s i 0)) in
-        let both : Put out at (escaped (take i s) ++ shown_byte (get_or s i 0)) exit r = put_then h.is (put_whole fits p) in
+    shown_starts =
         record {
           within = omega arith;
-          size = put_size both;
-          is = rw (escaped_more s i l) at both;
+          is = record { put = record { fits = omega arith; buffer = refl; place = omega arith }; same = refl };
         }
 
-    pub shown_ends : {now : List ℕ} {behind i : ℕ} → Shown now behind i → length s ≤ i → Put out at (escaped s) now behind
-    shown_ends {now} {behind} {i} h l =
+    pub shown_steps : {q r : Page} {i : ℕ} → Shown q i → i < length s → Puts q (shown_byte (get_or s i 0)) r → Shown r (i + 1)
+    shown_steps {q} {r} {i} h l now =
+        let n : length (take i s) ≡ i = length-take-le i s h.within in
+        let fits : q.at + length (shown_byte (get_or s i 0)) ≤ length q.out.now = omega (arith, h.is.put.place, put_size h.is.put, escaped_length (take i s), shown_length (get_or s i 0)) in
+        let both : PutOn p (escaped (take i s) ++ shown_byte (get_or s i 0)) r = record { put = put_then h.is.put (put_whole fits now.placed); same = now.same ∙ h.is.same } in
+        record { within = omega arith; is = rw (escaped_more s i l) at both }
+
+    pub shown_ends : {q : Page} {i : ℕ} → Shown q i → length s ≤ i → PutOn p (escaped s) q
+    shown_ends {q} {i} h l =
         let e : i ≡ length s = omega (arith, h.within) in
         let whole : take i s ≡ s = rw e (take-length s) in
         rw whole at h.is

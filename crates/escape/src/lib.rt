@@ -1,46 +1,40 @@
 // A book's name as it is shown: a name may have any byte below 128, and none of them may end a row or steer a terminal.
 #![tactic(auto)]
 
-ghost use Rattle.std.specs.Prelude.{◌≡◌, ◌+◌, ◌*◌, ◌≤◌, length};
-ghost use Rattle.print.specs.Put.{Placed};
-ghost use Rattle.listing_rows.specs.Rows.{Put};
+pub mod at;
+
+ghost use Rattle.std.specs.Prelude.{◌≡◌, ◌*◌, length};
+ghost use Rattle.print.specs.Page.{Puts};
+ghost use Rattle.listing_rows.specs.Rows.{Room, PutOn};
 ghost use Rattle.escape.specs.Escape.{is_plain, shown_byte, escaped};
 
 use print::hex::digit;
-use print::put::put;
+use print::page::Page;
 
-// The escaped name at a place. Asked for: four bytes of room for each of its bytes, which its callers, `say_name` and `put_shown` of why_rows, make.
-pub fn put_escaped(out: &mut [u8], at: usize, s: &[u8]) -> usize
-    requires { at + 4 * length s.now ≤ length out.old }
-    ensures { Put out.old at (escaped s.now) out.new result }
+// The escaped name. Asked for: four bytes of room for each of its bytes, which its callers, `say_name` and `put_shown` of why_rows, make.
+pub fn put_escaped(page: &mut Page, s: &[u8])
+    requires { Room page.old (4 * length s.now) }
+    ensures { PutOn page.old (escaped s.now) page.new }
 {
-    let mut i = 0;
-    let mut behind = at;
-    while i < s.len() {
-        behind = put_shown(out, behind, s[i]);
-        i += 1;
+    for b in s {
+        put_shown(page, *b);
     }
-    behind
 }
 
-fn put_shown(out: &mut [u8], at: usize, b: u8) -> usize
-    ensures { Placed out.old at (shown_byte b) out.new result }
+#[tactic(auto, using(crate::proofs::Escaping::plain_shown, crate::proofs::Escaping::other_shown))]
+fn put_shown(page: &mut Page, b: u8)
+    ensures { Puts page.old (shown_byte b) page.new }
 {
     if is_plain(b) {
-        return put(out, at, &[b]);
+        page.put(&[b]);
+    } else {
+        page.put(&[b'\\', b'x', digit(b / 16), digit(b % 16)]);
     }
-    let text = [b'\\', b'x', digit(b / 16), digit(b % 16)];
-    put(out, at, &text)
 }
 
+#[tactic(auto, unfolding(crate::specs::Escape::is_plain))]
 fn is_plain(b: u8) -> bool
     ensures { result ≡ is_plain b }
 {
-    if b < b' ' {
-        return false;
-    }
-    if b'~' < b {
-        return false;
-    }
-    b != b'\\'
+    b' ' <= b && b <= b'~' && b != b'\\'
 }

@@ -15,7 +15,7 @@ ghost use Rattle.saying.specs.Telling.{Told, name_text, event_text};
 
 use channel::sink::{Sink, say};
 use entry::events::Event;
-use escape::put_escaped;
+use escape::at::put_escaped;
 use print::hex::put_dword;
 use print::put::put_decimal;
 use std::io::Stdout;

@@ -16,7 +16,7 @@ ghost use Rattle.why_rows.specs.Rows.{PlaceWithin, row_text, head_text, reason_t
 use crate::caret::put_caret;
 use crate::name::{bits_of, put_name};
 use crate::tally::Counts;
-use escape::put_escaped;
+use escape::at::put_escaped;
 use reasons::Key;
 use unanswered_rows::parts::{put_number, put_text};
 

@@ -13,7 +13,6 @@ use Rattle.bits.proofs.Cases.{case_P10, case_P11}
 use Rattle.entry.specs.declared.events.Event.TheVariants.{LinkRecovery, Unknown}
 use Rattle.entry.specs.Event.{event_of}
 use Rattle.entry.proofs.Cases.{case_P1}
-use Rattle.header.specs.declared.stamp.Stamp.TheVariants as S
 use Rattle.header.specs.Dash.{Task, pid_of}
 use Rattle.header.proofs.Dashes.{task_is}
 use Rattle.header.specs.Stamp.{stamp_of}
@@ -55,7 +54,7 @@ pub record Cases : Type 0 where
   pub P2-task : Task (bytes "a-1-b") (bytes "a-1")
   pub P2-pid : pid_of (bytes "a-1-b") ≡ Some 1
   -- P3: `12.34.56: f`: 34 s, 56 µs
-  pub P3 : stamp_of (bytes "12.34.56: f") ≡ S.At 34 56
+  pub P3 : stamp_of (bytes "12.34.56: f") ≡ Some (record { seconds = 34; microseconds = 56 })
   -- P4: `a=b=c`: one pair, a to b
   pub P4 : pairs_from (bytes "a=b=c") 0 ≡ placed 0 1 3 ∷ []
   -- P5: `size=1 size=2`: 2

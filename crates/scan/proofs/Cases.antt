@@ -23,7 +23,6 @@ use Rattle.pairs.specs.Pair as Pair
 use Rattle.pairs.specs.Data as Data
 use Rattle.scan.specs.declared.Pieces.{Pieces}
 use Rattle.scan.specs.declared.Pieces.TheVariants.{Strict, Lenient}
-use Rattle.scan.specs.Need.{stamp_value}
 use Rattle.scan.specs.Frame.{idle, first_high, frame_colon, frame_ascii, frame_of}
 use Rattle.scan.specs.Head.{head_of}
 use Rattle.scan.specs.Body.{text_at, hex_byte, hex_word, decimal_byte, decimal_word, is_one, dropped_of, optionals_of, body_of}
@@ -32,7 +31,7 @@ use Rattle.scan.specs.Parse.{entry_of, with_data, with_body, payload_answer, wit
 
 -- one word for all that a whole line computes with
 unfoldable pub computes : Unit {0}
-unfolding between is_blank is_digit is_letter is_word in_class digit_of value all_digits number_of bad_first value_within reading_of digits_from hex_of first_of first_in found_below first_place last_place byte_before last_byte run_end behind run_start stripped by_direction other_kind kind_of dash_at first_run task_of digits_behind pid_of cpu_at digits_within cpu_of Stamp.followed Stamp.stamp_at Stamp.both_read Stamp.read_stamp Stamp.stamp_from Stamp.stamp_of function_of Pair.bracket_end Pair.value_end Pair.with_value Pair.pair_with Pair.pair_at Pair.is_hit Pair.pair_from Pair.next_pair Pair.followed Pair.pairs_within Pair.pairs_from Pair.newer Pair.last_in Pair.last_pair Pair.decimal_in Pair.decimal_of Pair.hex_in Pair.hex_at Data.ahead Data.cut Data.piece_of Data.taken Data.dwords_in Data.dwords_of Data.is_bad Data.any_bad Data.bad_of Data.inside_of Data.data_in Data.data_of Data.bad_in Data.bad_data stamp_value idle first_high frame_colon frame_ascii frame_of head_of text_at hex_byte hex_word decimal_byte decimal_word is_one dropped_of optionals_of body_of payload_data payload_bad refuses data_answer entry_of with_data with_body payload_answer with_head parted_answer with_frame parse_of dwords_by line_dwords
+unfolding between is_blank is_digit is_letter is_word in_class digit_of value all_digits number_of bad_first value_within reading_of digits_from hex_of first_of first_in found_below first_place last_place byte_before last_byte run_end behind run_start stripped by_direction other_kind kind_of dash_at first_run task_of digits_behind pid_of cpu_at digits_within cpu_of Stamp.followed Stamp.stamp_at Stamp.both_read Stamp.read_stamp Stamp.stamp_from Stamp.stamp_of function_of Pair.bracket_end Pair.value_end Pair.with_value Pair.pair_with Pair.pair_at Pair.is_hit Pair.pair_from Pair.next_pair Pair.followed Pair.pairs_within Pair.pairs_from Pair.newer Pair.last_in Pair.last_pair Pair.decimal_in Pair.decimal_of Pair.hex_in Pair.hex_at Data.ahead Data.cut Data.piece_of Data.taken Data.dwords_in Data.dwords_of Data.is_bad Data.any_bad Data.bad_of Data.inside_of Data.data_in Data.data_of Data.bad_in Data.bad_data idle first_high frame_colon frame_ascii frame_of head_of text_at hex_byte hex_word decimal_byte decimal_word is_one dropped_of optionals_of body_of payload_data payload_bad refuses data_answer entry_of with_data with_body payload_answer with_head parted_answer with_frame parse_of dwords_by line_dwords
 computes = tt
 
 -- P8 in a line: `data=[]` is refused with 15, in both

@@ -82,12 +82,12 @@ module _ (pieces : Pieces) (t : List ℕ) (room : ℕ) where
 
   pub clear_starts : Clear 1
   unfolding Condition
-  clear_starts j h c = let e : j ≡ 0 = None (placed j) h in rw e at c
+  clear_starts j h c = let e : j ≡ 0 = none (placed j) h in rw e at c
     where
       none : {a : ℕ} → Placed j a → a < 1 → j ≡ 0
-      None (early x p) l = omega arith
-      None (between x p) l = omega arith
-      None (late x n p) l = omega arith
+      none (early x p) l = omega arith
+      none (between x p) l = omega arith
+      none (late x n p) l = omega arith
 
   pub clear_next : (k : ℕ) → Clear (order_of k) → (Condition pieces t room k → ⊥) → Clear (suc (order_of k))
   clear_next k f n j h c =

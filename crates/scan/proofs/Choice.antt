@@ -1,5 +1,8 @@
 -- Strict and lenient: every condition but that of 18 is the same in both, so the two chains of checks part only there; and where no piece is bad the
 -- two readings are one term. Assumes nothing.
+use Rattle.refusal.specs.Number.{number_of}
+use Rattle.refusal.specs.Told.{told}
+use Rattle.refusal.proofs.Told.{one_told, one_number}
 use Rattle.std.specs.Prelude.{Err, None, Ok, Option, Result, Some}
 use Rattle.refusal.specs.declared.Refusal.{Refusal}
 use Rattle.refusal.specs.declared.Refusal.TheVariants as Refusal
@@ -26,14 +29,14 @@ use Rattle.scan.specs.Need.{need}
 use Rattle.scan.specs.Frame.{frame_of}
 use Rattle.scan.specs.Body.{text_at}
 use Rattle.scan.specs.Dwords.{payload_data, payload_bad, refuses, data_answer}
-use Rattle.scan.specs.Parse.{payload_of, with_body, payload_answer, with_head, parted_answer, with_frame, parse_of, answer_told, Parsed}
+use Rattle.scan.specs.Parse.{payload_of, with_body, payload_answer, with_head, parted_answer, with_frame, parse_of, Parsed}
 use Rattle.scan.specs.Line.{BadPiece, BadFor, Line, Has, Condition, order_of, Applies}
 use Rattle.scan.specs.Choice.{BothCalls, Behind15, StrictAndLenient}
 use Rattle.scan.proofs.Frames.{frame_passed}
 use Rattle.scan.proofs.Splits.{split_is}
 use Rattle.scan.proofs.Chain.{early_order, late_order, Clear, Answered}
 use Rattle.scan.proofs.Judged.{dwords_are, bad_for_is, Says, judge}
-use Rattle.scan.proofs.Theorems.{same_payload, past_table, line_entry_is, line_number_exactly, one_line_answer}
+use Rattle.scan.proofs.Theorems.{same_payload, past_table, line_entry_is, line_number_exactly}
 
 -- ---- where no piece is bad
 
@@ -99,13 +102,16 @@ module _ (t : List ℕ) (room : ℕ) where
       }
 
   -- a number of lenient behind 15
-  late_number : (k : ℕ) → Condition Lenient t room k → (order_of k < 16 → ⊥) → Behind15 (Err k)
-  late_number k c l = go (λ e. lenient_no_18 (rw e at c)) (λ h. past_table Lenient t room k h c)
+  late_number : (r : Refusal) → Condition Lenient t room (number_of r) → (order_of (number_of r) < 16 → ⊥) → Behind15 (Err r)
+  late_number r c l = go (λ e. lenient_no_18 (rw e at c)) (λ h. past_table Lenient t room (number_of r) h c)
     where
-      go : (k ≡ 18 → ⊥) → (19 ≤ k → ⊥) → Behind15 (Err k)
+      go : (number_of r ≡ 18 → ⊥) → (19 ≤ number_of r → ⊥) → Behind15 (Err r)
       go n m =
-          let low : 16 ≤ k = late_order k l n in
-          by_order k 17 (λ h. let e : k ≡ 16 = omega arith in rw e Behind15.many_dwords) (λ e. rw e Behind15.few_slots) (λ h. absurd (m (omega (arith, n))))
+          let low : 16 ≤ number_of r = late_order (number_of r) l n in
+          by_order (number_of r) 17
+          (λ h. rw (one_number r Refusal.ManyDwords (omega arith)) Behind15.many_dwords)
+          (λ e. rw (one_number r Refusal.FewSlots e) Behind15.few_slots)
+          (λ h. absurd (m (omega (arith, n))))
 
   -- where a line is accepted no number applies
   accepted_clears : (pieces : Pieces) {e : Entry} → parse_of pieces t room ≡ T.is e → Clear pieces t room 19
@@ -118,21 +124,21 @@ module _ (t : List ℕ) (room : ℕ) where
 -- ---- two calls
 
 -- the number that a call answers
-call_number : (pieces : Pieces) (t out : List ℕ) {answer : Result Entry Refusal} {left : List ℕ} → Parsed pieces t out left answer → (k : ℕ) → (answer ≡ Err k) ↔ Applies pieces t (length out) k
-call_number pieces t out {answer} p k =
-    let exactly = line_number_exactly pieces t (length out) k in
-    ((λ e. exactly.0 (sym p.answer ∙ ap answer_told e)), (λ a. one_line_answer answer (Err k) (p.answer ∙ exactly.1 a)))
+call_number : (pieces : Pieces) (t out : List ℕ) {answer : Result Entry Refusal} {left : List ℕ} → Parsed pieces t out left answer → (r : Refusal) → (answer ≡ Err r) ↔ Applies pieces t (length out) (number_of r)
+call_number pieces t out {answer} p r =
+    let exactly = line_number_exactly pieces t (length out) (number_of r) in
+    ((λ e. exactly.0 (sym p.answer ∙ ap told e)), (λ a. one_told answer (Err r) (p.answer ∙ exactly.1 a)))
 
 module _ {t out : List ℕ} {strict : Result Entry Refusal} {left : List ℕ} {lenient : Result Entry Refusal} {left' : List ℕ} (both : BothCalls t out strict left lenient left') where
   calls_same : (Has t BadPiece → ⊥) → (strict ≡ lenient) × (left ≡ left')
   calls_same n =
-      let e : answer_told strict ≡ answer_told lenient = both.strict_call.answer ∙ same_reading t (length out) n ∙ sym both.lenient_call.answer in
-      (one_line_answer strict lenient e, both.strict_call.slots ∙ rw e (sym both.lenient_call.slots))
+      let e : told strict ≡ told lenient = both.strict_call.answer ∙ same_reading t (length out) n ∙ sym both.lenient_call.answer in
+      (one_told strict lenient e, both.strict_call.slots ∙ rw e (sym both.lenient_call.slots))
 
-  strict_number : (k : ℕ) → (strict ≡ Err k) ↔ Applies Strict t (length out) k
+  strict_number : (r : Refusal) → (strict ≡ Err r) ↔ Applies Strict t (length out) (number_of r)
   strict_number = call_number Strict t out both.strict_call
 
-  lenient_number : (k : ℕ) → (lenient ≡ Err k) ↔ Applies Lenient t (length out) k
+  lenient_number : (r : Refusal) → (lenient ≡ Err r) ↔ Applies Lenient t (length out) (number_of r)
   lenient_number = call_number Lenient t out both.lenient_call
 
   -- behind 18 of strict stands what lenient says
@@ -141,28 +147,28 @@ module _ {t out : List ℕ} {strict : Result Entry Refusal} {left : List ℕ} {l
   behind_18 a (Ok e) q = Behind15.accepted e
   behind_18 a (Err k) q =
       let b = (lenient_number k).0 q in
-      late_number t (length out) k b.holds (λ l. a.first k l (condition_either t (length out) Lenient Strict k (λ e. lenient_no_18 t (length out) (rw e at b.holds)) b.holds))
+      late_number t (length out) k b.holds (λ l. a.first (number_of k) l (condition_either t (length out) Lenient Strict (number_of k) (λ e. lenient_no_18 t (length out) (rw e at b.holds)) b.holds))
 
   -- and before it nothing that lenient would refuse
   clear_18 : (r : Result Entry Refusal) → lenient ≡ r → Behind15 r → Clear Lenient t (length out) 16
   unfolding order_of
-  clear_18 r q (Behind15.accepted e) j l = accepted_clears t (length out) Lenient (sym both.lenient_call.answer ∙ ap answer_told q) j (omega arith)
-  clear_18 r q Behind15.many_dwords j l = ((lenient_number 16).0 q).first j (omega arith)
-  clear_18 r q Behind15.few_slots j l = ((lenient_number 17).0 q).first j (omega arith)
+  clear_18 r q (Behind15.accepted e) j l = accepted_clears t (length out) Lenient (sym both.lenient_call.answer ∙ ap told q) j (omega arith)
+  clear_18 r q Behind15.many_dwords j l = ((lenient_number Refusal.ManyDwords).0 q).first j (omega arith)
+  clear_18 r q Behind15.few_slots j l = ((lenient_number Refusal.FewSlots).0 q).first j (omega arith)
 
   eighteen : (strict ≡ Err Refusal.BadPiece) ↔ (Has t BadPiece × Behind15 lenient)
   unfolding Condition order_of
   eighteen = (mp, mpr)
     where
       mp : strict ≡ Err Refusal.BadPiece → Has t BadPiece × Behind15 lenient
-      mp e = let a = (strict_number 18).0 e in (bad a.holds, behind_18 a lenient refl)
+      mp e = let a = (strict_number Refusal.BadPiece).0 e in (bad a.holds, behind_18 a lenient refl)
         where
           bad : Has t (BadFor Strict) → Has t BadPiece
           bad h = record { header = h.header; payload = h.payload; split = h.split; there = h.there }
 
       mpr : Has t BadPiece × Behind15 lenient → strict ≡ Err Refusal.BadPiece
       mpr x =
-          (strict_number 18).1
+          (strict_number Refusal.BadPiece).1
           (record {
             holds = record { header = x.0.header; payload = x.0.payload; split = x.0.split; there = x.0.there };
             first = λ j l c. clear_18 lenient refl x.1 j l (condition_either t (length out) Strict Lenient j (λ e. absurd (not_itself j l e)) c);
@@ -173,7 +179,7 @@ module _ {t out : List ℕ} {strict : Result Entry Refusal} {left : List ℕ} {l
 
   both_accept : (e : Entry) → strict ≡ Ok e → (lenient ≡ Ok e) × (left ≡ left')
   both_accept e q =
-      let l = line_entry_is Strict t (length out) (sym both.strict_call.answer ∙ ap answer_told q) in
+      let l = line_entry_is Strict t (length out) (sym both.strict_call.answer ∙ ap told q) in
       let w = calls_same (λ h. l.good (rw (same_payload t h.split l.split) at h.there)) in
       (sym w.0 ∙ q, w.1)
 
@@ -238,8 +244,8 @@ strict_and_lenient =
     record {
       same_without_bad = λ t out strict left lenient left' both n. calls_same both n;
       eighteen_exactly = λ t out strict left lenient left' both. eighteen both;
-      other_numbers = λ t out strict left lenient left' both k e n. (lenient_number both k).1 (strict_applies t (length out) k n ((strict_number both k).0 e));
-      first_numbers = λ t out strict left lenient left' both k few e. (strict_number both k).1 (lenient_applies t (length out) k few ((lenient_number both k).0 e));
+      other_numbers = λ t out strict left lenient left' both k e n. (lenient_number both k).1 (strict_applies t (length out) (number_of k) (λ q. n (one_number k Refusal.BadPiece q)) ((strict_number both k).0 e));
+      first_numbers = λ t out strict left lenient left' both k few e. (strict_number both k).1 (lenient_applies t (length out) (number_of k) few ((lenient_number both k).0 e));
       lenient_never_18 = λ t out left p. lenient_no_18 t (length out) ((line_number_exactly Lenient t (length out) 18).0 (sym p.answer)).holds;
       accepted_by_both = λ t out strict left lenient left' both e q. both_accept both e q;
       grammar = strict_grammar;

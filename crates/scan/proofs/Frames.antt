@@ -1,7 +1,7 @@
 -- Numbers 1 to 4: each test of the reading is its sentence, and the place of the last colon gives the one split. Assumes nothing.
 use Rattle.std.specs.Prelude.{None, Option, Some}
 use Prim.Native.Nat.{ℕ, ◌≤◌, ◌<◌}
-use mathlib.Core.Path.{◌≡◌, refl}
+use mathlib.Core.Path.{◌≡◌, refl, sym}
 use mathlib.Core.Bool.{Bool, true, false, cond}
 use mathlib.Core.List.{List}
 use native.Mathlib.Omega.{arith}
@@ -10,6 +10,9 @@ use lib.ListN.{length, get_or}
 use borrow.Author.Tests.{lt-ltb, le-ltb, eq-eqb, ne_eqb, ltb-false}
 use Rattle.text.specs.Place.{last_byte, is_at}
 use Rattle.text.proofs.Places.{last_is}
+use Rattle.std.specs.Option.{ok_or}
+use Rattle.refusal.specs.Told.{told}
+use Rattle.refusal.specs.declared.Refusal.TheVariants as Refusal
 use Rattle.text.specs.Told.{is, refused}
 use Rattle.scan.specs.Frame.{idle, first_high, frame_colon, frame_ascii, frame_of}
 
@@ -53,6 +56,11 @@ module _ (t : List ℕ) where
       pub frame-none : first_high t ≡ None → last_byte 58 t ≡ None → frame_of t ≡ refused 4
       unfolding frame_of frame_ascii frame_colon
       frame-none e f = rw (busy, le-ltb 4096 (length t) short, e, f)
+
+      -- as code ends it
+      pub frame_ends : {f : Option ℕ} → first_high t ≡ None → f ≡ last_byte 58 t → told (ok_or f Refusal.NoColon) ≡ frame_of t
+      frame_ends {f = Some k} e q = sym (frame-colon e (sym q))
+      frame_ends {f = None} e q = sym (frame-none e (sym q))
 
   -- the colon lies within the line
   colon_of : (f : Option ℕ) {k : ℕ} → frame_colon f ≡ is k → f ≡ Some k

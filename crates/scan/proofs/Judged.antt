@@ -18,7 +18,6 @@ use Rattle.entry.specs.declared.Entry.{Entry}
 use Rattle.entry.specs.Entry.{value_of}
 use Rattle.entry.specs.Kind.{kind_of}
 use Rattle.header.specs.declared.stamp.Stamp.{Stamp}
-use Rattle.header.specs.declared.stamp.Stamp.TheVariants as S
 use Rattle.header.specs.Dash.{Task, Pid, task_of, pid_of}
 use Rattle.header.specs.Cpu.{Cpu, cpu_of}
 use Rattle.header.specs.Stamp.{Timestamp, stamp_of}
@@ -35,7 +34,6 @@ use Rattle.scan.specs.declared.Pieces.{Pieces}
 use Rattle.scan.specs.declared.Pieces.TheVariants.{Strict, Lenient}
 use Rattle.scan.specs.declared.head.Head.{Head}
 use Rattle.scan.specs.declared.body.Body.{Body}
-use Rattle.scan.specs.Need.{Moment, stamp_value}
 use Rattle.scan.specs.Frame.{Idle, High, Split, idle, first_high, frame_colon, frame_ascii, frame_of}
 use Rattle.scan.specs.Head.{head_of, head6, head7, head8, head9, head_got}
 use Rattle.scan.specs.Body.{text_at, hex_byte, hex_word, decimal_byte, decimal_word, dropped_of, optionals_of, body12, body13, body14, body_of}
@@ -46,33 +44,8 @@ use Rattle.scan.proofs.Frames.{idle_empty, idle_comment, idle_one, idle_not, fra
 use Rattle.scan.proofs.Splits.{split_is, split_colon, one_header, one_payload}
 use Rattle.scan.proofs.Keys.{key_text_is, key_text_all, key_decimal_is, key_decimal_all, key_hex_is, key_hex_all}
 use Rattle.scan.proofs.Stages.{need_goes_on}
-use Rattle.scan.proofs.Values.{task_part, function_part, dwords_whole, byte_read, word_read, optional_decimal, optional_hex, dropped_is}
+use Rattle.scan.proofs.Values.{task_part, function_part, dwords_whole, optional_decimal, optional_hex, dropped_is}
 use Rattle.scan.proofs.Chain.{Clear, clear_starts, clear_next, Answered, refuse, check}
-
--- what stands behind an answer, as a value
-pub number_tells : (n : Option ℕ) {v : ℕ} → n ≡ Some v → n ≡ Some v
-number_tells (Some w) e = cc
-number_tells None e = absurd (let z : ◌≡◌ {A = ℕ} 0 1 = cc in omega arith)
-
-place_tells : (f : Option ℕ) {k : ℕ} → f ≡ Some k → f ≡ Some k
-place_tells (Some j) e = cc
-place_tells None e = absurd (let z : ◌≡◌ {A = ℕ} 0 1 = cc in omega arith)
-
-stamp_tells : (s : Stamp) {m : Moment} → stamp_value s ≡ Some m → s ≡ S.At m.seconds m.microseconds
-unfolding stamp_value
-stamp_tells (S.At a b) {m} e = let q : record { seconds = a; microseconds = b } ≡ m = cc in rw (← q)
-stamp_tells S.Unreadable e = absurd (let z : ◌≡◌ {A = ℕ} 0 1 = cc in omega arith)
-
--- what is there is something
-decimal_there : (v : ℕ) → (Some v) ≡ Some v
-decimal_there v = refl
-
-place_there : (k : ℕ) → (Some k) ≡ Some k
-place_there k = refl
-
-stamp_there : (s u : ℕ) → stamp_value (S.At s u) ≡ Some (record { seconds = s; microseconds = u })
-unfolding stamp_value
-stamp_there s u = refl
 
 -- nothing is not something
 nothing : {X : Type 0} {o : Option X} {a : X} → o ≡ None → o ≡ Some a → ⊥
@@ -174,11 +147,11 @@ module _ (pieces : Pieces) (t : List ℕ) {k : ℕ} (framed : frame_of t ≡ T.i
   line_dwords_lem e = rw (framed, e)
 
   -- with every part there, the entry says what the line says
-  says : (task pid cpu : ℕ) (moment : Moment) (function : ℕ) (name : List ℕ) (size domain route : ℕ) (ds : List ℕ)
+  says : (task pid cpu : ℕ) (stamp : Stamp) (function : ℕ) (name : List ℕ) (size domain route : ℕ) (ds : List ℕ)
       → task_of (header_of t k) ≡ Some task
       → pid_of (header_of t k) ≡ Some pid
       → cpu_of (header_of t k) ≡ Some cpu
-      → stamp_of (header_of t k) ≡ S.At moment.seconds moment.microseconds
+      → stamp_of (header_of t k) ≡ Some stamp
       → function_of (header_of t k) ≡ Some function
       → text_at (payload_of t k) (last_pair (payload_of t k) (bytes "type")) ≡ Some name
       → decimal_of (payload_of t k) (bytes "size") (2 ^ 16 - 1) ≡ Some size
@@ -189,11 +162,11 @@ module _ (pieces : Pieces) (t : List ℕ) {k : ℕ} (framed : frame_of t ≡ T.i
       → length ds ≤ 256
       → Says pieces t
       (entry_of (start_of t k) (length (header_of t k))
-      (record { task = task; pid = pid; cpu = cpu; seconds = moment.seconds; microseconds = moment.microseconds; function = function })
+      (record { task = task; pid = pid; cpu = cpu; seconds = stamp.seconds; microseconds = stamp.microseconds; function = function })
       (record { kind = kind_of name (drop function (header_of t k)); size = size; dropped = dropped_of (payload_of t k); domain = domain; route = route; optionals = optionals_of (payload_of t k) })
       (length ds))
   unfolding value_of entry_of optionals_of hex_word hex_byte decimal_byte decimal_word dropped_of
-  says task pid cpu moment function name size domain route ds a b c d f n s o r e good few =
+  says task pid cpu stamp function name size domain route ds a b c d f n s o r e good few =
       let passed = frame_passed t framed in
       let are : line_dwords t ≡ ds = line_dwords_lem e in
       let task-in : task < length (header_of t k) = task_within (header_of t k) a in
@@ -218,13 +191,13 @@ module _ (pieces : Pieces) (t : List ℕ) {k : ℕ} (framed : frame_of t ≡ T.i
               dropped = dropped_is (payload_of t k);
               domain = key_decimal_is (payload_of t k) (bytes "domain") (2 ^ 32 - 1) o;
               route = key_hex_is (payload_of t k) (bytes "route") (2 ^ 64 - 1) r;
-              offset = rw (word_read _) (optional_hex (payload_of t k) (bytes "offset") (2 ^ 16 - 1));
-              code = rw (byte_read _) (optional_hex (payload_of t k) (bytes "error") (2 ^ 8 - 1));
-              len = rw (word_read _) (optional_decimal (payload_of t k) (bytes "len") (2 ^ 16 - 1));
-              port = rw (byte_read _) (optional_decimal (payload_of t k) (bytes "port") (2 ^ 8 - 1));
-              config = rw (byte_read _) (optional_hex (payload_of t k) (bytes "config") (2 ^ 8 - 1));
-              seq = rw (byte_read _) (optional_decimal (payload_of t k) (bytes "seq") (2 ^ 8 - 1));
-              unplug = rw (byte_read _) (optional_hex (payload_of t k) (bytes "unplug") (2 ^ 8 - 1));
+              offset = optional_hex (payload_of t k) (bytes "offset") (2 ^ 16 - 1);
+              code = optional_hex (payload_of t k) (bytes "error") (2 ^ 8 - 1);
+              len = optional_decimal (payload_of t k) (bytes "len") (2 ^ 16 - 1);
+              port = optional_decimal (payload_of t k) (bytes "port") (2 ^ 8 - 1);
+              config = optional_hex (payload_of t k) (bytes "config") (2 ^ 8 - 1);
+              seq = optional_decimal (payload_of t k) (bytes "seq") (2 ^ 8 - 1);
+              unplug = optional_hex (payload_of t k) (bytes "unplug") (2 ^ 8 - 1);
               dwords = rw (are, dwords_whole ds) (dwords_are (payload_of t k) e);
               good = λ x. clash (bad_for_all pieces (payload_of t k) x) good;
               few = rw (are, dwords_whole ds) few;
@@ -301,64 +274,64 @@ module _ (pieces : Pieces) (t : List ℕ) (room : ℕ) where
               check pieces t room (Says pieces t) (with_body pieces (header_of t k) (start_of t k) head (payload_of t k) room) 12 ((decimal_of (payload_of t k) (bytes "size") (2 ^ 16 - 1))) (T.refused 12) (body13 (payload_of t k) (kind_of name (drop head.function (header_of t k)))) refl c12
               (λ s. lacking t room colon (λ (x y : List ℕ) (v : ℕ). KeyDecimal y (bytes "size") (2 ^ 16 - 1) v) (λ v r. no_decimal (bytes "size") (2 ^ 16 - 1) s r))
               (λ size s. (
-                having t room colon (λ (x y : List ℕ) (v : ℕ). KeyDecimal y (bytes "size") (2 ^ 16 - 1) v) size (key_decimal_is (payload_of t k) (bytes "size") (2 ^ 16 - 1) (number_tells _ s)),
+                having t room colon (λ (x y : List ℕ) (v : ℕ). KeyDecimal y (bytes "size") (2 ^ 16 - 1) v) size (key_decimal_is (payload_of t k) (bytes "size") (2 ^ 16 - 1) s),
                 λ c13.
                     check pieces t room (Says pieces t) (with_body pieces (header_of t k) (start_of t k) head (payload_of t k) room) 13 ((decimal_of (payload_of t k) (bytes "domain") (2 ^ 32 - 1))) (T.refused 13) (body14 (payload_of t k) (kind_of name (drop head.function (header_of t k))) size) refl c13
                     (λ o. lacking t room colon (λ (x y : List ℕ) (v : ℕ). KeyDecimal y (bytes "domain") (2 ^ 32 - 1) v) (λ v r. no_decimal (bytes "domain") (2 ^ 32 - 1) o r))
                     (λ domain o. (
-                      having t room colon (λ (x y : List ℕ) (v : ℕ). KeyDecimal y (bytes "domain") (2 ^ 32 - 1) v) domain (key_decimal_is (payload_of t k) (bytes "domain") (2 ^ 32 - 1) (number_tells _ o)),
+                      having t room colon (λ (x y : List ℕ) (v : ℕ). KeyDecimal y (bytes "domain") (2 ^ 32 - 1) v) domain (key_decimal_is (payload_of t k) (bytes "domain") (2 ^ 32 - 1) o),
                       λ c14.
                           check pieces t room (Says pieces t) (with_body pieces (header_of t k) (start_of t k) head (payload_of t k) room) 14 ((hex_at (payload_of t k) (bytes "route") (2 ^ 64 - 1))) (T.refused 14)
                           (λ route. T.is (record { kind = kind_of name (drop head.function (header_of t k)); size = size; dropped = dropped_of (payload_of t k); domain = domain; route = route; optionals = optionals_of (payload_of t k) })) refl c14
                           (λ r. lacking t room colon (λ (x y : List ℕ) (v : ℕ). KeyHex y (bytes "route") (2 ^ 64 - 1) v) (λ v q. no-hex (bytes "route") (2 ^ 64 - 1) r q))
                           (λ route r. (
-                            having t room colon (λ (x y : List ℕ) (v : ℕ). KeyHex y (bytes "route") (2 ^ 64 - 1) v) route (key_hex_is (payload_of t k) (bytes "route") (2 ^ 64 - 1) (number_tells _ r)),
+                            having t room colon (λ (x y : List ℕ) (v : ℕ). KeyHex y (bytes "route") (2 ^ 64 - 1) v) route (key_hex_is (payload_of t k) (bytes "route") (2 ^ 64 - 1) r),
                             λ c15.
                                 judge_data head (record { kind = kind_of name (drop head.function (header_of t k)); size = size; dropped = dropped_of (payload_of t k); domain = domain; route = route; optionals = optionals_of (payload_of t k) }) c15
-                                (λ ds d good few. done name size domain route ds n (number_tells _ s) (number_tells _ o) (number_tells _ r) d good few),
+                                (λ ds d good few. done name size domain route ds n s o r d good few),
                           )),
                     )),
               )),
         ))
       where
         no_decimal : (key : List ℕ) (limit : ℕ) → (decimal_of (payload_of t k) key limit) ≡ None → {v : ℕ} → KeyDecimal (payload_of t k) key limit v → ⊥
-        no_decimal key limit e {v} r = nothing e (ap (key_decimal_all (payload_of t k) key limit r) ∙ decimal_there v)
+        no_decimal key limit e {v} r = nothing e (key_decimal_all (payload_of t k) key limit r)
 
         no-hex : (key : List ℕ) (limit : ℕ) → (hex_at (payload_of t k) key limit) ≡ None → {v : ℕ} → KeyHex (payload_of t k) key limit v → ⊥
-        no-hex key limit e {v} r = nothing e (ap (key_hex_all (payload_of t k) key limit r) ∙ decimal_there v)
+        no-hex key limit e {v} r = nothing e (key_hex_all (payload_of t k) key limit r)
 
     -- 5 to 9
     judge_head : Clear pieces t room 5 → Ok (parted_answer pieces t k room)
     unfolding Condition order_of parted_answer head_of with_head
     judge_head clear =
         check pieces t room (Says pieces t) (with_head pieces t k room) 5 (task_of (header_of t k)) (T.refused 5) (head6 (header_of t k)) refl clear
-        (λ a. lacking t room colon (λ (x y task : List ℕ). Task x task) (λ task r. nothing a (ap (task_all (header_of t k) r) ∙ place_there _)))
+        (λ a. lacking t room colon (λ (x y task : List ℕ). Task x task) (λ task r. nothing a (task_all (header_of t k) r)))
         (λ task a. (
-          having t room colon (λ (x y task : List ℕ). Task x task) (take task (header_of t k)) (task_is (header_of t k) (place_tells _ a)),
+          having t room colon (λ (x y task : List ℕ). Task x task) (take task (header_of t k)) (task_is (header_of t k) a),
           λ c6.
               check pieces t room (Says pieces t) (with_head pieces t k room) 6 (pid_of (header_of t k)) (T.refused 6) (head7 (header_of t k) task) refl c6
-              (λ b. lacking t room colon (λ (x y : List ℕ) (pid : ℕ). Pid x pid) (λ pid r. nothing b (ap (pid_all (header_of t k) r) ∙ decimal_there _)))
+              (λ b. lacking t room colon (λ (x y : List ℕ) (pid : ℕ). Pid x pid) (λ pid r. nothing b (pid_all (header_of t k) r)))
               (λ pid b. (
-                having t room colon (λ (x y : List ℕ) (pid : ℕ). Pid x pid) pid (pid_is (header_of t k) (number_tells _ b)),
+                having t room colon (λ (x y : List ℕ) (pid : ℕ). Pid x pid) pid (pid_is (header_of t k) b),
                 λ c7.
                     check pieces t room (Says pieces t) (with_head pieces t k room) 7 (cpu_of (header_of t k)) (T.refused 7) (head8 (header_of t k) task pid) refl c7
-                    (λ c. lacking t room colon (λ (x y : List ℕ) (cpu : ℕ). Cpu x cpu) (λ cpu r. nothing c (ap (cpu_all (header_of t k) r) ∙ decimal_there _)))
+                    (λ c. lacking t room colon (λ (x y : List ℕ) (cpu : ℕ). Cpu x cpu) (λ cpu r. nothing c (cpu_all (header_of t k) r)))
                     (λ cpu c. (
-                      having t room colon (λ (x y : List ℕ) (cpu : ℕ). Cpu x cpu) cpu (cpu_is (header_of t k) (number_tells _ c)),
+                      having t room colon (λ (x y : List ℕ) (cpu : ℕ). Cpu x cpu) cpu (cpu_is (header_of t k) c),
                       λ c8.
-                          check pieces t room (Says pieces t) (with_head pieces t k room) 8 (stamp_value (stamp_of (header_of t k))) (T.refused 8) (head9 (header_of t k) task pid cpu) refl c8
+                          check pieces t room (Says pieces t) (with_head pieces t k room) 8 (stamp_of (header_of t k)) (T.refused 8) (head9 (header_of t k) task pid cpu) refl c8
                           (λ d. no-stamp d)
-                          (λ moment d. (
-                            (λ m. m (header_of t k) (payload_of t k) (split t room colon) (record { seconds = moment.seconds; microseconds = moment.microseconds; timestamp = timestamp_is (header_of t k) (stamp_tells _ d) })),
+                          (λ stamp d. (
+                            (λ m. m (header_of t k) (payload_of t k) (split t room colon) (record { seconds = stamp.seconds; microseconds = stamp.microseconds; timestamp = timestamp_is (header_of t k) d })),
                             λ c9.
-                                check pieces t room (Says pieces t) (with_head pieces t k room) 9 (function_of (header_of t k)) (T.refused 9) (head_got task pid cpu moment) refl c9
-                                (λ f. lacking t room colon (λ (x y function : List ℕ). Function x function) (λ function r. nothing f (ap (function_all (header_of t k) r) ∙ place_there _)))
+                                check pieces t room (Says pieces t) (with_head pieces t k room) 9 (function_of (header_of t k)) (T.refused 9) (head_got task pid cpu stamp) refl c9
+                                (λ f. lacking t room colon (λ (x y function : List ℕ). Function x function) (λ function r. nothing f (function_all (header_of t k) r)))
                                 (λ function f. (
-                                  having t room colon (λ (x y function : List ℕ). Function x function) (drop function (header_of t k)) (function_is (header_of t k) (place_tells _ f)),
+                                  having t room colon (λ (x y function : List ℕ). Function x function) (drop function (header_of t k)) (function_is (header_of t k) f),
                                   λ c10.
-                                      judge_body (record { task = task; pid = pid; cpu = cpu; seconds = moment.seconds; microseconds = moment.microseconds; function = function }) (no-ten c10)
+                                      judge_body (record { task = task; pid = pid; cpu = cpu; seconds = stamp.seconds; microseconds = stamp.microseconds; function = function }) (no-ten c10)
                                       (λ name size domain route ds n s o r e good few.
-                                      says pieces t framed task pid cpu moment function name size domain route ds (place_tells _ a) (number_tells _ b) (number_tells _ c) (stamp_tells _ d) (place_tells _ f) n s o r e good few),
+                                      says pieces t framed task pid cpu stamp function name size domain route ds a b c d f n s o r e good few),
                                 )),
                           )),
                     )),
@@ -369,10 +342,10 @@ module _ (pieces : Pieces) (t : List ℕ) (room : ℕ) where
         no-ten : Clear pieces t room 10 → Clear pieces t room 11
         no-ten c10 = clear_next pieces t room 10 c10 (λ row. row)
 
-        no-stamp : stamp_value (stamp_of (header_of t k)) ≡ None → (header payload : List ℕ) → Split t header payload → Stamped header → ⊥
+        no-stamp : stamp_of (header_of t k) ≡ None → (header payload : List ℕ) → Split t header payload → Stamped header → ⊥
         no-stamp d header payload s r =
             let w : Timestamp (header_of t k) r.seconds r.microseconds = rw (← one_header t colon s) r.timestamp in
-            nothing d (ap stamp_value (timestamp_all (header_of t k) w) ∙ stamp_there _ _)
+            nothing d (timestamp_all (header_of t k) w)
 
   -- 1 to 4
   pub judge : Answered pieces t room (Says pieces t) (parse_of pieces t room)

@@ -1,6 +1,6 @@
 -- The column "required" of the table of keys, both ways: a line has a pair of every key that it must have, since the grammar asks for it; and
 -- a line that has these alone is one. Assumes nothing.
-use Rattle.std.specs.Prelude.{None, Option}
+use Rattle.std.specs.Prelude.{None, Option, Some}
 use Prim.Native.Nat.{ℕ}
 use mathlib.Core.Path.{◌≡◌, refl}
 use mathlib.Core.Bool.{Bool, true, false, ◌&&◌, ◌||◌}

@@ -1,13 +1,13 @@
 -- What the one walk keeps of each key is what the payload's definitions say of it, a line a key: its row of the table has the base and the
 -- width that the definition asks for. Assumes nothing.
+use Rattle.std.specs.Prelude.{None}
 use Prim.Native.Nat.{ℕ, ◌-◌, ◌^◌, ◌≤◌, ◌<◌}
 use mathlib.Core.Path.{◌≡◌, refl}
 use mathlib.Core.List.{List}
 use native.Mathlib.Omega.{arith}
 use lib.ListN.{length, get_or}
 use Rattle.text.specs.Quote.{bytes}
-use Rattle.pairs.specs.declared.pair.Span.TheVariants as S
-use Rattle.pairs.specs.Pair.{last_pair, decimal_of, hex_at}
+use Rattle.pairs.specs.Pair.{last_pair, span, decimal_of, hex_at}
 use Rattle.pairs.specs.Table.{keys, row_at}
 use Rattle.walk.specs.Kept.{kept_in, LastKept, said_by, base_of, limit_of}
 use Rattle.walk.proofs.Said.{read_key, stands_at, stands_nowhere, says, says_most}
@@ -21,11 +21,11 @@ module _ (p : List ℕ) {values ends : List ℕ} (w : LastKept p values ends) wh
   most k h b l = says_most p (row_at k) (w.each k h) b l
 
   -- ---- a line a key
-  pub type_at_lem : (get_or ends 0 0 ≡ 0 → ⊥) → last_pair p (bytes "type") ≡ S.At (get_or values 0 0) (get_or ends 0 0)
+  pub type_at_lem : (get_or ends 0 0 ≡ 0 → ⊥) → last_pair p (bytes "type") ≡ span (get_or values 0 0) (get_or ends 0 0)
   unfolding row_at keys kept_in
   type_at_lem n = stands_at p (row_at 0) (w.each 0 (omega arith)) (λ a b. refl) n
 
-  pub type_nowhere : get_or ends 0 0 ≡ 0 → last_pair p (bytes "type") ≡ S.Nothing
+  pub type_nowhere : get_or ends 0 0 ≡ 0 → last_pair p (bytes "type") ≡ None
   unfolding row_at keys kept_in
   type_nowhere e = stands_nowhere p (row_at 0) (w.each 0 (omega arith)) (λ a b. refl) e
 
@@ -49,11 +49,11 @@ module _ (p : List ℕ) {values ends : List ℕ} (w : LastKept p values ends) wh
   unfolding row_at keys base_of
   route_said = said 3 (omega arith) (omega arith)
 
-  pub data_at : (get_or ends 4 0 ≡ 0 → ⊥) → last_pair p (bytes "data") ≡ S.At (get_or values 4 0) (get_or ends 4 0)
+  pub data_at : (get_or ends 4 0 ≡ 0 → ⊥) → last_pair p (bytes "data") ≡ span (get_or values 4 0) (get_or ends 4 0)
   unfolding row_at keys kept_in
   data_at n = stands_at p (row_at 4) (w.each 4 (omega arith)) (λ a b. refl) n
 
-  pub data_nowhere : get_or ends 4 0 ≡ 0 → last_pair p (bytes "data") ≡ S.Nothing
+  pub data_nowhere : get_or ends 4 0 ≡ 0 → last_pair p (bytes "data") ≡ None
   unfolding row_at keys kept_in
   data_nowhere e = stands_nowhere p (row_at 4) (w.each 4 (omega arith)) (λ a b. refl) e
 

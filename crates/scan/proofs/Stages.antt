@@ -1,6 +1,9 @@
 -- The stages of the reading: at each way out the answer is the definition's, and the slots hold the dwords or are as found.
 -- Assumes nothing.
+use Rattle.refusal.specs.Number.{number_of}
+use Rattle.refusal.specs.Told.{told}
 use Rattle.std.specs.Prelude.{Err, None, Ok, Option, Result, Some}
+use Rattle.std.specs.Option.{ok_or}
 use Rattle.refusal.specs.declared.Refusal.{Refusal}
 use Rattle.refusal.specs.declared.Refusal.TheVariants as Refusal
 use Rattle.entry.specs.declared.Entry.{Entry}
@@ -12,7 +15,6 @@ use native.Mathlib.Omega.{arith}
 use lib.ListN.{length, take, drop, length-take}
 use borrow.Author.Tests.{lt-ltb, le-ltb}
 use Rattle.text.specs.Told as T
-use Rattle.text.proofs.Told.{by_cases, fixed_by_told}
 use Rattle.header.specs.Dash.{task_of, pid_of}
 use Rattle.header.specs.Cpu.{cpu_of}
 use Rattle.header.specs.Stamp.{stamp_of}
@@ -25,11 +27,11 @@ use Rattle.header.proofs.Functions.{function_within}
 use Rattle.scan.specs.declared.head.Head.{Head}
 use Rattle.scan.specs.declared.body.Body.{Body}
 use Rattle.scan.specs.declared.Pieces.{Pieces}
-use Rattle.scan.specs.Need.{need, stamp_value}
-use Rattle.scan.specs.Frame.{frame_told, frame_of}
-use Rattle.scan.specs.Head.{head_told, head_of, head6, head7, head8, head9, head_got}
-use Rattle.scan.specs.Body.{text_at, body_told, body_of}
-use Rattle.scan.specs.Dwords.{payload_data, payload_bad, refuses, data_told, data_answer, data_slots, DataRead}
+use Rattle.scan.specs.Need.{need}
+use Rattle.scan.specs.Frame.{frame_of}
+use Rattle.scan.specs.Head.{head_of, head6, head7, head8, head9, head_got}
+use Rattle.scan.specs.Body.{text_at, body_of}
+use Rattle.scan.specs.Dwords.{payload_data, payload_bad, refuses, data_answer, data_slots, DataRead}
 use Rattle.scan.specs.Parse.{header_of, payload_of, start_of, entry_of, with_data, with_body, payload_answer, with_head, parted_answer, with_frame, parse_of, dwords_by, line_dwords, slots_by, Parsed, PartedRead, PayloadRead}
 
 -- the dwords of a payload, as code finds them
@@ -73,28 +75,28 @@ module _ (pieces : Pieces) (p out : List ℕ) where
 
 -- header and payload together
 module _ (pieces : Pieces) (header : List ℕ) (start : ℕ) (head : Head) (payload out : List ℕ) where
-  pub payload_refused : {k : ℕ} → body_of payload (drop head.function header) ≡ T.refused k → PayloadRead pieces header start head payload out out (Err k)
+  pub payload_refused : {k : Refusal} {x : Result Entry Refusal} → body_of payload (drop head.function header) ≡ T.refused (number_of k) → x ≡ Err k → PayloadRead pieces header start head payload out out x
   unfolding payload_answer with_body slots_by
-  payload_refused e = record { answer = rw e; slots = refl }
+  payload_refused e q = rw q (record { answer = rw e; slots = refl })
 
   module _ {body : Body} (got : body_of payload (drop head.function header) ≡ T.is body) {exit : List ℕ} {r : Result ℕ Refusal} (read : DataRead pieces payload out exit r) where
-    pub data_refused : {k : ℕ} → r ≡ Err k → PayloadRead pieces header start head payload out exit (Err k)
+    pub data_refused : {k : Refusal} {x : Result Entry Refusal} → r ≡ Err k → x ≡ Err k → PayloadRead pieces header start head payload out exit x
     unfolding payload_answer with_body with_data slots_by data_slots
-    data_refused e =
-        let a : data_answer pieces payload (length out) ≡ T.refused _ = sym read.answer ∙ ap data_told e in
-        record { answer = rw (got, a); slots = read.slots ∙ rw e }
+    data_refused e q =
+        let a : data_answer pieces payload (length out) ≡ T.refused _ = sym read.answer ∙ ap told e in
+        rw q (record { answer = rw (got, a); slots = read.slots ∙ rw e })
 
     pub payload_read : {n : ℕ} {x : _} → r ≡ Ok n → x ≡ entry_of start (length header) head body n → PayloadRead pieces header start head payload out exit (Ok x)
     unfolding payload_answer with_body with_data slots_by data_slots
     payload_read e q =
-        let a : data_answer pieces payload (length out) ≡ T.is _ = sym read.answer ∙ ap data_told e in
+        let a : data_answer pieces payload (length out) ≡ T.is _ = sym read.answer ∙ ap told e in
         record { answer = rw (got, a, q); slots = read.slots ∙ rw e }
 
 -- a line parted at a colon
 module _ (pieces : Pieces) (t : List ℕ) (colon : ℕ) (out : List ℕ) where
-  pub parted_refused : {k : ℕ} → head_of (header_of t colon) ≡ T.refused k → PartedRead pieces t colon out out (Err k)
+  pub parted_refused : {k : Refusal} {x : Result Entry Refusal} → head_of (header_of t colon) ≡ T.refused (number_of k) → x ≡ Err k → PartedRead pieces t colon out out x
   unfolding parted_answer with_head slots_by
-  parted_refused e = record { answer = rw e; slots = refl }
+  parted_refused e q = rw q (record { answer = rw e; slots = refl })
 
   pub parted_read : {head : Head} {exit : List ℕ} {r : Result Entry Refusal} → head_of (header_of t colon) ≡ T.is head → PayloadRead pieces (header_of t colon) (start_of t colon) head (payload_of t colon) out exit r → PartedRead pieces t colon out exit r
   unfolding parted_answer with_head
@@ -102,22 +104,23 @@ module _ (pieces : Pieces) (t : List ℕ) (colon : ℕ) (out : List ℕ) where
 
 -- a line
 module _ (pieces : Pieces) (t out : List ℕ) where
-  pub line_refused : {k : ℕ} → frame_of t ≡ T.refused k → Parsed pieces t out out (Err k)
+  pub line_refused : {k : Refusal} {x : Result Entry Refusal} → frame_of t ≡ T.refused (number_of k) → x ≡ Err k → Parsed pieces t out out x
   unfolding parse_of with_frame slots_by
-  line_refused e = record { answer = rw e; slots = refl }
+  line_refused e q = rw q (record { answer = rw e; slots = refl })
 
   pub line_read : {k : ℕ} {exit : List ℕ} {r : Result Entry Refusal} → frame_of t ≡ T.is k → PartedRead pieces t k out exit r → Parsed pieces t out exit r
   unfolding parse_of with_frame line_dwords dwords_by
   line_read e p = record { answer = p.answer ∙ rw e; slots = p.slots ∙ rw e }
 
+-- what `ok_or` went on with
+pub was_there : {A E : Type 0} (o : Option A) (e : E) {r : Result A E} {a : A} → r ≡ ok_or o e → r ≡ Ok a → o ≡ Some a
+was_there (Some b) e p q = cc
+was_there None e p q = absurd (let z : ◌≡◌ {A = ℕ} 0 1 = cc in omega arith)
+
 -- what a need went on with
 pub need_goes_on : {X B : Type 0} (o : Option X) (x : B) (f : X → B) {y : B} → need x o f ≡ y → (x ≡ y → ⊥) → (a : X) × (o ≡ Some a) × (f a ≡ y)
 need_goes_on None x f e n = absurd (n e)
 need_goes_on (Some a) x f e n = (a, refl, e)
-
-place_tells : (f : Option ℕ) {k : ℕ} → f ≡ Some k → f ≡ Some k
-place_tells (Some j) e = cc
-place_tells None e = absurd (let z : ◌≡◌ {A = ℕ} 0 1 = cc in omega arith)
 
 unlike : {k : ℕ} {head : Head} → T.refused k ≡ T.is head → ⊥
 unlike e = let z : ◌≡◌ {A = ℕ} 0 1 = cc in omega arith
@@ -132,9 +135,9 @@ head_function h {head} e =
     let a = need_goes_on (task_of h) (T.refused 5) (head6 h) e unlike in
     let b = need_goes_on (pid_of h) (T.refused 6) (head7 h a.0) a.2 unlike in
     let c = need_goes_on (cpu_of h) (T.refused 7) (head8 h a.0 b.0) b.2 unlike in
-    let d = need_goes_on (stamp_value (stamp_of h)) (T.refused 8) (head9 h a.0 b.0 c.0) c.2 unlike in
+    let d = need_goes_on (stamp_of h) (T.refused 8) (head9 h a.0 b.0 c.0) c.2 unlike in
     let f = need_goes_on (function_of h) (T.refused 9) (head_got a.0 b.0 c.0 d.0) d.2 unlike in
-    place_tells (function_of h) (f.1 ∙ ap Some (same_function f.2))
+    f.1 ∙ ap Some (same_function f.2)
 
 -- the same header, start and payload under other names
 pub payload_same : {pieces : Pieces} {h h' p p' out exit : List ℕ} {s s' : ℕ} {head : Head} {r : Result Entry Refusal} → h ≡ h' → s ≡ s' → p ≡ p' → PayloadRead pieces h s head p out exit r → PayloadRead pieces h' s' head p' out exit r
@@ -146,33 +149,3 @@ parted_allows t colon {head} {h} {s} a b fits e =
     let f = function_within h (head_function h e) in
     let size : s + length h ≤ length (take colon t) = rw (b, a) (strip_size (take colon t)) in
     (omega arith, omega (arith, length-take colon t))
-
--- ---- no second answer of a stage: two that tell the same are the same
-
-pub one_frame_answer : (a b : Result ℕ Refusal) → frame_told a ≡ frame_told b → a ≡ b
-one_frame_answer = fixed_by_told frame_told (by_cases Ok (Err 0) Err) same
-  where
-    same : (a : Result ℕ Refusal) → by_cases Ok (Err 0) Err (frame_told a) ≡ a
-    same (Ok k) = refl
-    same (Err k) = refl
-
-pub one_head_answer : (a b : Result Head Refusal) → head_told a ≡ head_told b → a ≡ b
-one_head_answer = fixed_by_told head_told (by_cases Ok (Err 0) Err) same
-  where
-    same : (a : Result Head Refusal) → by_cases Ok (Err 0) Err (head_told a) ≡ a
-    same (Ok head) = refl
-    same (Err k) = refl
-
-pub one_body_answer : (a b : Result Body Refusal) → body_told a ≡ body_told b → a ≡ b
-one_body_answer = fixed_by_told body_told (by_cases Ok (Err 0) Err) same
-  where
-    same : (a : Result Body Refusal) → by_cases Ok (Err 0) Err (body_told a) ≡ a
-    same (Ok body) = refl
-    same (Err k) = refl
-
-pub one_data_answer : (a b : Result ℕ Refusal) → data_told a ≡ data_told b → a ≡ b
-one_data_answer = fixed_by_told data_told (by_cases Ok (Err 0) Err) same
-  where
-    same : (a : Result ℕ Refusal) → by_cases Ok (Err 0) Err (data_told a) ≡ a
-    same (Ok n) = refl
-    same (Err k) = refl

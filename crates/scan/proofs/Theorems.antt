@@ -1,5 +1,8 @@
 -- The promises of the line, as an auditor looks for them: given 256 slots, accepted exactly when it belongs to the grammar; each number exactly when it
 -- applies first, one reading, no second answer. All follow from `judge` and from each field having one value. Assumes nothing.
+use Rattle.refusal.specs.Number.{number_of}
+use Rattle.refusal.specs.Told.{told}
+use Rattle.refusal.proofs.Told.{one_told}
 use Rattle.std.specs.Prelude.{Err, None, Ok, Option, Result, Some}
 use Rattle.refusal.specs.declared.Refusal.{Refusal}
 use Prim.Native.Nat.{ℕ, ◌-◌, ◌^◌, ◌≤◌, ◌<◌}
@@ -13,7 +16,6 @@ use lib.ListN.{length, drop}
 use borrow.Author.Tests.{eqb-true}
 use Rattle.text.specs.Quote.{bytes}
 use Rattle.text.specs.Told as T
-use Rattle.text.proofs.Told.{by_cases, fixed_by_told}
 use Rattle.text.proofs.Places.{by_order}
 use Rattle.text.proofs.Numbers.{one_number}
 use Rattle.text.proofs.Hexes.{one_hex}
@@ -27,7 +29,7 @@ use Rattle.pairs.proofs.LastPairs.{one_last_pair}
 use Rattle.pairs.proofs.Slots.{one_data}
 use Rattle.scan.specs.declared.Pieces.{Pieces}
 use Rattle.scan.specs.Frame.{Split}
-use Rattle.scan.specs.Parse.{parse_of, line_dwords, answer_told, slots_by, Parsed}
+use Rattle.scan.specs.Parse.{parse_of, line_dwords, slots_by, Parsed}
 use Rattle.scan.specs.Line.{KeyText, KeyDecimal, KeyHex, Optional, Dropped, Dwords, Line, Has, MoreThan, Condition, order_of, Applies}
 use Rattle.scan.proofs.Splits.{split_colon, one_header, one_payload}
 use Rattle.scan.proofs.Values.{dwords_part, dwords_whole}
@@ -240,20 +242,12 @@ parsed_entry pieces t out {exit} {e} p =
     }
 
 -- a refusal is the first number that applies, and no slot is touched
-pub parsed_refused : (pieces : Pieces) (t out : List ℕ) {exit : List ℕ} {k : ℕ} → Parsed pieces t out exit (Err k) → Applies pieces t (length out) k × (exit ≡ out)
+pub parsed_refused : (pieces : Pieces) (t out : List ℕ) {exit : List ℕ} {e : Refusal} → Parsed pieces t out exit (Err e) → Applies pieces t (length out) (number_of e) × (exit ≡ out)
 unfolding slots_by
 parsed_refused pieces t out p = ((line_number_exactly pieces t (length out) _).0 (sym p.answer), p.slots)
-
--- two answers that tell the same are the same
-pub one_line_answer : (a b : Result Entry Refusal) → answer_told a ≡ answer_told b → a ≡ b
-one_line_answer = fixed_by_told answer_told (by_cases Ok (Err 0) Err) same
-  where
-    same : (a : Result Entry Refusal) → by_cases Ok (Err 0) Err (answer_told a) ≡ a
-    same (Ok e) = refl
-    same (Err k) = refl
 
 -- no second answer satisfies the contract, slots included
 pub no_second_answer : (pieces : Pieces) (t out : List ℕ) {exit exit' : List ℕ} {r r' : Result Entry Refusal} → Parsed pieces t out exit r → Parsed pieces t out exit' r' → (r ≡ r') × (exit ≡ exit')
 no_second_answer pieces t out {exit} {exit'} {r} {r'} a b =
-    let same : answer_told r ≡ answer_told r' = a.answer ∙ sym b.answer in
-    (one_line_answer r r' same, a.slots ∙ rw same (sym b.slots))
+    let same : told r ≡ told r' = a.answer ∙ sym b.answer in
+    (one_told r r' same, a.slots ∙ rw same (sym b.slots))

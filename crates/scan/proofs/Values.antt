@@ -68,14 +68,6 @@ pub dwords_whole : (ds : List ℕ) → part_of ds 0 (length ds) ≡ ds
 dwords_whole ds = sym (part_in ds 0 (length ds) (omega arith)) ∙ take_all (length ds) ds (omega arith)
 
 -- a byte or word that was read, as a value
-pub byte_read : (o : Option ℕ) → o ≡ o
-byte_read (Some v) = refl
-byte_read None = refl
-
-pub word_read : (o : Option ℕ) → o ≡ o
-word_read (Some v) = refl
-word_read None = refl
-
 -- an optional field is what its key reads as, or the key reads as nothing
 module _ (p key : List ℕ) (limit : ℕ) where
   pub optional_decimal : Optional (KeyDecimal p key limit) (decimal_of p key limit)

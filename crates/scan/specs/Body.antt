@@ -1,6 +1,5 @@
 -- Numbers 11 to 14: what a payload says but for its dwords, in the order of the numbers.
-use Rattle.refusal.specs.declared.Refusal.{Refusal}
-use Rattle.std.specs.Prelude.{ℕ, ◌-◌, ◌^◌, Bool, false, List, eqb, Err, None, Ok, Option, Result, Some}
+use Rattle.std.specs.Prelude.{ℕ, ◌-◌, ◌^◌, Bool, false, List, eqb, None, Option, Some}
 use Rattle.text.specs.Told.{Told, is, refused}
 use Rattle.text.specs.Quote.{bytes}
 use Rattle.entry.specs.Kind.{kind_of}
@@ -52,11 +51,6 @@ optionals_of p =
       seq = decimal_byte p (bytes "seq");
       unplug = hex_byte p (bytes "unplug");
     }
-
--- what each case of the payload's answer tells: what it says but for its dwords, or the number
-abbrev pub body_told : Result Body Refusal → Told Body
-body_told (Ok body) = is body
-body_told (Err k) = refused k
 
 -- from each number on
 abbrev pub body14 : List ℕ → ℕ → ℕ → ℕ → Told Body

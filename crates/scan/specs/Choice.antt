@@ -1,6 +1,7 @@
 -- Strict and lenient side by side, over the contract of `parse`: where no piece is bad they are the same, and where one is, 18 is all that strict adds.
 use Rattle.refusal.specs.declared.Refusal.{Refusal}
 use Rattle.refusal.specs.declared.Refusal.TheVariants as Refusal
+use Rattle.refusal.specs.Number.{number_of}
 use Rattle.std.specs.Prelude.{ℕ, ◌≤◌, ◌≡◌, List, ◌↔◌, length, Err, Ok, Result}
 use Rattle.entry.specs.declared.Entry.{Entry}
 use Rattle.entry.specs.Entry.{EntryValue}
@@ -29,10 +30,10 @@ pub record StrictAndLenient : Type 0 where
       → (strict ≡ Err Refusal.BadPiece) ↔ (Has t BadPiece × Behind15 lenient)
   -- any other number of strict is lenient's too
   pub other_numbers : (t out : List ℕ) (strict : Result Entry Refusal) (left : List ℕ) (lenient : Result Entry Refusal) (left' : List ℕ) → BothCalls t out strict left lenient left'
-      → (k : ℕ) → strict ≡ Err k → (k ≡ 18 → ⊥) → lenient ≡ Err k
+      → (e : Refusal) → strict ≡ Err e → (e ≡ Refusal.BadPiece → ⊥) → lenient ≡ Err e
   -- 1 to 15 of lenient are strict's too
   pub first_numbers : (t out : List ℕ) (strict : Result Entry Refusal) (left : List ℕ) (lenient : Result Entry Refusal) (left' : List ℕ) → BothCalls t out strict left lenient left'
-      → (k : ℕ) → k ≤ 15 → lenient ≡ Err k → strict ≡ Err k
+      → (e : Refusal) → number_of e ≤ 15 → lenient ≡ Err e → strict ≡ Err e
   -- lenient never says 18
   pub lenient_never_18 : (t out left : List ℕ) → Parsed Lenient t out left (Err Refusal.BadPiece) → ⊥
   -- what strict accepts lenient accepts, as the same entry with the same dwords

@@ -1,6 +1,7 @@
 -- Numbers 15, 18, 16 and 17, in this order: the dwords of a payload, and the slots they go into.
 use Rattle.refusal.specs.declared.Refusal.{Refusal}
-use Rattle.std.specs.Prelude.{ℕ, ◌≡◌, Bool, false, cond, List, [], ltb, length, Err, None, Ok, Option, Result, Some}
+use Rattle.refusal.specs.Told.{told}
+use Rattle.std.specs.Prelude.{ℕ, ◌≡◌, Bool, false, cond, List, [], ltb, length, None, Option, Result, Some}
 use Rattle.text.specs.Told.{Told, is, absent, refused}
 use Rattle.text.specs.Quote.{bytes}
 use Rattle.pairs.specs.Pair.{last_pair}
@@ -22,11 +23,6 @@ payload_bad p = need false (text_at p (last_pair p (bytes "data"))) bad_data
 unfoldable pub refuses : Pieces → Bool → Bool
 refuses Strict bad = bad
 refuses Lenient bad = false
-
--- what each case of the data's answer tells: how many dwords, or the number
-abbrev pub data_told : Result ℕ Refusal → Told ℕ
-data_told (Ok n) = is n
-data_told (Err k) = refused k
 
 -- 16 counts dwords, then 17 the slots
 abbrev pub data16 : ℕ → List ℕ → Told ℕ
@@ -53,5 +49,5 @@ data_slots (refused k) ds out = out
 
 -- the answer, and each slot
 pub record DataRead (pieces : Pieces) (p out exit : List ℕ) (r : Result ℕ Refusal) : Type 0 where
-  pub answer : data_told r ≡ data_answer pieces p (length out)
-  pub slots : exit ≡ data_slots (data_told r) (or_empty (payload_data p)) out
+  pub answer : told r ≡ data_answer pieces p (length out)
+  pub slots : exit ≡ data_slots (told r) (or_empty (payload_data p)) out

@@ -1,6 +1,5 @@
 -- Numbers 1 to 4: what a line must be before its parts are looked at.
-use Rattle.refusal.specs.declared.Refusal.{Refusal}
-use Rattle.std.specs.Prelude.{ℕ, ◌<◌, ◌≤◌, ◌≡◌, Bool, cond, ◌&&◌, ◌||◌, List, [], ◌∷◌, ◌++◌, ltb, leb, eqb, length, get_or, Err, None, Ok, Option, Result, Some}
+use Rattle.std.specs.Prelude.{ℕ, ◌<◌, ◌≤◌, ◌≡◌, Bool, cond, ◌&&◌, ◌||◌, List, [], ◌∷◌, ◌++◌, ltb, leb, eqb, length, get_or, None, Option, Some}
 use Rattle.text.specs.Told.{Told, is, refused}
 use Rattle.text.specs.Place.{first_place, last_byte, is_at}
 use Rattle.text.specs.Run.{Stripped}
@@ -25,11 +24,6 @@ pub record Split (t header payload : List ℕ) : Type 0 where
   pub last : (k : ℕ) → k < length after → get_or after k 0 ≡ 58 → ⊥
   pub header_stripped : Stripped before header
   pub payload_stripped : Stripped after payload
-
--- what each case of the frame's answer tells: the place of the last colon, or the number
-abbrev pub frame_told : Result ℕ Refusal → Told ℕ
-frame_told (Ok k) = is k
-frame_told (Err k) = refused k
 
 -- is the line empty, a newline alone, or a comment?
 unfoldable pub idle : List ℕ → Bool

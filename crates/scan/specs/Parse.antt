@@ -1,6 +1,7 @@
 -- The reading of a line: the stages in the order of their checks.
 use Rattle.refusal.specs.declared.Refusal.{Refusal}
-use Rattle.std.specs.Prelude.{ℕ, ◌+◌, ◌-◌, ◌≡◌, List, [], length, take, drop, Err, Ok, Result}
+use Rattle.refusal.specs.Told.{told}
+use Rattle.std.specs.Prelude.{ℕ, ◌+◌, ◌-◌, ◌≡◌, List, [], length, take, drop, Result}
 use Rattle.text.specs.Told.{Told, is, absent, refused, and_then}
 use Rattle.text.specs.Class.{is_blank}
 use Rattle.text.specs.Run.{run_end, stripped}
@@ -95,11 +96,6 @@ line_dwords t = dwords_by t (frame_of t)
 
 -- ---- what is promised
 
--- what each case of an answer tells: the entry, or the number of document 01 or 02
-abbrev pub answer_told : Result Entry Refusal → Told Entry
-answer_told (Ok e) = is e
-answer_told (Err k) = refused k
-
 -- the slots by what is told: success writes the dwords from the first and no others, a refusal none
 unfoldable pub slots_by : Told Entry → List ℕ → List ℕ → List ℕ
 slots_by (is e) ds out = filled ds out
@@ -108,15 +104,15 @@ slots_by (refused k) ds out = out
 
 -- the answer, and each slot
 pub record Parsed (pieces : Pieces) (t out exit : List ℕ) (r : Result Entry Refusal) : Type 0 where
-  pub answer : answer_told r ≡ parse_of pieces t (length out)
-  pub slots : exit ≡ slots_by (answer_told r) (line_dwords t) out
+  pub answer : told r ≡ parse_of pieces t (length out)
+  pub slots : exit ≡ slots_by (told r) (line_dwords t) out
 
 -- the same of a line parted at a colon
 pub record PartedRead (pieces : Pieces) (t : List ℕ) (colon : ℕ) (out exit : List ℕ) (r : Result Entry Refusal) : Type 0 where
-  pub answer : answer_told r ≡ parted_answer pieces t colon (length out)
-  pub slots : exit ≡ slots_by (answer_told r) (or_empty (payload_data (payload_of t colon))) out
+  pub answer : told r ≡ parted_answer pieces t colon (length out)
+  pub slots : exit ≡ slots_by (told r) (or_empty (payload_data (payload_of t colon))) out
 
 -- the same of a header that was read and a payload
 pub record PayloadRead (pieces : Pieces) (header : List ℕ) (start : ℕ) (head : Head) (payload out exit : List ℕ) (r : Result Entry Refusal) : Type 0 where
-  pub answer : answer_told r ≡ payload_answer pieces header start head payload (length out)
-  pub slots : exit ≡ slots_by (answer_told r) (or_empty (payload_data payload)) out
+  pub answer : told r ≡ payload_answer pieces header start head payload (length out)
+  pub slots : exit ≡ slots_by (told r) (or_empty (payload_data payload)) out

@@ -1,7 +1,8 @@
 // What a payload says but for its dwords: numbers 11 to 14.
 ghost use Rattle.std.specs.Prelude.{◌≡◌, ℕ, ◌^◌, ◌-◌, ◌≤◌, ◌<◌, List};
 ghost use Rattle.walk.specs.Kept.{LastKept, said_by};
-ghost use Rattle.scan.specs.Body.{is_one, optionals_of, body_told, body_of};
+ghost use Rattle.refusal.specs.Told.{told};
+ghost use Rattle.scan.specs.Body.{is_one, optionals_of, body_of};
 
 use entry::kind::kind_of;
 use pairs::keys::{
@@ -39,7 +40,7 @@ pub fn read_body(
     ends: &[usize; ROWS],
 ) -> Result<Body, Refusal>
     requires { LastKept p.now values.now ends.now }
-    ensures { body_told result ≡ body_of p.now function.now }
+    ensures { told result ≡ body_of p.now function.now }
 {
     if ends[TYPE] == 0 {
         return Err(Refusal::NoType);

@@ -1,7 +1,8 @@
 // What a line must be before its parts are looked at: numbers 1 to 4.
 ghost use Rattle.std.specs.Prelude.{◌≡◌, length};
 ghost use Rattle.scan.specs.High.{is_nothing, Level};
-ghost use Rattle.scan.specs.Frame.{idle, first_high, frame_told, frame_of};
+ghost use Rattle.refusal.specs.Told.{told};
+ghost use Rattle.scan.specs.Frame.{idle, first_high, frame_of};
 
 use refusal::Refusal;
 use text::place::{byte_at, last};
@@ -17,7 +18,7 @@ const STRIDE: usize = 32;
 
 // The last colon, which parts header from payload. Handed on as `&line[..]` for speed alone (C55).
 pub fn read_frame(line: &[u8]) -> Result<usize, Refusal>
-    ensures { frame_told result ≡ frame_of line.now }
+    ensures { told result ≡ frame_of line.now }
 {
     if is_idle(line) {
         return Err(Refusal::Idle);
@@ -28,10 +29,7 @@ pub fn read_frame(line: &[u8]) -> Result<usize, Refusal>
     if !none_high(line) {
         return Err(Refusal::NotAscii);
     }
-    match last(&line[..], b':') {
-        Some(k) => Ok(k),
-        None => Err(Refusal::NoColon),
-    }
+    last(&line[..], b':').ok_or(Refusal::NoColon)
 }
 
 // Empty, a newline alone, or a comment.

@@ -16,10 +16,10 @@ use crate::frame::read_frame;
 use crate::head::{Head, read_head};
 use entry::Entry;
 use pairs::keys::{DATA, ROWS};
+use refusal::Refusal;
 use text::class::Class;
 use text::run::{run_end, run_start, strip};
 use walk::last::last_pairs;
-use refusal::Refusal;
 
 // What becomes of a line with a piece of `data` that is not 32-bit hex: strict refuses it (18), lenient leaves the piece out.
 #[derive(Clone, Copy)]
@@ -33,15 +33,18 @@ pub enum Pieces {
 pub fn parse(line: &[u8], pieces: Pieces, slots: &mut [u32]) -> Result<Entry, Refusal>
     ensures { Parsed pieces line.now slots.old slots.new result }
 {
-    match read_frame(&line[..]) {
-        Ok(colon) => parse_parted(line, colon, pieces, slots),
-        Err(number) => Err(number),
-    }
+    let colon = read_frame(&line[..])?;
+    parse_parted(line, colon, pieces, slots)
 }
 
 // The line parted at its last colon: the header first, stripped here because where it starts is asked for too, and a second look at its blanks took 7 %
 // of a line's time.
-fn parse_parted(line: &[u8], colon: usize, pieces: Pieces, slots: &mut [u32]) -> Result<Entry, Refusal>
+fn parse_parted(
+    line: &[u8],
+    colon: usize,
+    pieces: Pieces,
+    slots: &mut [u32],
+) -> Result<Entry, Refusal>
     requires { colon < length line.now }
     ensures { PartedRead pieces line.now colon slots.old slots.new result }
 {
@@ -50,14 +53,9 @@ fn parse_parted(line: &[u8], colon: usize, pieces: Pieces, slots: &mut [u32]) ->
     let rest = &front[start..];
     let size = run_start(rest, Class::Blank);
     let header = &rest[..size];
-    match read_head(header) {
-        Ok(head) => {
-            let behind = colon + 1;
-            let payload = strip(&line[behind..]);
-            parse_payload(header, start, head, payload, pieces, slots)
-        }
-        Err(number) => Err(number),
-    }
+    let head = read_head(header)?;
+    let payload = strip(&line[colon + 1..]);
+    parse_payload(header, start, head, payload, pieces, slots)
 }
 
 // Then the payload. The table of byte classes is written out here, once a line, and lent to all that read the payload. That it is `table`, entry by
@@ -95,22 +93,10 @@ fn read_payload(
     let mut values = [0u64; ROWS];
     let mut ends = [0usize; ROWS];
     last_pairs(payload, t, &mut values, &mut ends);
-    match read_body(payload, &header[from..], &values, &ends) {
-        Ok(body) => {
-            let at = values[DATA] as usize;
-            match read_data(payload, t, at, ends[DATA], pieces, slots) {
-                Ok(dwords) => Ok(assemble(
-                    start,
-                    header.len(),
-                    head,
-                    body,
-                    dwords,
-                )),
-                Err(number) => Err(number),
-            }
-        }
-        Err(number) => Err(number),
-    }
+    let body = read_body(payload, &header[from..], &values, &ends)?;
+    let at = values[DATA] as usize;
+    let dwords = read_data(payload, t, at, ends[DATA], pieces, slots)?;
+    Ok(assemble(start, header.len(), head, body, dwords))
 }
 
 // The task starts the header and the function ends it.

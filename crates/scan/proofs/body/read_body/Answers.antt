@@ -4,6 +4,7 @@ use Rattle.scan.proofs.Said.{type_at_lem, type_nowhere, size_said, size_most, do
 use Rattle.scan.specs.Body.{text_at, dropped_of, body_of}
 use Rattle.walk.specs.Kept.{said_by}
 use borrow.Author.Tests.{eq-eqb, ne_eqb}
+use mathlib.Core.Path.{◌∙◌}
 use native.Mathlib.Omega.{arith}
 use Rattle.scan.proofs.body.read_body.Goals as goal
 

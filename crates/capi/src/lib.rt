@@ -25,7 +25,6 @@ pub mod told;
 
 ghost use Rattle.std.specs.Prelude.{◌≡◌, length};
 ghost use Rattle.scan.specs.declared.Pieces.TheVariants as P;
-ghost use Rattle.scan.specs.Parse.{answer_told};
 ghost use Rattle.refusal.specs.Told.{told};
 ghost use Rattle.record.specs.Reading.{read_of, dwords_of};
 ghost use Rattle.intake.specs.What.{what_of};
@@ -192,7 +191,7 @@ pub fn ck_unplug(entry: Flat) -> u32
 }
 
 fn answer_of(answer: Result<Entry, Refusal>) -> EntryAnswer
-    ensures { result ≡ answer_by (answer_told answer) }
+    ensures { result ≡ answer_by (told answer) }
 {
     match answer {
         Ok(e) => EntryAnswer {

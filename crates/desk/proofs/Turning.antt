@@ -6,7 +6,8 @@ use mathlib.Core.Path.{◌≡◌, sym, ap, ◌∙◌}
 use mathlib.Core.List.{List}
 use Rattle.entry.specs.declared.Entry.{Entry}
 use Rattle.scan.specs.declared.Pieces.{Pieces}
-use Rattle.scan.specs.Parse.{answer_told, parse_of}
+use Rattle.refusal.specs.Told.{told}
+use Rattle.scan.specs.Parse.{parse_of}
 use Rattle.unanswered_rows.specs.declared.Row.TheVariants as R
 use Rattle.unanswered_rows.specs.declared.Note.{Note}
 use Rattle.unanswered_rows.specs.declared.gap.Moment.{Moment}
@@ -33,8 +34,8 @@ module _ (request note : Note) {a b : Moment} {g : Gap} (p : a ≡ moment_of req
 
 -- a line's turn
 module _ (pieces : Pieces) (u : List ℕ) {k : ℕ} (size : k ≡ 256) {d : Desk} {r : TurnModule.Turn} where
-  pub turned_entry : {a : Result Entry Refusal} {e : Entry} → answer_told a ≡ parse_of pieces u k → a ≡ Ok e → Entered e d r → Turned pieces u d r
+  pub turned_entry : {a : Result Entry Refusal} {e : Entry} → told a ≡ parse_of pieces u k → a ≡ Ok e → Entered e d r → Turned pieces u d r
   turned_entry {e = e} read q x = entry {e = e} (rw (← size, ← read, q)) x
 
-  pub turned_refusal : {a : Result Entry Refusal} {n : ℕ} → answer_told a ≡ parse_of pieces u k → a ≡ Err n → Refusing n d r → Turned pieces u d r
+  pub turned_refusal : {a : Result Entry Refusal} {n : ℕ} → told a ≡ parse_of pieces u k → a ≡ Err n → Refusing n d r → Turned pieces u d r
   turned_refusal {n = n} read q x = refusal {k = n} (rw (← size, ← read, q)) x

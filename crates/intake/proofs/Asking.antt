@@ -9,7 +9,7 @@ use lib.ListN.{length}
 use Rattle.text.specs.Told as T
 use Rattle.entry.specs.declared.Entry.{Entry}
 use Rattle.scan.specs.declared.Pieces.{Pieces}
-use Rattle.scan.specs.Parse.{answer_told}
+use Rattle.refusal.specs.Told.{told}
 use Rattle.intake.specs.Intake.{starts_a1, taken_of, Taken}
 use Rattle.intake.specs.What.{Grammar, record_grammar, line_grammar, grammar_of, what_of}
 
@@ -23,7 +23,7 @@ module _ (t : List ℕ) where
   starts_line e = rw e
 
   module _ (pieces : Pieces) {slots left : List ℕ} {r : Result Entry Refusal} (taken : Taken pieces t slots left r) (lent : length slots ≡ 256) where
-    answer_256 : answer_told r ≡ taken_of pieces t 256
+    answer_256 : told r ≡ taken_of pieces t 256
     answer_256 = rw lent at taken.answer
 
     pub what_accepted : {e : Entry} → r ≡ Ok e → {told : T.Told Grammar} → told ≡ T.is (grammar_of t) → told ≡ what_of pieces t

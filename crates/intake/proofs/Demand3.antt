@@ -1,5 +1,6 @@
 -- Demand 3 for lines and records: what a line says keeps the record's ranges, so there is a record of it; the writer writes that record, and the record's
 -- own round trips do the rest. The ground for a text that is a record already is the same. Assumes nothing.
+use Rattle.refusal.proofs.Told.{one_told}
 use Rattle.std.specs.Prelude.{Err, Ok, Result}
 use Rattle.refusal.specs.declared.Refusal.{Refusal}
 use Prim.Native.Nat.{ℕ, ◌+◌, ◌≤◌, ◌<◌}
@@ -17,9 +18,10 @@ use Rattle.entry.specs.declared.Entry.{Entry}
 use Rattle.entry.specs.Entry.{EntryValue, part_of, value_of, Lies, SameEntry}
 use Rattle.entry.proofs.Parts.{part_out}
 use Rattle.scan.specs.declared.Pieces.{Pieces}
-use Rattle.scan.specs.Parse.{answer_told, slots_by, Parsed}
+use Rattle.refusal.specs.Told.{told}
+use Rattle.scan.specs.Parse.{slots_by, Parsed}
 use Rattle.scan.specs.Line.{Line}
-use Rattle.scan.proofs.Theorems.{line_entry_all, Handed, parsed_entry, one_line_answer}
+use Rattle.scan.proofs.Theorems.{line_entry_all, Handed, parsed_entry}
 use Rattle.record.specs.Grammar.{record_bytes, Ranged, IsRecord}
 use Rattle.record.specs.Reading.{over, dwords_of, read_of}
 use Rattle.record.proofs.Records.{Accepts, record_accepted_exactly, accepted_is_record, record_at_most_5227}
@@ -61,7 +63,7 @@ accepted_line pieces text slots e left first c =
 
 -- a call of `read` on a record, by the record's own reader
 module _ (pieces : Pieces) (text slots : List ℕ) {answer : Result Entry Refusal} (left : List ℕ) (first : starts_a1 text ≡ true) (c : ReadCall pieces text slots answer left) where
-  record_answer : answer_told answer ≡ read_of text (length slots)
+  record_answer : told answer ≡ read_of text (length slots)
   unfolding taken_of
   record_answer = c.contract.answer ∙ rw first
 
@@ -76,7 +78,7 @@ unfolding starts_a1
 record_accepted pieces text v r slots answer left c =
     let first : starts_a1 text ≡ true = eq-eqb _ _ (record_starts text v r) in
     let a : Accepts text slots v = (record_accepted_exactly text c.bytes slots c.enough v).1 r in
-    let accepted : answer ≡ Ok a.entry = one_line_answer answer (Ok a.entry) (record_answer pieces text slots left first c ∙ a.answer) in
+    let accepted : answer ≡ Ok a.entry = one_told answer (Ok a.entry) (record_answer pieces text slots left first c ∙ a.answer) in
     let slots_left : left ≡ over (dwords_of text) slots = record_slots pieces text slots left first c accepted in
     (a.entry, accepted, record { lies = rw slots_left a.lies; is = rw slots_left a.value })
 
@@ -154,7 +156,7 @@ accepted_exactly pieces text slots answer left c = (λ x. mp (starts_a1 text) re
     mpr v (Belongs.line a) =
         let f = line_entry_all pieces text a in (
           f.0,
-          one_line_answer answer (Ok f.0)
+          one_told answer (Ok f.0)
               (c.contract.answer ∙ rw (ne_eqb _ _ (line_starts pieces text v a)) (line_with_more_slots pieces text (length slots) c.enough ∙ f.1)),
         )
 

@@ -24,7 +24,8 @@ use Rattle.scan.specs.Frame.{frame_of}
 use Rattle.scan.specs.Head.{head_of}
 use Rattle.scan.specs.Body.{body_of}
 use Rattle.scan.specs.Dwords.{payload_data, payload_bad, refuses, data16, data18, data_answer}
-use Rattle.scan.specs.Parse.{header_of, payload_of, start_of, with_data, with_body, payload_answer, with_head, parted_answer, with_frame, answer_told, parse_of, line_dwords, slots_by}
+use Rattle.refusal.specs.Told.{told}
+use Rattle.scan.specs.Parse.{header_of, payload_of, start_of, with_data, with_body, payload_answer, with_head, parted_answer, with_frame, parse_of, line_dwords, slots_by}
 use Rattle.scan.proofs.Chain.{Answered}
 use Rattle.scan.proofs.Judged.{Says, judge}
 use Rattle.record.specs.Judging.{refusal_of}
@@ -147,13 +148,13 @@ pub record Waits (pieces : Pieces) (t slots array : List ℕ) (e : Entry) : Type
   pub fits : length (take e.dwords array) ≤ length slots
 
 module _ (pieces : Pieces) (t slots out : List ℕ) (bytes : Bytes t) {exit : List ℕ} {r : Result Entry Refusal} (room : length out ≡ min 256 (length slots)) (p : Taken pieces t out exit r) where
-  answer_is : taken_of pieces t (length slots) ≡ answer_told r
+  answer_is : taken_of pieces t (length slots) ≡ told r
   answer_is = sym (at_most_256_slots pieces t bytes (length slots)) ∙ ap (taken_of pieces t) (sym room) ∙ sym p.answer
 
   pub waits : (rest : List ℕ) {e : Entry} → length exit ≡ length out → r ≡ Ok e → Waits pieces t slots (exit ++ rest) e
   unfolding slots_by
   waits rest {e} kept n =
-      let count : e.dwords ≡ length (taken_dwords t) = taken_count pieces t (length slots) (answer_is ∙ ap answer_told n) in
+      let count : e.dwords ≡ length (taken_dwords t) = taken_count pieces t (length slots) (answer_is ∙ ap told n) in
       let here : exit ≡ taken_dwords t ++ drop (length (taken_dwords t)) out = p.slots ∙ rw n in
       let size = ap length here ∙ length-append (taken_dwords t) (drop (length (taken_dwords t)) out) in
       let fits : length (taken_dwords t) ≤ length out = omega (arith, kept, size, length-drop (length (taken_dwords t)) out) in
@@ -162,7 +163,7 @@ module _ (pieces : Pieces) (t slots out : List ℕ) (bytes : Bytes t) {exit : Li
       let front : take e.dwords (exit ++ rest) ≡ taken_dwords t =
       rw (count, whole) (take-append_seam (taken_dwords t) (drop (length (taken_dwords t)) out ++ rest)) in
       record {
-        answer = answer_is ∙ ap answer_told n;
+        answer = answer_is ∙ ap told n;
         within = omega (arith, fits, count, kept, length-append exit rest);
         front = front;
         count = count ∙ ap length (sym front);
@@ -170,4 +171,4 @@ module _ (pieces : Pieces) (t slots out : List ℕ) (bytes : Bytes t) {exit : Li
       }
 
   pub waits_not : {k : ℕ} → r ≡ Err k → taken_of pieces t (length slots) ≡ T.refused k
-  waits_not n = answer_is ∙ ap answer_told n
+  waits_not n = answer_is ∙ ap told n

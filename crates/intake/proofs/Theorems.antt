@@ -1,5 +1,6 @@
 -- Demand 3, first half: given 256 slots a text is accepted exactly when it belongs to the line grammar or to the record grammar; no text
 -- belongs to both; each has one reading; no second answer. A record starts with A1, which is no byte of a line. Assumes nothing.
+use Rattle.refusal.proofs.Told.{one_told}
 use Rattle.std.specs.Prelude.{Result}
 use Rattle.refusal.specs.declared.Refusal.{Refusal}
 use Prim.Native.Nat.{ℕ}
@@ -17,9 +18,10 @@ use Rattle.tlv.specs.Grammar.{field_bytes}
 use Rattle.entry.specs.declared.Entry.{Entry}
 use Rattle.entry.specs.Entry.{EntryValue}
 use Rattle.scan.specs.declared.Pieces.{Pieces}
-use Rattle.scan.specs.Parse.{answer_told, parse_of}
+use Rattle.refusal.specs.Told.{told}
+use Rattle.scan.specs.Parse.{parse_of}
 use Rattle.scan.specs.Line.{Line}
-use Rattle.scan.proofs.Theorems.{one_line_reading, line_accepted_exactly, one_line_answer}
+use Rattle.scan.proofs.Theorems.{one_line_reading, line_accepted_exactly}
 use Rattle.record.specs.Grammar.{IsRecord, record_bytes}
 use Rattle.record.specs.Reading.{read_of}
 use Rattle.record.proofs.Records.{record_accepted_exactly, accepted_is_record, one_record_reading}
@@ -80,12 +82,12 @@ accepted_exactly_when_it_belongs pieces t bytes =
 -- no second answer satisfies the contract of `read`, slots included
 pub no_second_reading : (pieces : Pieces) (t slots : List ℕ) {left other : List ℕ} {r q : Result Entry Refusal} → Taken pieces t slots left r → Taken pieces t slots other q → (r ≡ q) × (left ≡ other)
 no_second_reading pieces t slots {left} {other} {r} {q} a b =
-    let same : answer_told r ≡ answer_told q = a.answer ∙ sym b.answer in
-    (one_line_answer r q same, a.slots ∙ rw same (sym b.slots))
+    let same : told r ≡ told q = a.answer ∙ sym b.answer in
+    (one_told r q same, a.slots ∙ rw same (sym b.slots))
 
 -- a text that starts with A1 is read the same by either choice, slots included
 pub record_either_choice : (p q : Pieces) (t slots : List ℕ) → starts_a1 t ≡ true → {left other : List ℕ} {r s : Result Entry Refusal} → Taken p t slots left r → Taken q t slots other s → (r ≡ s) × (left ≡ other)
 unfolding taken_of
 record_either_choice p q t slots first {left} {other} {r} {s} a b =
-    let same : answer_told r ≡ answer_told s = a.answer ∙ rw first (sym (b.answer ∙ rw first)) in
-    (one_line_answer r s same, a.slots ∙ rw same (sym b.slots))
+    let same : told r ≡ told s = a.answer ∙ rw first (sym (b.answer ∙ rw first)) in
+    (one_told r s same, a.slots ∙ rw same (sym b.slots))

@@ -5,7 +5,8 @@ use Rattle.text.specs.Told.{Told}
 use Rattle.entry.specs.declared.Entry.{Entry}
 use Rattle.entry.specs.Entry.{EntryValue}
 use Rattle.scan.specs.declared.Pieces.{Pieces}
-use Rattle.scan.specs.Parse.{answer_told, parse_of, line_dwords, slots_by}
+use Rattle.refusal.specs.Told.{told}
+use Rattle.scan.specs.Parse.{parse_of, line_dwords, slots_by}
 use Rattle.scan.specs.Line.{Line}
 use Rattle.record.specs.Grammar.{IsRecord}
 use Rattle.record.specs.Reading.{read_of, dwords_of}
@@ -29,10 +30,10 @@ taken_dwords t = cond (starts_a1 t) (dwords_of t) (line_dwords t)
 
 -- the answer, and each slot
 pub record Taken (pieces : Pieces) (t out exit : List ℕ) (r : Result Entry Refusal) : Type 0 where
-  pub answer : answer_told r ≡ taken_of pieces t (length out)
-  pub slots : exit ≡ slots_by (answer_told r) (taken_dwords t) out
+  pub answer : told r ≡ taken_of pieces t (length out)
+  pub slots : exit ≡ slots_by (told r) (taken_dwords t) out
 
 -- the same of a text that is taken as a record
 pub record RecordTaken (t out exit : List ℕ) (r : Result Entry Refusal) : Type 0 where
-  pub answer : answer_told r ≡ read_of t (length out)
-  pub slots : exit ≡ slots_by (answer_told r) (dwords_of t) out
+  pub answer : told r ≡ read_of t (length out)
+  pub slots : exit ≡ slots_by (told r) (dwords_of t) out

@@ -32,7 +32,6 @@ use Rattle.scan.proofs.Keys.{key_hex_is}
 use Rattle.scan.proofs.Splits.{one_payload}
 use Rattle.scan.proofs.Values.{optional_hex}
 use Rattle.scan.proofs.Framed.{Framed, framed, frame_applies}
-use Rattle.scan.proofs.Judged.{number_tells}
 use Rattle.scan.proofs.Theorems.{one_key_hex, one_optional, line_entry_all}
 use Rattle.reasons.specs.declared.Key.{Key}
 use Rattle.reasons.specs.declared.Key.TheVariants as K
@@ -144,7 +143,7 @@ no_route pieces t room r = go (frame_of t) refl (framed t)
     none_read {colon} f (Some v) e = absurd (route-missing f v (sym (key_number t f K.Route) ∙ e))
       where
         route-missing : frame_of t ≡ is colon → (v : ℕ) → (hex_at (payload_of t colon) (bytes "route") (2 ^ 64 - 1)) ≡ Some v → ⊥
-        route-missing f v e = r.holds _ _ (split_here t f) v (key_hex_is (payload_of t colon) (bytes "route") (2 ^ 64 - 1) (number_tells _ e))
+        route-missing f v e = r.holds _ _ (split_here t f) v (key_hex_is (payload_of t colon) (bytes "route") (2 ^ 64 - 1) e)
 
     go : (x : Told ℕ) → frame_of t ≡ x → Framed x → NoNumber (key_answer t K.Route)
     go x f (Framed.colon k) = none_there (key_answer t K.Route) (key_never t f K.Route) (none_read f (number_told (key_answer t K.Route)) refl)

@@ -19,7 +19,7 @@ use Rattle.text.proofs.Told.{number_first, number_behind}
 use Rattle.tlv.specs.Number.{Bytes}
 use Rattle.entry.specs.declared.Entry.{Entry}
 use Rattle.scan.specs.declared.Pieces.{Pieces}
-use Rattle.scan.specs.Frame.{frame_told, frame_of}
+use Rattle.scan.specs.Frame.{frame_of}
 use Rattle.scan.specs.Parse as Line
 use Rattle.scan.proofs.Theorems.{number_10_never}
 use Rattle.pairs.specs.Pair.{part}
@@ -316,7 +316,7 @@ calls_never : CallsNever
 calls_never =
     record {
       parse = λ pieces t slots left r c e. line_never pieces t (length slots) (sym c.answer ∙ ap Line.answer_told e);
-      read_frame = λ t r c e. frame_never t (sym c ∙ ap frame_told e);
+      read_frame = λ t r c e. frame_never t (sym c ∙ ap told e);
       ask_key = λ t key r c e. key_never t key (sym c ∙ ap Reasons.answer_told e);
       ask_piece = λ t i r c e. piece_never t i (sym c ∙ ap Reasons.answer_told e);
       payload_of = λ t r c e. payload_never t (sym c.is ∙ ap Reasons.payload_told e);

@@ -9,7 +9,8 @@ use Rattle.std.specs.Prelude.{ℕ, ◌≡◌, List, length, Err, None, Ok, Optio
 use Rattle.tlv.specs.Number.{Bytes}
 use Rattle.entry.specs.declared.Entry.{Entry}
 use Rattle.scan.specs.declared.Pieces.{Pieces}
-use Rattle.scan.specs.Frame.{frame_told, frame_of}
+use Rattle.refusal.specs.Told.{told}
+use Rattle.scan.specs.Frame.{frame_of}
 use Rattle.scan.specs.Parse as Parse
 use Rattle.reasons.specs.declared.Key.{Key}
 use Rattle.reasons.specs.Reasons.{answer_told, key_answer, piece_answer, PayloadAt}
@@ -50,7 +51,7 @@ pub record CallsNever : Type 0 where
   -- `parse` of `scan`, strict and lenient.
   pub parse : (pieces : Pieces) (text slots left : List ℕ) (answer : Result Entry Refusal) → Parse.Parsed pieces text slots left answer → answer ≡ Err 10 → ⊥
   -- `read_frame` of `scan`, which parts a line.
-  pub read_frame : (text : List ℕ) (answer : Result ℕ Refusal) → frame_told answer ≡ frame_of text → answer ≡ Err 10 → ⊥
+  pub read_frame : (text : List ℕ) (answer : Result ℕ Refusal) → told answer ≡ frame_of text → answer ≡ Err 10 → ⊥
   -- `ask_key` of `reasons`.
   pub ask_key : (text : List ℕ) (key : Key) (answer : Result (Option HexText) Refusal) → answer_told answer ≡ key_answer text key → answer ≡ Err 10 → ⊥
   -- `ask_piece` of `reasons`.

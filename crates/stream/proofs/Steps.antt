@@ -13,7 +13,8 @@ use lib.Seq.{length-take-le}
 use Rattle.text.specs.Told as T
 use Rattle.entry.specs.declared.Entry.{Entry}
 use Rattle.scan.specs.declared.Pieces.{Pieces}
-use Rattle.scan.specs.Parse.{slots_by, answer_told as scanTold}
+use Rattle.refusal.specs.Told.{told}
+use Rattle.scan.specs.Parse.{slots_by}
 use Rattle.intake.specs.Intake.{taken_dwords, taken_of, Taken}
 use Rattle.units.specs.declared.Framing.TheVariants.{Both}
 use Rattle.units.specs.declared.State.{State}
@@ -89,10 +90,10 @@ module _ (pieces : Pieces) (rest slots : List ℕ) {unit : UnitModule.Unit} wher
 -- a text read by the intake
 module _ (pieces : Pieces) (text slots exit : List ℕ) {r : Result Entry Refusal} (x : Taken pieces text slots exit r) where
   pub read_entry : {e : Entry} → r ≡ Ok e → TextRead pieces text slots exit (Ok (Some e))
-  read_entry q = let told : T.is _ ≡ taken_of pieces text (length slots) = ap scanTold (sym q) ∙ x.answer in record { answer = told; slots_are = x.slots ∙ ap (λ (t : T.Told Entry). slots_by t (taken_dwords text) slots) x.answer }
+  read_entry q = let told : T.is _ ≡ taken_of pieces text (length slots) = ap told (sym q) ∙ x.answer in record { answer = told; slots_are = x.slots ∙ ap (λ (t : T.Told Entry). slots_by t (taken_dwords text) slots) x.answer }
 
   pub read_refused : {k : ℕ} → r ≡ Err k → TextRead pieces text slots exit (Err k)
-  read_refused q = let told : T.refused _ ≡ taken_of pieces text (length slots) = ap scanTold (sym q) ∙ x.answer in record { answer = told; slots_are = x.slots ∙ ap (λ (t : T.Told Entry). slots_by t (taken_dwords text) slots) x.answer }
+  read_refused q = let told : T.refused _ ≡ taken_of pieces text (length slots) = ap told (sym q) ∙ x.answer in record { answer = told; slots_are = x.slots ∙ ap (λ (t : T.Told Entry). slots_by t (taken_dwords text) slots) x.answer }
 
 -- the state after the end
 module _ (st : State) {unit : UnitModule.Unit} where

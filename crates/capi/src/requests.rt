@@ -1,14 +1,14 @@
 // The table of requests. A slot is a plain struct of numbers as it stands.
 ghost use Rattle.std.specs.Prelude.{◌≡◌, length, replicate};
 ghost use Rattle.slots.specs.Decide.{free_slot};
-ghost use Rattle.pending.specs.Table.{waiting_told, place_told};
+ghost use Rattle.refusal.specs.Told.{told, told_maybe};
 ghost use Rattle.capi.specs.Requests.{word_at, step_by, count_by, place_by, Stepped, Counted, Placed};
 
 use c_entry::Flat;
 use pending::{clear, oldest, step, waiting};
+use refusal::Refusal;
 use slots::Slot;
 use slots::decide::Report;
-use refusal::Refusal;
 
 // Number 0, the report and, where it is taken or answered, the slot's place; or the number that refuses the table, and zeros.
 #[repr(C)]
@@ -47,9 +47,7 @@ pub fn ck_pending_clear(slots: &mut [Slot])
 pub fn ck_pending_step(f: Flat, slots: &mut [Slot]) -> StepAnswer
     ensures { Stepped f slots.old result slots.new }
 {
-    let entry = f.entry();
-    let report = step(entry, slots);
-    step_answer(report)
+    step_answer(step(f.entry(), slots))
 }
 
 // How many requests wait.
@@ -68,19 +66,20 @@ pub fn ck_pending_oldest(slots: &[Slot], k: u32) -> PlaceAnswer
     place_answer(place)
 }
 
-fn step_answer(report: Report) -> StepAnswer
-    ensures { result ≡ step_by report }
+#[tactic(auto, unfolding(crate::specs::Requests::step_by))]
+fn step_answer(answer: Result<Report, Refusal>) -> StepAnswer
+    ensures { result ≡ step_by answer }
 {
-    match report {
-        Report::Dropped => reported(1, 0),
-        Report::Other => reported(2, 0),
-        Report::NoSeq => reported(3, 0),
-        Report::Taken(place) => reported(4, place),
-        Report::TurnedAway => reported(5, 0),
-        Report::Answered(place) => reported(6, place),
-        Report::Stray => reported(7, 0),
-        Report::Refused(number) => StepAnswer {
-            number: number,
+    match answer {
+        Ok(Report::Dropped) => reported(1, 0),
+        Ok(Report::Other) => reported(2, 0),
+        Ok(Report::NoSeq) => reported(3, 0),
+        Ok(Report::Taken(place)) => reported(4, place),
+        Ok(Report::TurnedAway) => reported(5, 0),
+        Ok(Report::Answered(place)) => reported(6, place),
+        Ok(Report::Stray) => reported(7, 0),
+        Err(refusal) => StepAnswer {
+            number: refusal.number(),
             report: 0,
             place: 0,
         },
@@ -97,23 +96,25 @@ fn reported(report: u8, place: usize) -> StepAnswer
     }
 }
 
+#[tactic(auto, unfolding(crate::specs::Requests::count_by))]
 fn count_answer(count: Result<u32, Refusal>) -> CountAnswer
-    ensures { result ≡ count_by (waiting_told count) }
+    ensures { result ≡ count_by (told count) }
 {
     match count {
         Ok(n) => CountAnswer {
             number: 0,
             count: n,
         },
-        Err(number) => CountAnswer {
-            number: number,
+        Err(refusal) => CountAnswer {
+            number: refusal.number(),
             count: 0,
         },
     }
 }
 
+#[tactic(auto, unfolding(crate::specs::Requests::place_by))]
 fn place_answer(place: Result<Option<usize>, Refusal>) -> PlaceAnswer
-    ensures { result ≡ place_by (place_told place) }
+    ensures { result ≡ place_by (told_maybe place) }
 {
     match place {
         Ok(Some(at)) => PlaceAnswer {
@@ -126,8 +127,8 @@ fn place_answer(place: Result<Option<usize>, Refusal>) -> PlaceAnswer
             present: 0,
             place: 0,
         },
-        Err(number) => PlaceAnswer {
-            number: number,
+        Err(refusal) => PlaceAnswer {
+            number: refusal.number(),
             present: 0,
             place: 0,
         },

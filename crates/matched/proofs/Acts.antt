@@ -12,12 +12,11 @@ use Rattle.slots.specs.declared.Four.{Four}
 use Rattle.slots.specs.declared.Slot.{Slot}
 use Rattle.slots.specs.declared.ask.Ask.{Ask}
 use Rattle.slots.specs.declared.ask.Ask.TheVariants as A
-use Rattle.slots.specs.declared.decide.Report.{Report}
 use Rattle.slots.specs.Ask.{ask_of}
 use Rattle.slots.specs.Decide.{lowered_of}
 use Rattle.pending.specs.Table.{rank_at, Sized, Table}
 use Rattle.pending.specs.Step as S
-use Rattle.pending.specs.Step.{OldestWith, NoneWith, newcomer, freed, Step}
+use Rattle.pending.specs.Step.{Answer, OldestWith, NoneWith, newcomer, freed, Step}
 use Rattle.pending.specs.Words.{report_told}
 use Rattle.matched.specs.Requests.{without, word_of, next_of}
 use Rattle.matched.specs.Holds.{request_at, Holds, Empty}
@@ -28,7 +27,7 @@ use Rattle.matched.proofs.Does.{Does, dropped, other, no_seq, taken, turned_away
 use Rattle.matched.proofs.Lists.{table_holds, holds_sound, empty_holds, slot_at, table_passes}
 
 -- a step keeps the number of slots
-pub same_size : (e : Entry) (t u : List Slot) (r : Report) → Step e t r u → length u ≡ length t
+pub same_size : (e : Entry) (t u : List Slot) (r : Answer) → Step e t r u → length u ≡ length t
 same_size e t u r (S.refused_with n) = refl
 same_size e t u r (S.dropped g q) = refl
 same_size e t u r (S.other g q) = refl
@@ -40,7 +39,7 @@ same_size e t u r (S.stray g q f) = refl
 
 module _ (t : List Slot) (l : List Four) (hold : Holds t l) where
   -- what is reported is the list's word, and the table holds the list's next
-  abbrev Plays : Ask → Report → List Slot → Type 0
+  abbrev Plays : Ask → Answer → List Slot → Type 0
   Plays a r u = (report_told r ≡ is (word_of (length t) a l)) × Holds u (next_of (length t) a l)
 
   -- where there is room, the list grows behind; where there is none, it stays
@@ -73,7 +72,7 @@ module _ (t : List Slot) (l : List Four) (hold : Holds t l) where
       = without_at four l (rank_at t i - 1) (first_at four i o) ∙ ap (λ (k : ℕ). take (rank_at t i - 1) l ++ drop k l) s in
       rw w (holds_free t l hold (rank_at t i) z v)
 
-  plays : (a : Ask) (r : Report) (u : List Slot) → Plain a → Does t a r u → Plays a r u
+  plays : (a : Ask) (r : Answer) (u : List Slot) → Plain a → Does t a r u → Plays a r u
   unfolding report_told word_of next_of
   plays a r u p dropped = (refl, hold)
   plays a r u p other = (refl, hold)
@@ -88,7 +87,7 @@ module _ (t : List Slot) (l : List Four) (hold : Holds t l) where
   plays a r u p (answered {four} {i} o) = (rw (has_at four l (rank_at t i - 1) (first_at four i o)), frees four i o)
   plays a r u p (stray {four} f) = (rw (has_none four l (none_at four f)), rw (without_none four l (none_at four f)) hold)
 
-pub acts_as_list : (e : Entry) (t u : List Slot) (r : Report) (l : List Four) → Sized t → Holds t l → Step e t r u
+pub acts_as_list : (e : Entry) (t u : List Slot) (r : Answer) (l : List Four) → Sized t → Holds t l → Step e t r u
     → (report_told r ≡ is (word_of (length t) (ask_of e) l)) × Holds u (next_of (length t) (ask_of e) l)
 acts_as_list e t u r l sized hold step = by (judged step)
   where
@@ -97,7 +96,7 @@ acts_as_list e t u r l sized hold step = by (judged step)
     by (does g d) = plays t l hold (ask_of e) r u (plain_ask e) d
 
 -- a table stays a table
-pub stays_a_table : (e : Entry) (t u : List Slot) (r : Report) → Table t → Step e t r u → Table u
+pub stays_a_table : (e : Entry) (t u : List Slot) (r : Answer) → Table t → Step e t r u → Table u
 stays_a_table e t u r g step =
     let h = table_holds t g in let a = acts_as_list e t u r h.0 g.sized h.1 step in let n = same_size e t u r step in
     let p = g.sized.0 in let q = g.sized.1 in record { sized = (omega arith, omega arith); sound = holds_sound u _ a.1 }

@@ -1,5 +1,5 @@
 -- A step is a refusal, or what a table does for what the entry asks: by cases on the step. Assumes nothing.
-use Rattle.std.specs.Prelude.{None, Option, Some}
+use Rattle.std.specs.Prelude.{None, Option, Some, Ok, Err}
 use Prim.Native.Nat.{ℕ, ◌%◌, ◌^◌, ◌<◌, ◌≤◌}
 use native.Mathlib.Omega.{arith}
 use native.Mathlib.Nat.{mod-lt}
@@ -8,33 +8,33 @@ use mathlib.Core.Bool.{Bool, true, false, cond, ◌||◌}
 use mathlib.Core.List.{List}
 use lib.ListN.{set}
 use lib.Dec.{eqb, ltb, lit<}
+use Rattle.refusal.specs.declared.Refusal.{Refusal}
 use Rattle.entry.specs.declared.Entry.{Entry}
 use Rattle.slots.specs.declared.Four.{Four}
 use Rattle.slots.specs.declared.Slot.{Slot}
 use Rattle.slots.specs.declared.ask.Ask.{Ask}
 use Rattle.slots.specs.declared.ask.Ask.TheVariants as A
-use Rattle.slots.specs.declared.decide.Report.{Report}
 use Rattle.slots.specs.declared.decide.Report.TheVariants as R
 use Rattle.slots.specs.Ask.{direction_of, four_of, by_kind, by_seq, ask_of}
 use Rattle.pending.specs.Table.{rank_at, Table, Refuses}
 use Rattle.pending.specs.Step as S
-use Rattle.pending.specs.Step.{FirstFree, NoneFree, OldestWith, NoneWith, newcomer, freed, Step}
+use Rattle.pending.specs.Step.{Answer, FirstFree, NoneFree, OldestWith, NoneWith, newcomer, freed, Step}
 
 -- what a table does for an ask, with what it reports
-pub data Does (t : List Slot) : Ask → Report → List Slot → Type 0 where
-  dropped : Does t A.Dropped R.Dropped t
-  other : Does t A.Other R.Other t
-  no_seq : Does t A.NoSeq R.NoSeq t
-  taken : {four : Four} {i : ℕ} → FirstFree t i → Does t (A.Request four) (R.Taken i) (set t i (newcomer t four))
-  turned_away : {four : Four} → NoneFree t → Does t (A.Request four) R.TurnedAway t
-  answered : {four : Four} {i : ℕ} → OldestWith t four i → Does t (A.Response four) (R.Answered i) (freed (rank_at t i) t)
-  stray : {four : Four} → NoneWith t four → Does t (A.Response four) R.Stray t
+pub data Does (t : List Slot) : Ask → Answer → List Slot → Type 0 where
+  dropped : Does t A.Dropped (Ok R.Dropped) t
+  other : Does t A.Other (Ok R.Other) t
+  no_seq : Does t A.NoSeq (Ok R.NoSeq) t
+  taken : {four : Four} {i : ℕ} → FirstFree t i → Does t (A.Request four) (Ok (R.Taken i)) (set t i (newcomer t four))
+  turned_away : {four : Four} → NoneFree t → Does t (A.Request four) (Ok R.TurnedAway) t
+  answered : {four : Four} {i : ℕ} → OldestWith t four i → Does t (A.Response four) (Ok (R.Answered i)) (freed (rank_at t i) t)
+  stray : {four : Four} → NoneWith t four → Does t (A.Response four) (Ok R.Stray) t
 
-pub data Judged (t : List Slot) (a : Ask) (r : Report) (u : List Slot) : Type 0 where
-  refuses : {n : ℕ} → Refuses t n → r ≡ R.Refused n → u ≡ t → Judged t a r u
+pub data Judged (t : List Slot) (a : Ask) (r : Answer) (u : List Slot) : Type 0 where
+  refuses : {n : Refusal} → Refuses t n → r ≡ Err n → u ≡ t → Judged t a r u
   does : Table t → Does t a r u → Judged t a r u
 
-pub judged : {e : Entry} {t u : List Slot} {r : Report} → Step e t r u → Judged t (ask_of e) r u
+pub judged : {e : Entry} {t u : List Slot} {r : Answer} → Step e t r u → Judged t (ask_of e) r u
 judged (S.refused_with n) = refuses n refl refl
 judged (S.dropped g q) = does g (rw q dropped)
 judged (S.other g q) = does g (rw q other)

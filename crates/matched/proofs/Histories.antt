@@ -11,11 +11,10 @@ use Rattle.entry.specs.declared.Entry.{Entry}
 use Rattle.slots.specs.declared.Four.{Four}
 use Rattle.slots.specs.declared.Slot.{Slot}
 use Rattle.slots.specs.declared.ask.Ask.{Ask}
-use Rattle.slots.specs.declared.decide.Report.{Report}
 use Rattle.slots.specs.Ask.{ask_of}
 use Rattle.slots.specs.Decide.{free_slot}
 use Rattle.pending.specs.Table.{rank_at, waiting, Sized, Table}
-use Rattle.pending.specs.Step.{newcomer}
+use Rattle.pending.specs.Step.{Answer, newcomer}
 use Rattle.pending.specs.Words.{report_told}
 use Rattle.matched.specs.Requests.{next_of, words_of, left_of}
 use Rattle.matched.specs.Holds.{Holds, Empty}
@@ -25,7 +24,7 @@ use Rattle.matched.proofs.Does.{Does, dropped, other, no_seq, taken, turned_away
 use Rattle.matched.proofs.Lists.{table_passes}
 use Rattle.matched.proofs.Acts.{same_size, acts_as_list, stays_a_table, empty_is_a_table}
 
-step_counts : (t u : List Slot) (a : Ask) (r : Report) → Table t → Does t a r u → waiting t + cond (is_taken r) 1 0 ≡ cond (is_answered r) 1 0 + waiting u
+step_counts : (t u : List Slot) (a : Ask) (r : Answer) → Table t → Does t a r u → waiting t + cond (is_taken r) 1 0 ≡ cond (is_answered r) 1 0 + waiting u
 step_counts t u a r g dropped = omega arith
 step_counts t u a r g other = omega arith
 step_counts t u a r g no_seq = omega arith
@@ -36,7 +35,7 @@ step_counts t u a r g (answered {four} {i} o) =
     let n = g.sound.once (rank_at t i) w (g.sound.within i o.waits.0) in omega arith
 step_counts t u a r g (stray f) = omega arith
 
-pub counted : (es : List Entry) (t u : List Slot) (rs : List Report) → Table t → History es t rs u → waiting t + taken_in rs ≡ answered_in rs + waiting u
+pub counted : (es : List Entry) (t u : List Slot) (rs : List Answer) → Table t → History es t rs u → waiting t + taken_in rs ≡ answered_in rs + waiting u
 unfolding how_many
 counted es t u rs g none = omega arith
 counted es t u rs g (more {e} {es = es₁} {r} {rs = rs₁} {t₁} step h) =
@@ -47,7 +46,7 @@ counted es t u rs g (more {e} {es = es₁} {r} {rs = rs₁} {t₁} step h) =
     by (does k d) = step_counts t t₁ (ask_of e) r g d
 
 -- step by step, the tables and the lists go together
-pub replays_as_list : (es : List Entry) (t u : List Slot) (rs : List Report) (l : List Four) → Sized t → Holds t l → History es t rs u
+pub replays_as_list : (es : List Entry) (t u : List Slot) (rs : List Answer) (l : List Four) → Sized t → Holds t l → History es t rs u
     → (map report_told rs ≡ map is (words_of (length t) es l)) × Holds u (left_of (length t) es l)
 unfolding words_of left_of
 replays_as_list es t u rs l s hold none = (refl, hold)
@@ -57,7 +56,7 @@ replays_as_list es t u rs l s hold (more {e} {es = es₁} {r} {rs = rs₁} {t₁
     let m = replays_as_list es₁ t₁ u rs₁ (next_of (length t) (ask_of e) l) (omega arith, omega arith) a.1 h in
     let k = rw n at m in (rw (a.0, k.0), k.1)
 
-pub from_empty : (es : List Entry) (t u : List Slot) (rs : List Report) → Sized t → Empty t → History es t rs u → taken_in rs ≡ answered_in rs + waiting u
+pub from_empty : (es : List Entry) (t u : List Slot) (rs : List Answer) → Sized t → Empty t → History es t rs u → taken_in rs ≡ answered_in rs + waiting u
 from_empty es t u rs s z h = let m = counted es t u rs (empty_is_a_table t s z) h in let n = waiting_none t z in omega arith
 
 pub cleared_is_empty : (n : ℕ) → Empty (replicate n free_slot)

@@ -8,6 +8,7 @@ use lib.ListN.{length}
 use lib.Seq.{ext_get_or}
 use lib.Dec.{eqb}
 use borrow.Author.Tests.{eq-eqb}
+use Rattle.refusal.specs.declared.Refusal.{Refusal}
 use Rattle.slots.specs.declared.Four.{Four}
 use Rattle.slots.specs.declared.Slot.{Slot}
 use Rattle.slots.specs.Decide.{free_slot}
@@ -115,6 +116,6 @@ empty_holds t h =
     }
 
 -- a table is not refused
-pub table_passes : {X : Type 0} {t : List Slot} {n : ℕ} → Table t → Refuses t n → X
+pub table_passes : {X : Type 0} {t : List Slot} {n : Refusal} → Table t → Refuses t n → X
 table_passes g (by_size s) = absurd (s g.sized)
 table_passes g (by_ranks z s) = absurd (s g.sound)

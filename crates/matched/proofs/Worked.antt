@@ -1,6 +1,6 @@
 -- The worked history: each step by its own line of `Step`, its conditions looked up in the two slots; each table is one because the one before it was.
 -- Assumes nothing.
-use Rattle.std.specs.Prelude.{None, Some}
+use Rattle.std.specs.Prelude.{None, Some, Ok}
 use Prim.Native.Nat.{ℕ, zero, suc, ◌+◌, ◌<◌, ◌≤◌, ◌^◌}
 use native.Mathlib.Omega.{arith}
 use mathlib.Core.Path.{◌≡◌, refl, sym, ap}
@@ -57,50 +57,50 @@ none_with a b four f g i h q = two (λ j. 0 < rank_at (pair a b) j → four_at (
 table_0 : Table (pair free_slot free_slot)
 table_0 = cleared_is_a_table 2 (omega arith) (omega arith)
 
-step_1 : Step (entry 1 false 0 7 (Some 5)) (pair free_slot free_slot) (R.Taken 0) (pair (r 1) free_slot)
+step_1 : Step (entry 1 false 0 7 (Some 5)) (pair free_slot free_slot) (Ok (R.Taken 0)) (pair (r 1) free_slot)
 unfolding computes
 step_1 = taken table_0 refl (first_of_two free_slot free_slot refl)
 
 table_1 : Table (pair (r 1) free_slot)
 table_1 = stays_a_table _ _ _ _ table_0 step_1
 
-step_2 : Step (entry 1 false 0 7 (Some 5)) (pair (r 1) free_slot) (R.Taken 1) (pair (r 1) (r 2))
+step_2 : Step (entry 1 false 0 7 (Some 5)) (pair (r 1) free_slot) (Ok (R.Taken 1)) (pair (r 1) (r 2))
 unfolding computes
 step_2 = taken table_1 refl (second_of_two (r 1) free_slot (omega arith) refl)
 
 table_2 : Table (pair (r 1) (r 2))
 table_2 = stays_a_table _ _ _ _ table_1 step_2
 
-step_3 : Step (entry 3 false 0 7 (Some 5)) (pair (r 1) (r 2)) R.TurnedAway (pair (r 1) (r 2))
+step_3 : Step (entry 3 false 0 7 (Some 5)) (pair (r 1) (r 2)) (Ok R.TurnedAway) (pair (r 1) (r 2))
 unfolding computes
 step_3 = turned_away table_2 refl (two (λ j. 0 < rank_at (pair (r 1) (r 2)) j) (omega arith) (omega arith))
 
-step_4 : Step (entry 2 false 1 7 (Some 5)) (pair (r 1) (r 2)) R.Stray (pair (r 1) (r 2))
+step_4 : Step (entry 2 false 1 7 (Some 5)) (pair (r 1) (r 2)) (Ok R.Stray) (pair (r 1) (r 2))
 unfolding computes
 step_4 = stray table_2 refl (none_with (r 1) (r 2) _ (λ h q. other_domain q) (λ h q. other_domain q))
   where
     other_domain : (r 0).four ≡ record { route = 7; domain = 1; seq = 5; write = 0 } → ⊥
     other_domain q = let z : ◌≡◌ {A = ℕ} 0 1 = ap (λ (x : Four). x.domain) q in omega arith
 
-step_5 : Step (entry 4 false 0 7 (Some 5)) (pair (r 1) (r 2)) R.Stray (pair (r 1) (r 2))
+step_5 : Step (entry 4 false 0 7 (Some 5)) (pair (r 1) (r 2)) (Ok R.Stray) (pair (r 1) (r 2))
 unfolding computes
 step_5 = stray table_2 refl (none_with (r 1) (r 2) _ (λ h q. other_direction q) (λ h q. other_direction q))
   where
     other_direction : (r 0).four ≡ record { route = 7; domain = 0; seq = 5; write = 1 } → ⊥
     other_direction q = let z : ◌≡◌ {A = ℕ} 0 1 = ap (λ (x : Four). x.write) q in omega arith
 
-step_6 : Step (entry 2 false 0 (2 ^ 63 + 7) (Some 5)) (pair (r 1) (r 2)) (R.Answered 0) (pair (r 0) (r 1))
+step_6 : Step (entry 2 false 0 (2 ^ 63 + 7) (Some 5)) (pair (r 1) (r 2)) (Ok (R.Answered 0)) (pair (r 0) (r 1))
 unfolding computes
 step_6 = answered {i = 0} table_2 refl (record { waits = (omega arith, omega arith); same = refl; oldest = λ j v q. let h = v.1 in omega arith })
 
 table_6 : Table (pair (r 0) (r 1))
 table_6 = stays_a_table _ _ _ _ table_2 step_6
 
-step_7 : Step (entry 1 true 0 9 (Some 6)) (pair (r 0) (r 1)) R.Dropped (pair (r 0) (r 1))
+step_7 : Step (entry 1 true 0 9 (Some 6)) (pair (r 0) (r 1)) (Ok R.Dropped) (pair (r 0) (r 1))
 unfolding computes
 step_7 = dropped table_6 refl
 
-step_8 : Step (entry 3 false 1 9 (Some 6)) (pair (r 0) (r 1)) (R.Taken 0) (pair (w 2) (r 1))
+step_8 : Step (entry 3 false 1 9 (Some 6)) (pair (r 0) (r 1)) (Ok (R.Taken 0)) (pair (w 2) (r 1))
 unfolding computes
 step_8 = taken table_6 refl (first_of_two (r 0) (r 1) refl)
 
@@ -111,7 +111,7 @@ table_8 = stays_a_table _ _ _ _ table_6 step_8
 other_route : (w 0).four ≡ (r 0).four → ⊥
 other_route q = let z : ◌≡◌ {A = ℕ} 9 7 = ap (λ (x : Four). x.route) q in omega arith
 
-step_9 : Step (entry 4 false 1 9 (Some 6)) (pair (w 2) (r 1)) (R.Answered 0) (pair (w 0) (r 1))
+step_9 : Step (entry 4 false 1 9 (Some 6)) (pair (w 2) (r 1)) (Ok (R.Answered 0)) (pair (w 0) (r 1))
 unfolding computes
 step_9 = answered {i = 0} table_8 refl (record { waits = (omega arith, omega arith); same = refl; oldest = λ j v q. each j v.0 q })
   where
@@ -121,33 +121,33 @@ step_9 = answered {i = 0} table_8 refl (record { waits = (omega arith, omega ari
 table_9 : Table (pair (w 0) (r 1))
 table_9 = stays_a_table _ _ _ _ table_8 step_9
 
-step_10 : Step (entry 3 false 1 9 (Some 6)) (pair (w 0) (r 1)) (R.Taken 0) (pair (w 2) (r 1))
+step_10 : Step (entry 3 false 1 9 (Some 6)) (pair (w 0) (r 1)) (Ok (R.Taken 0)) (pair (w 2) (r 1))
 unfolding computes
 step_10 = taken table_9 refl (first_of_two (w 0) (r 1) refl)
 
 table_10 : Table (pair (w 2) (r 1))
 table_10 = stays_a_table _ _ _ _ table_9 step_10
 
-step_11 : Step (entry 5 false 0 7 (Some 5)) (pair (w 2) (r 1)) R.Other (pair (w 2) (r 1))
+step_11 : Step (entry 5 false 0 7 (Some 5)) (pair (w 2) (r 1)) (Ok R.Other) (pair (w 2) (r 1))
 unfolding computes
 step_11 = other table_10 refl
 
-step_12 : Step (entry 1 false 0 7 None) (pair (w 2) (r 1)) R.NoSeq (pair (w 2) (r 1))
+step_12 : Step (entry 1 false 0 7 None) (pair (w 2) (r 1)) (Ok R.NoSeq) (pair (w 2) (r 1))
 unfolding computes
 step_12 = no_seq table_10 refl
 
-step_13 : Step (entry 2 true 0 7 (Some 5)) (pair (w 2) (r 1)) R.Dropped (pair (w 2) (r 1))
+step_13 : Step (entry 2 true 0 7 (Some 5)) (pair (w 2) (r 1)) (Ok R.Dropped) (pair (w 2) (r 1))
 unfolding computes
 step_13 = dropped table_10 refl
 
-step_14 : Step (entry 2 false 0 7 (Some 5)) (pair (w 2) (r 1)) (R.Answered 1) (pair (w 1) (r 0))
+step_14 : Step (entry 2 false 0 7 (Some 5)) (pair (w 2) (r 1)) (Ok (R.Answered 1)) (pair (w 1) (r 0))
 unfolding computes
 step_14 = answered {i = 1} table_10 refl (record { waits = (omega arith, omega arith); same = refl; oldest = λ j v q. let h = v.1 in omega arith })
 
 table_14 : Table (pair (w 1) (r 0))
 table_14 = stays_a_table _ _ _ _ table_10 step_14
 
-step_15 : Step (entry 2 false 0 7 (Some 5)) (pair (w 1) (r 0)) R.Stray (pair (w 1) (r 0))
+step_15 : Step (entry 2 false 0 7 (Some 5)) (pair (w 1) (r 0)) (Ok R.Stray) (pair (w 1) (r 0))
 unfolding computes
 step_15 = stray table_14 refl (none_with (w 1) (r 0) _ (λ h q. other_route q) (λ h q. omega arith))
 

@@ -1,12 +1,12 @@
 -- One history over two slots, step by step, and tables that are refused: what a reader can check by hand.
-use Rattle.std.specs.Prelude.{ℕ, ◌+◌, ◌^◌, ◌≡◌, Bool, true, false, List, [], ◌∷◌, replicate, None, Option, Some}
+use Rattle.std.specs.Prelude.{ℕ, ◌+◌, ◌^◌, ◌≡◌, Bool, true, false, List, [], ◌∷◌, replicate, None, Option, Some, Ok, Err}
+use Rattle.refusal.specs.declared.Refusal.TheVariants as N
 use Rattle.entry.specs.declared.Entry.{Entry}
 use Rattle.slots.specs.declared.Slot.{Slot}
-use Rattle.slots.specs.declared.decide.Report.{Report}
 use Rattle.slots.specs.declared.decide.Report.TheVariants as R
 use Rattle.slots.specs.Decide.{free_slot}
 use Rattle.pending.specs.Table.{waiting, Table}
-use Rattle.pending.specs.Step.{Step}
+use Rattle.pending.specs.Step.{Answer, Step}
 use Rattle.matched.specs.History.{History, taken_in, answered_in}
 
 -- an entry of a kind, dropped or not, with domain, route and `seq`; what else an entry says is the same for all
@@ -74,35 +74,35 @@ entries =
     ∷ []
 
 -- their reports
-abbrev pub reports : List Report
+abbrev pub reports : List Answer
 reports =
     -- 1, 2: the first free slot each time
-    R.Taken 0
-    ∷ R.Taken 1
+    Ok (R.Taken 0)
+    ∷ Ok (R.Taken 1)
     -- 3: no slot is free
-    ∷ R.TurnedAway
+    ∷ (Ok R.TurnedAway)
     -- 4, 5: no slot has the four
-    ∷ R.Stray
-    ∷ R.Stray
+    ∷ (Ok R.Stray)
+    ∷ (Ok R.Stray)
     -- 6: of the two that have it the oldest
-    ∷ R.Answered 0
+    ∷ Ok (R.Answered 0)
     -- 7
-    ∷ R.Dropped
+    ∷ (Ok R.Dropped)
     -- 8: the freed slot again
-    ∷ R.Taken 0
+    ∷ Ok (R.Taken 0)
     -- 9: the younger one; the older one stays where it is
-    ∷ R.Answered 0
+    ∷ Ok (R.Answered 0)
     -- 10
-    ∷ R.Taken 0
+    ∷ Ok (R.Taken 0)
     -- 11, 12
-    ∷ R.Other
-    ∷ R.NoSeq
+    ∷ (Ok R.Other)
+    ∷ (Ok R.NoSeq)
     -- 13: it frees nothing
-    ∷ R.Dropped
+    ∷ (Ok R.Dropped)
     -- 14: the second of the first two
-    ∷ R.Answered 1
+    ∷ Ok (R.Answered 1)
     -- 15: its four still stand in slot 1, but none waits there
-    ∷ R.Stray
+    ∷ (Ok R.Stray)
     ∷ []
 
 -- the write of step 10 waits still, the oldest by now
@@ -113,7 +113,7 @@ pub record Worked : Type 0 where
   -- Over two cleared slots these entries are so reported and leave this table.
   pub history : History entries (replicate 2 free_slot) reports left
   -- No other reports and no other table are possible.
-  pub worked_only : (rs : List Report) (u : List Slot) → History entries (replicate 2 free_slot) rs u → (rs ≡ reports) × (u ≡ left)
+  pub worked_only : (rs : List Answer) (u : List Slot) → History entries (replicate 2 free_slot) rs u → (rs ≡ reports) × (u ≡ left)
   -- Four were taken in.
   pub taken_in : taken_in reports ≡ 4
   -- Three are answered.
@@ -121,18 +121,18 @@ pub record Worked : Type 0 where
   -- One waits.
   pub waits : waiting left ≡ 1
   -- No slot: 50, whatever the entry.
-  pub no_slot : (e : Entry) → Step e [] (R.Refused 50) []
+  pub no_slot : (e : Entry) → Step e [] (Err N.TableSize) []
   -- 65 slots: 50.
-  pub too_many : (e : Entry) → Step e (replicate 65 free_slot) (R.Refused 50) (replicate 65 free_slot)
+  pub too_many : (e : Entry) → Step e (replicate 65 free_slot) (Err N.TableSize) (replicate 65 free_slot)
   -- 50 comes first: 65 slots that carry rank 1 each.
-  pub too_many_and_broken : (e : Entry) → Step e (replicate 65 (slot 0 7 5 0 1)) (R.Refused 50) (replicate 65 (slot 0 7 5 0 1))
+  pub too_many_and_broken : (e : Entry) → Step e (replicate 65 (slot 0 7 5 0 1)) (Err N.TableSize) (replicate 65 (slot 0 7 5 0 1))
   -- Rank 2 without rank 1: 51, whatever the entry.
-  pub rank_missing : (e : Entry) → Step e (slot 0 7 5 0 2 ∷ []) (R.Refused 51) (slot 0 7 5 0 2 ∷ [])
+  pub rank_missing : (e : Entry) → Step e (slot 0 7 5 0 2 ∷ []) (Err N.BrokenTable) (slot 0 7 5 0 2 ∷ [])
   -- A rank twice: 51.
-  pub rank_twice : (e : Entry) → Step e (slot 0 7 5 0 1 ∷ slot 0 9 5 0 1 ∷ []) (R.Refused 51) (slot 0 7 5 0 1 ∷ slot 0 9 5 0 1 ∷ [])
+  pub rank_twice : (e : Entry) → Step e (slot 0 7 5 0 1 ∷ slot 0 9 5 0 1 ∷ []) (Err N.BrokenTable) (slot 0 7 5 0 1 ∷ slot 0 9 5 0 1 ∷ [])
   -- A waiting slot's route with its top bit set: 51.
-  pub top_bit : (e : Entry) → Step e (slot 0 (2 ^ 63) 5 0 1 ∷ []) (R.Refused 51) (slot 0 (2 ^ 63) 5 0 1 ∷ [])
+  pub top_bit : (e : Entry) → Step e (slot 0 (2 ^ 63) 5 0 1 ∷ []) (Err N.BrokenTable) (slot 0 (2 ^ 63) 5 0 1 ∷ [])
   -- A waiting slot that neither reads nor writes: 51.
-  pub neither_direction : (e : Entry) → Step e (slot 0 7 5 2 1 ∷ []) (R.Refused 51) (slot 0 7 5 2 1 ∷ [])
+  pub neither_direction : (e : Entry) → Step e (slot 0 7 5 2 1 ∷ []) (Err N.BrokenTable) (slot 0 7 5 2 1 ∷ [])
   -- Of a free slot nothing but its rank is judged.
   pub free_slot_unjudged : Table (slot 0 (2 ^ 63) 5 2 0 ∷ [])

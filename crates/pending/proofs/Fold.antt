@@ -1,4 +1,5 @@
 -- One look at all slots is three: for the first free place, for the ranks, for the oldest that is asked for. Assumes nothing.
+use Rattle.std.specs.Prelude.{Option}
 use mathlib.Core.Path.{◌≡◌, refl}
 use Prim.Native.Nat.{ℕ, suc}
 use mathlib.Core.List.{List, [], ◌∷◌}
@@ -10,7 +11,7 @@ use Rattle.slots.specs.declared.look.Seen.{Seen}
 use Rattle.slots.specs.Look.{first_of, ranked_of, older_of, look_of}
 use Rattle.pending.specs.Over.{look_all}
 
-unfoldable pub first_all : List Slot → ℕ → ℕ → ℕ
+unfoldable pub first_all : List Slot → ℕ → Option ℕ → Option ℕ
 first_all [] i f = f
 first_all (s ∷ t) i f = first_all t (suc i) (first_of f s i)
 
@@ -18,7 +19,7 @@ unfoldable pub ranks_all : List Slot → Ranks → Ranks
 ranks_all [] r = r
 ranks_all (s ∷ t) r = ranks_all t (ranked_of r s)
 
-unfoldable pub oldest_all : List Slot → ℕ → Ask → Oldest → Oldest
+unfoldable pub oldest_all : List Slot → ℕ → Ask → Option Oldest → Option Oldest
 oldest_all [] i ask o = o
 oldest_all (s ∷ t) i ask o = oldest_all t (suc i) ask (older_of o ask s i)
 

@@ -1,15 +1,17 @@
 -- What the plan does is a step, and what the questions answer is so: the look at all slots is taken apart, the table is sound or refused, and each
 -- ask is decided by the first free slot or the oldest that is asked for. Assumes nothing.
-use Rattle.std.specs.Prelude.{None, Option, Result, Some}
+use Rattle.std.specs.Prelude.{Err, None, Ok, Option, Result, Some}
 use Rattle.refusal.specs.declared.Refusal.{Refusal}
+use Rattle.refusal.specs.declared.Refusal.TheVariants as Number
+use Rattle.refusal.specs.Told.{told, told_maybe}
 use mathlib.Core.Path.{◌≡◌, refl, sym, ◌∙◌, ap, subst}
 use Prim.Native.Nat.{ℕ, zero, suc, ◌+◌, ◌%◌, ◌<◌, ◌≤◌}
 use native.Mathlib.Omega.{arith}
 use mathlib.Core.Bool.{Bool, true, false, cond, ◌||◌}
-use mathlib.Core.List.{List, [], ◌∷◌}
+use mathlib.Core.List.{List}
 use lib.Dec.{eqb, ltb}
 use lib.ListN.{length, set}
-use borrow.Author.Tests.{lt-ltb, le-ltb, eq-eqb, ne_eqb, eqb-true, eqb-false, ltb-true, ltb-false}
+use borrow.Author.Tests.{lt-ltb, eq-eqb, eqb-true, eqb-false, ltb-true, ltb-false}
 use Rattle.entry.specs.declared.Entry.{Entry}
 use Rattle.slots.specs.declared.Four.{Four}
 use Rattle.slots.specs.declared.Slot.{Slot}
@@ -17,16 +19,17 @@ use Rattle.slots.specs.declared.ask.Ask.{Ask}
 use Rattle.slots.specs.declared.ask.Ask.TheVariants as A
 use Rattle.slots.specs.declared.look.Oldest.{Oldest}
 use Rattle.slots.specs.declared.look.Seen.{Seen}
+use Rattle.slots.specs.declared.decide.Change.{Change}
+use Rattle.slots.specs.declared.decide.Change.TheVariants as C
 use Rattle.slots.specs.declared.decide.Plan.{Plan}
-use Rattle.slots.specs.declared.decide.Report.{Report}
 use Rattle.slots.specs.declared.decide.Report.TheVariants as R
 use Rattle.slots.specs.Ask.{ask_of, by_kind, by_seq, four_of}
-use Rattle.slots.specs.Look.{start_of, seek_of, is_asked}
-use Rattle.slots.specs.Decide.{free_slot, still_of, take_of, free_of, sound_of, fault_of, request_of, response_of, judged, decide_of, count_of, place_of}
+use Rattle.slots.specs.Look.{asked_of, is_asked}
+use Rattle.slots.specs.Decide.{still_of, take_of, free_of, sound_of, check_of, request_of, response_of, judged, unless, decide_of, count_of, place_in, place_of}
 use Rattle.pending.specs.Over.{look_all}
-use Rattle.pending.specs.Table.{rank_at, four_at, Waits, waiting, tally, Sized, Sound, Table, Refuses, by_size, by_ranks, waiting_told, place_told, CountTold, PlaceTold}
+use Rattle.pending.specs.Table.{rank_at, four_at, Waits, waiting, tally, Sized, Sound, Table, Refuses, by_size, by_ranks, CountTold, PlaceTold}
 use Rattle.pending.specs.Table as Tables
-use Rattle.pending.specs.Step.{Step, FirstFree, NoneFree, OldestWith, NoneWith, newcomer, freed}
+use Rattle.pending.specs.Step.{Answer, Step, FirstFree, NoneFree, OldestWith, NoneWith, newcomer, freed}
 use Rattle.pending.specs.Step as Do
 use Rattle.pending.proofs.Fold.{first_all, ranks_all, oldest_all, parts}
 use Rattle.pending.proofs.Fours.{one_four, same_four_lem}
@@ -34,66 +37,41 @@ use Rattle.pending.proofs.Looks.{FirstIs, spare, full, first_is, waiting_most, w
 use Rattle.pending.proofs.Marks.{unlike}
 use Rattle.pending.proofs.Sounds.{r₀, tally_some, count_is, sound_found, found_sound}
 
-abbrev pub plan_of : Entry → List Slot → Plan
-plan_of e t = decide_of (look_all t 0 (start_of e (length t)))
-
--- the table that a plan makes
-abbrev pub after_plan : Plan → List Slot → List Slot
-after_plan p t = cond (eqb p.rank 0) (set t p.at p.slot) (freed p.rank t)
-
--- nothing is stored past the end
-pub set_past : (t : List Slot) (i : ℕ) (s : Slot) → length t ≤ i → set t i s ≡ t
-set_past [] i s h = refl
-set_past (x ∷ t) zero s h = absurd (omega (arith, h))
-set_past (x ∷ t) (suc i) s h = ap (λ (u : List Slot). x ∷ u) (set_past t i s (omega (arith, h)))
-
-still_keeps : (t : List Slot) (r : Report) → after_plan (still_of (length t) r) t ≡ t
-still_keeps t r = set_past t (length t) free_slot (omega arith)
+-- the table after a change
+abbrev pub changed : Change → List Slot → List Slot
+changed C.Nothing t = t
+changed (C.Put i s) t = set t i s
+changed (C.Free k) t = freed k t
 
 -- ---- what is seen of a table
-abbrev o₀ : Oldest
-o₀ = record { place = 0; rank = 65 }
-
 abbrev seen_by : Ask → List Slot → Seen
-seen_by ask t = record { ask = ask; size = length t; free = first_all t 0 (length t); ranks = ranks_all t r₀; oldest = oldest_all t 0 ask o₀ }
+seen_by ask t = record { ask = ask; size = length t; free = first_all t 0 None; ranks = ranks_all t r₀; oldest = oldest_all t 0 ask None }
 
-started_is : (e : Entry) (t : List Slot) → look_all t 0 (start_of e (length t)) ≡ seen_by (ask_of e) t
-unfolding start_of
-started_is e t = parts t 0 (start_of e (length t))
+seen_is : (ask : Ask) (t : List Slot) → look_all t 0 (asked_of ask (length t)) ≡ seen_by ask t
+seen_is ask t = parts t 0 (asked_of ask (length t))
 
-sought_is : (k : ℕ) (t : List Slot) → look_all t 0 (seek_of k (length t)) ≡ seen_by (A.Rank k) t
-unfolding seek_of
-sought_is k t = parts t 0 (seek_of k (length t))
+-- ---- a table, or the refusal
+data Judged (t : List Slot) : Result Unit Refusal → Type 0 where
+  well : Table t → Judged t (Ok tt)
+  ill : {r : Refusal} → Refuses t r → Judged t (Err r)
 
--- ---- a table, or the number that refuses it
-data Judged (t : List Slot) (n : ℕ) : Type 0 where
-  well : Table t → n ≡ 0 → Judged t n
-  ill : Refuses t n → 0 < n → Judged t n
-
-judge : (ask : Ask) (t : List Slot) → Judged t (fault_of (seen_by ask t))
-unfolding fault_of
+judge : (ask : Ask) (t : List Slot) → Judged t (check_of (seen_by ask t))
+unfolding check_of
 judge ask t = by_size₀ (eqb (length t) 0) refl (ltb 64 (length t)) refl
   where
-    by_sound : Sized t → (b : Bool) → sound_of (ranks_all t r₀) ≡ b → Judged t (cond b 0 51)
-    by_sound z true e = well (record { sized = z; sound = found_sound t z.1 e }) refl
-    by_sound z false e = ill (by_ranks z (λ s. unlike (sym (sound_found t s z.1) ∙ e))) (omega arith)
+    by_sound : Sized t → (b : Bool) → sound_of (ranks_all t r₀) ≡ b → Judged t (cond b (Ok tt) (Err Number.BrokenTable))
+    by_sound z true e = well (record { sized = z; sound = found_sound t z.1 e })
+    by_sound z false e = ill (by_ranks z (λ s. unlike (sym (sound_found t s z.1) ∙ e)))
 
-    by_size₀ : (a : Bool) → eqb (length t) 0 ≡ a → (b : Bool) → ltb 64 (length t) ≡ b → Judged t (cond (a || b) 50 (cond (sound_of (ranks_all t r₀)) 0 51))
-    by_size₀ true e b f = ill (by_size (λ z. let q = eqb-true (length t) 0 e in let y = z.0 in omega (arith, q, y))) (omega arith)
-    by_size₀ false e true f = ill (by_size (λ z. let q = ltb-true 64 (length t) f in let y = z.1 in omega (arith, q, y))) (omega arith)
+    by_size₀ : (a : Bool) → eqb (length t) 0 ≡ a → (b : Bool) → ltb 64 (length t) ≡ b
+        → Judged t (cond (a || b) (Err Number.TableSize) (cond (sound_of (ranks_all t r₀)) (Ok tt) (Err Number.BrokenTable)))
+    by_size₀ true e b f = ill (by_size (λ z. let q = eqb-true (length t) 0 e in let y = z.0 in omega (arith, q, y)))
+    by_size₀ false e true f = ill (by_size (λ z. let q = ltb-true 64 (length t) f in let y = z.1 in omega (arith, q, y)))
     by_size₀ false e false f = by_sound (positive (length t) (eqb-false (length t) 0 e), ltb-false 64 (length t) f) (sound_of (ranks_all t r₀)) refl
       where
         positive : (n : ℕ) → (n ≡ 0 → ⊥) → 0 < n
         positive zero h = absurd (h refl)
         positive (suc n) h = omega arith
-
-decide_well : (a : Seen) → fault_of a ≡ 0 → decide_of a ≡ judged a a.ask
-unfolding decide_of
-decide_well a z = let c = le-ltb 0 (fault_of a) (omega (arith, z)) in rw c
-
-decide_ill : (a : Seen) → 0 < fault_of a → decide_of a ≡ still_of a.size (R.Refused (fault_of a))
-unfolding decide_of
-decide_ill a z = let c = lt-ltb 0 (fault_of a) z in rw c
 
 -- ---- each ask over a table
 few : (t : List Slot) → Table t → waiting t ≤ 64
@@ -101,50 +79,39 @@ few t good = let a = waiting_most t in let b = good.sized.1 in omega (arith, a, 
 
 module _ (e : Entry) (t : List Slot) where
   abbrev Does : Plan → Type 0
-  Does p = Step e t p.report (after_plan p t)
-
-  stays : (r : Report) → Step e t r t → Does (still_of (length t) r)
-  stays r s = subst (Step e t r) (sym (still_keeps t r)) s
+  Does p = Step e t (Ok p.report) (changed p.change t)
 
   module _ (good : Table t) where
-    asks_request : (four : Four) → ask_of e ≡ A.Request four → FirstIs t 0 (length t) (first_all t 0 (length t)) → Does (request_of (seen_by (A.Request four) t) four)
+    asks_request : (four : Four) → ask_of e ≡ A.Request four → FirstIs t 0 (first_all t 0 None) → Does (request_of (seen_by (A.Request four) t) four)
     unfolding request_of
     asks_request four q (spare m g z b r) =
-        let k : first_all t 0 (length t) ≡ m = omega (arith, r) in let c = count_is t good.sound good.sized.1 in let v = waiting_less t m g z in let l = good.sized.1 in
-        let e₁ = lt-ltb m (length t) g in let e₂ = lt-ltb (waiting t) 64 (omega (arith, v, l)) in
-        subst Does (sym (let p : request_of (seen_by (A.Request four) t) four ≡ take_of m (waiting t + 1) four = rw (k, c, e₁, e₂) in p)) (Do.taken good q (record { within = g; free = z; first = b }))
+        let c = count_is t good.sound good.sized.1 in let v = waiting_less t m g z in let l = good.sized.1 in
+        let e₂ = lt-ltb (waiting t) 64 (omega (arith, v, l)) in let k : 0 + m ≡ m = omega arith in
+        subst Does (sym (let p : request_of (seen_by (A.Request four) t) four ≡ take_of m (waiting t + 1) four = rw (r, k, c, e₂) in p)) (Do.taken good q (record { within = g; free = z; first = b }))
     asks_request four q (full a r) =
-        let e₁ = le-ltb (first_all t 0 (length t)) (length t) (omega (arith, r)) in
-        subst Does (sym (let p : request_of (seen_by (A.Request four) t) four ≡ still_of (length t) R.TurnedAway = rw e₁ in p)) (stays R.TurnedAway (Do.turned_away good q a))
+        subst Does (sym (let p : request_of (seen_by (A.Request four) t) four ≡ still_of R.TurnedAway = rw r in p)) (Do.turned_away good q a)
 
-    asks_response : (four : Four) → ask_of e ≡ A.Response four → OldestIs t 0 (A.Response four) o₀ (oldest_all t 0 (A.Response four) o₀) → Does (response_of (seen_by (A.Response four) t))
+    asks_response : (four : Four) → ask_of e ≡ A.Response four → OldestIs t 0 (A.Response four) None (oldest_all t 0 (A.Response four) None) → Does (response_of (seen_by (A.Response four) t))
     unfolding response_of is_asked
-    asks_response four q (hit m g f p b less all) =
-        let k : (oldest_all t 0 (A.Response four) o₀).place ≡ m = omega (arith, p) in
-        let e₁ = lt-ltb (oldest_all t 0 (A.Response four) o₀).rank 65 less in let z = f.0 in
-        let e₂ = ne_eqb (rank_at t m) 0 (λ y. omega (arith, y, z)) in
-        let is-plan : response_of (seen_by (A.Response four) t) ≡ free_of (length t) m (rank_at t m) = rw (e₁, k, b) in
-        subst Does (sym is-plan) (subst (λ (u : Bool). Step e t (R.Answered m) (cond u (set t (length t) free_slot) (freed (rank_at t m) t))) (sym e₂)
+    asks_response four q (hit m g f p less all) =
+        let k : 0 + m ≡ m = omega arith in
+        let is-plan : response_of (seen_by (A.Response four) t) ≡ free_of m (rank_at t m) = rw (p, k) in
+        subst Does (sym is-plan)
         (Do.answered good q (record {
-          waits = (g, z);
+          waits = (g, f.0);
           same = one_four (four_at t m) four f.1;
-          oldest = (λ j w y. subst (λ (x : ℕ). x ≤ rank_at t j) b (all j w.0 (w.1, same_four_lem (four_at t j) four y)));
-        })))
+          oldest = (λ j w y. all j w.0 (w.1, same_four_lem (four_at t j) four y));
+        }))
     asks_response four q (miss r all) =
-        let d : (oldest_all t 0 (A.Response four) o₀).rank ≡ 65 = ap (λ (x : Oldest). x.rank) r in
-        let e₂ = not-less (oldest_all t 0 (A.Response four) o₀).rank d in
-        let is-plan : response_of (seen_by (A.Response four) t) ≡ still_of (length t) R.Stray = rw e₂ in
-        subst Does (sym is-plan) (stays R.Stray (Do.stray good q (λ j w y. let a = all j w.0 (w.1, same_four_lem (four_at t j) four y) in let b = good.sound.within j w.0 in let c = few t good in omega (arith, a, b, c))))
-      where
-        not-less : (x : ℕ) → x ≡ 65 → ltb x 65 ≡ false
-        not-less x d = le-ltb x 65 (omega (arith, d))
+        let is-plan : response_of (seen_by (A.Response four) t) ≡ still_of R.Stray = rw r in
+        subst Does (sym is-plan) (Do.stray good q (λ j w y. unlike (all j w.0 (w.1, same_four_lem (four_at t j) four y))))
 
     does : (ask : Ask) → ask_of e ≡ ask → ((k : ℕ) → ask ≡ A.Rank k → ⊥) → Does (judged (seen_by ask t) ask)
-    does A.Dropped q n = stays R.Dropped (Do.dropped good q)
-    does A.Other q n = stays R.Other (Do.other good q)
-    does A.NoSeq q n = stays R.NoSeq (Do.no_seq good q)
-    does (A.Request four) q n = asks_request four q (first_is t 0 (length t) (omega arith))
-    does (A.Response four) q n = asks_response four q (oldest_is t 0 (A.Response four) o₀)
+    does A.Dropped q n = Do.dropped good q
+    does A.Other q n = Do.other good q
+    does A.NoSeq q n = Do.no_seq good q
+    does (A.Request four) q n = asks_request four q (first_is t 0)
+    does (A.Response four) q n = asks_response four q (oldest_is t 0 (A.Response four) None)
     does (A.Rank k) q n = absurd (n k refl)
 
 -- ---- no entry asks for a rank
@@ -171,41 +138,56 @@ no_rank e = by_d e.dropped (eqb e.kind 0 || ltb 4 e.kind) e.seq
     by_d false false None = refl
 
 -- ---- the step
-step_of : (e : Entry) (t : List Slot) → Does e t (plan_of e t)
-step_of e t = subst (λ (a : Seen). Does e t (decide_of a)) (sym (started_is e t)) (by_table (judge (ask_of e) t))
-  where
-    by_table : Judged t (fault_of (seen_by (ask_of e) t)) → Does e t (decide_of (seen_by (ask_of e) t))
-    by_table (well g z) = subst (Does e t) (sym (decide_well (seen_by (ask_of e) t) z)) (does e t g (ask_of e) refl (λ k q. let a = no_rank e in let b : asks_rank (ask_of e) ≡ 1 = ap asks_rank q in omega (arith, a, b)))
-    by_table (ill r z) = subst (Does e t) (sym (decide_ill (seen_by (ask_of e) t) z)) (stays e t (R.Refused (fault_of (seen_by (ask_of e) t))) (Do.refused_with r))
+abbrev Follows : Entry → List Slot → Result Plan Refusal → Type 0
+Follows e t (Ok p) = Does e t p
+Follows e t (Err r) = Step e t (Err r) t
 
-pub step_by : (e : Entry) (t : List Slot) (p : Plan) (u : List Slot) → p ≡ plan_of e t → u ≡ after_plan p t → Step e t p.report u
-step_by e t p u h g = subst (Step e t p.report) (sym g) (subst (Does e t) (sym h) (step_of e t))
+follows : (e : Entry) (t : List Slot) → Follows e t (decide_of (seen_by (ask_of e) t))
+unfolding decide_of
+follows e t = by_table (judge (ask_of e) t)
+  where
+    by_table : {x : Result Unit Refusal} → Judged t x → Follows e t (unless x (judged (seen_by (ask_of e) t) (ask_of e)))
+    by_table (well g) = does e t g (ask_of e) refl (λ k q. let a = no_rank e in let b : asks_rank (ask_of e) ≡ 1 = ap asks_rank q in omega (arith, a, b))
+    by_table (ill r) = Do.refused_with r
+
+-- what a look at all slots decides, for an entry
+abbrev pub Decided : Entry → List Slot → Result Plan Refusal → Type 0
+Decided e t x = x ≡ decide_of (look_all t 0 (asked_of (ask_of e) (length t)))
+
+pub step_refused : (e : Entry) (t : List Slot) (r : Refusal) → Decided e t (Err r) → Step e t (Err r) t
+step_refused e t r h = subst (Follows e t) (sym (h ∙ ap decide_of (seen_is (ask_of e) t))) (follows e t)
+
+pub step_done : (e : Entry) (t : List Slot) (p : Plan) (u : List Slot) → Decided e t (Ok p) → u ≡ changed p.change t → Step e t (Ok p.report) u
+step_done e t p u h g = subst (Step e t (Ok p.report)) (sym g) (subst (Follows e t) (sym (h ∙ ap decide_of (seen_is (ask_of e) t))) (follows e t))
+
+-- there is always an answer
+pub some_step : (e : Entry) (t : List Slot) → (r : Answer) × (u : List Slot) × Step e t r u
+some_step e t = by (decide_of (seen_by (ask_of e) t)) (follows e t)
+  where
+    by : (x : Result Plan Refusal) → Follows e t x → (r : Answer) × (u : List Slot) × Step e t r u
+    by (Ok p) s = (Ok p.report, changed p.change t, s)
+    by (Err r) s = (Err r, t, s)
 
 -- ---- the questions
-pub count_told : (t : List Slot) (r : Result ℕ Refusal) → r ≡ count_of (look_all t 0 (seek_of 0 (length t))) → CountTold t (waiting_told r)
-unfolding count_of waiting_told
-count_told t r h = subst (λ (x : Result ℕ Refusal). CountTold t (waiting_told x)) (sym (h ∙ ap count_of (sought_is 0 t))) (by_table (judge (A.Rank 0) t))
+pub count_told : (t : List Slot) (r : Result ℕ Refusal) → r ≡ count_of (look_all t 0 (asked_of (A.Rank 0) (length t))) → CountTold t (told r)
+unfolding count_of
+count_told t r h = subst (λ (x : Result ℕ Refusal). CountTold t (told x)) (sym (h ∙ ap count_of (seen_is (A.Rank 0) t))) (by_table (judge (A.Rank 0) t))
   where
-    by_table : Judged t (fault_of (seen_by (A.Rank 0) t)) → CountTold t (waiting_told (count_of (seen_by (A.Rank 0) t)))
-    by_table (well g z) = let c = le-ltb 0 (fault_of (seen_by (A.Rank 0) t)) (omega (arith, z)) in let n = count_is t g.sound g.sized.1 in rw (c, n) (Tables.counts g)
-    by_table (ill f z) = let c = lt-ltb 0 (fault_of (seen_by (A.Rank 0) t)) z in rw c (Tables.refuses f)
+    by_table : {x : Result Unit Refusal} → Judged t x → CountTold t (told (unless x (ranks_all t r₀).count))
+    by_table (well g) = rw (count_is t g.sound g.sized.1) (Tables.counts g)
+    by_table (ill f) = Tables.refuses f
 
-pub place_told_lem : (t : List Slot) (k : ℕ) (r : Result (Option ℕ) Refusal) → r ≡ place_of (look_all t 0 (seek_of k (length t))) → PlaceTold t k (place_told r)
-unfolding place_of place_told is_asked
-place_told_lem t k r h = subst (λ (x : Result (Option ℕ) Refusal). PlaceTold t k (place_told x)) (sym (h ∙ ap place_of (sought_is k t))) (by_table (judge (A.Rank k) t) (oldest_is t 0 (A.Rank k) o₀))
+pub place_told : (t : List Slot) (k : ℕ) (r : Result (Option ℕ) Refusal) → r ≡ place_of (look_all t 0 (asked_of (A.Rank k) (length t))) → PlaceTold t k (told_maybe r)
+unfolding place_of is_asked
+place_told t k r h =
+    subst (λ (x : Result (Option ℕ) Refusal). PlaceTold t k (told_maybe x)) (sym (h ∙ ap place_of (seen_is (A.Rank k) t)))
+    (by_table (judge (A.Rank k) t) (oldest_is t 0 (A.Rank k) None))
   where
-    by_table : Judged t (fault_of (seen_by (A.Rank k) t)) → OldestIs t 0 (A.Rank k) o₀ (oldest_all t 0 (A.Rank k) o₀) → PlaceTold t k (place_told (place_of (seen_by (A.Rank k) t)))
-    by_table (ill f z) o = let c = lt-ltb 0 (fault_of (seen_by (A.Rank k) t)) z in rw c (Tables.refuses f)
-    by_table (well g z) (hit m l f p b less all) =
-        let c = le-ltb 0 (fault_of (seen_by (A.Rank k) t)) (omega (arith, z)) in let d = lt-ltb (oldest_all t 0 (A.Rank k) o₀).rank 65 less in
-        let q : (oldest_all t 0 (A.Rank k) o₀).place ≡ m = omega (arith, p) in
-        rw (c, d, q) (Tables.lies g (l, f.0) (eqb-true (rank_at t m) k f.1))
-    by_table (well g z) (miss q all) =
-        let c = le-ltb 0 (fault_of (seen_by (A.Rank k) t)) (omega (arith, z)) in
-        let d : (oldest_all t 0 (A.Rank k) o₀).rank ≡ 65 = ap (λ (x : Oldest). x.rank) q in let e = not-less (oldest_all t 0 (A.Rank k) o₀).rank d in
-        rw (c, e) (Tables.nowhere g (λ a b.
+    by_table : {x : Result Unit Refusal} {o : Option Oldest} → Judged t x → OldestIs t 0 (A.Rank k) None o → PlaceTold t k (told_maybe (unless x (place_in o)))
+    by_table (ill f) o = Tables.refuses f
+    by_table (well g) (hit m l f p less all) =
+        let z : 0 + m ≡ m = omega arith in rw (p, z) (Tables.lies g (l, f.0) (eqb-true (rank_at t m) k f.1))
+    by_table (well g) (miss q all) =
+        rw q (Tables.nowhere g (λ a b.
         let n = tally_some k t (let o = g.sound.once k a b in omega (arith, o)) in let y = n.1.1 in
-        let v = all n.0 n.1.0 (omega (arith, y, a), eq-eqb (rank_at t n.0) k y) in let w = few t g in omega (arith, v, w, b, y)))
-      where
-        not-less : (x : ℕ) → x ≡ 65 → ltb x 65 ≡ false
-        not-less x d = le-ltb x 65 (omega (arith, d))
+        unlike (all n.0 n.1.0 (omega (arith, y, a), eq-eqb (rank_at t n.0) k y))))

@@ -1,5 +1,6 @@
 -- What one entry does to a table, and what is reported, one line a report.
-use Rattle.std.specs.Prelude.{ℕ, ◌+◌, ◌<◌, ◌≤◌, ◌≡◌, List, map, length, set}
+use Rattle.std.specs.Prelude.{ℕ, ◌+◌, ◌<◌, ◌≤◌, ◌≡◌, List, map, length, set, Err, Ok, Result}
+use Rattle.refusal.specs.declared.Refusal.{Refusal}
 use Rattle.entry.specs.declared.Entry.{Entry}
 use Rattle.slots.specs.declared.Four.{Four}
 use Rattle.slots.specs.declared.Slot.{Slot}
@@ -36,13 +37,18 @@ newcomer t four = record { four = four; rank = waiting t + 1 }
 abbrev pub freed : ℕ → List Slot → List Slot
 freed rank t = map (lowered_of rank) t
 
--- the report and the table after an entry
-pub data Step (e : Entry) (t : List Slot) : Report → List Slot → Type 0 where
-  refused_with : {n : ℕ} → Refuses t n → Step e t (R.Refused n) t
-  dropped : Table t → ask_of e ≡ A.Dropped → Step e t R.Dropped t
-  other : Table t → ask_of e ≡ A.Other → Step e t R.Other t
-  no_seq : Table t → ask_of e ≡ A.NoSeq → Step e t R.NoSeq t
-  taken : {four : Four} {i : ℕ} → Table t → ask_of e ≡ A.Request four → FirstFree t i → Step e t (R.Taken i) (set t i (newcomer t four))
-  turned_away : {four : Four} → Table t → ask_of e ≡ A.Request four → NoneFree t → Step e t R.TurnedAway t
-  answered : {four : Four} {i : ℕ} → Table t → ask_of e ≡ A.Response four → OldestWith t four i → Step e t (R.Answered i) (freed (rank_at t i) t)
-  stray : {four : Four} → Table t → ask_of e ≡ A.Response four → NoneWith t four → Step e t R.Stray t
+-- what is answered to an entry: its report, or what refuses the table
+abbrev pub Answer : Type 0
+Answer = Result Report Refusal
+
+-- the answer and the table after an entry
+pub data Step (e : Entry) (t : List Slot) : Answer → List Slot → Type 0 where
+  refused_with : {r : Refusal} → Refuses t r → Step e t (Err r) t
+  dropped : Table t → ask_of e ≡ A.Dropped → Step e t (Ok R.Dropped) t
+  other : Table t → ask_of e ≡ A.Other → Step e t (Ok R.Other) t
+  no_seq : Table t → ask_of e ≡ A.NoSeq → Step e t (Ok R.NoSeq) t
+  taken : {four : Four} {i : ℕ} → Table t → ask_of e ≡ A.Request four → FirstFree t i → Step e t (Ok (R.Taken i)) (set t i (newcomer t four))
+  turned_away : {four : Four} → Table t → ask_of e ≡ A.Request four → NoneFree t → Step e t (Ok R.TurnedAway) t
+  answered : {four : Four} {i : ℕ} → Table t → ask_of e ≡ A.Response four → OldestWith t four i
+      → Step e t (Ok (R.Answered i)) (freed (rank_at t i) t)
+  stray : {four : Four} → Table t → ask_of e ≡ A.Response four → NoneWith t four → Step e t (Ok R.Stray) t

@@ -1,6 +1,8 @@
 -- A table of waiting requests: how many wait, which slots are a table, and which number refuses those that are none.
 use Rattle.refusal.specs.declared.Refusal.{Refusal}
-use Rattle.std.specs.Prelude.{ℕ, ◌+◌, ◌<◌, ◌≤◌, ◌^◌, ◌≡◌, cond, List, [], ◌∷◌, eqb, length, get_or, Err, None, Ok, Option, Result, Some}
+use Rattle.refusal.specs.declared.Refusal.TheVariants as R
+use Rattle.refusal.specs.Number.{number_of}
+use Rattle.std.specs.Prelude.{ℕ, ◌+◌, ◌<◌, ◌≤◌, ◌^◌, ◌≡◌, cond, List, [], ◌∷◌, eqb, length, get_or}
 use Rattle.text.specs.Told.{Told, is, absent, refused}
 use Rattle.slots.specs.declared.Four.{Four}
 use Rattle.slots.specs.declared.Slot.{Slot}
@@ -44,27 +46,17 @@ pub record Table (t : List Slot) : Type 0 where
   pub sound : Sound t
 
 -- 50, a table of no or over 64 slots, comes first; then 51
-pub data Refuses (t : List Slot) : ℕ → Type 0 where
-  by_size : (Sized t → ⊥) → Refuses t 50
-  by_ranks : Sized t → (Sound t → ⊥) → Refuses t 51
-
--- what the answers tell
-unfoldable pub waiting_told : Result ℕ Refusal → Told ℕ
-waiting_told (Ok n) = is n
-waiting_told (Err n) = refused n
-
-unfoldable pub place_told : Result (Option ℕ) Refusal → Told ℕ
-place_told (Ok (Some i)) = is i
-place_told (Ok None) = absent
-place_told (Err n) = refused n
+pub data Refuses (t : List Slot) : Refusal → Type 0 where
+  by_size : (Sized t → ⊥) → Refuses t R.TableSize
+  by_ranks : Sized t → (Sound t → ⊥) → Refuses t R.BrokenTable
 
 -- how many requests wait
 pub data CountTold (t : List Slot) : Told ℕ → Type 0 where
   counts : Table t → CountTold t (is (waiting t))
-  refuses : {n : ℕ} → Refuses t n → CountTold t (refused n)
+  refuses : {r : Refusal} → Refuses t r → CountTold t (refused (number_of r))
 
 -- where the k-th oldest lies: the slot that has the rank k, for k from 1 to the number of those that wait
 pub data PlaceTold (t : List Slot) (k : ℕ) : Told ℕ → Type 0 where
   lies : {i : ℕ} → Table t → Waits t i → rank_at t i ≡ k → PlaceTold t k (is i)
   nowhere : Table t → (0 < k → k ≤ waiting t → ⊥) → PlaceTold t k absent
-  refuses : {n : ℕ} → Refuses t n → PlaceTold t k (refused n)
+  refuses : {r : Refusal} → Refuses t r → PlaceTold t k (refused (number_of r))

@@ -1,7 +1,10 @@
 -- Document 02's words for a report; where a table is refused, its number.
 use Rattle.text.specs.Told.{Told, is, refused}
+use Rattle.std.specs.Prelude.{Err, Ok}
+use Rattle.refusal.specs.Number.{number_of}
 use Rattle.slots.specs.declared.decide.Report.{Report}
 use Rattle.slots.specs.declared.decide.Report.TheVariants as R
+use Rattle.pending.specs.Step.{Answer}
 
 pub data Word : Type 0 where
   dropped : Word
@@ -12,12 +15,16 @@ pub data Word : Type 0 where
   answered : Word
   stray : Word
 
-unfoldable pub report_told : Report → Told Word
-report_told R.Dropped = is dropped
-report_told R.Other = is other
-report_told R.NoSeq = is no_seq
-report_told (R.Taken i) = is taken
-report_told R.TurnedAway = is turned_away
-report_told (R.Answered i) = is answered
-report_told R.Stray = is stray
-report_told (R.Refused n) = refused n
+-- the word of a report
+abbrev pub word_for : Report → Word
+word_for R.Dropped = dropped
+word_for R.Other = other
+word_for R.NoSeq = no_seq
+word_for (R.Taken i) = taken
+word_for R.TurnedAway = turned_away
+word_for (R.Answered i) = answered
+word_for R.Stray = stray
+
+unfoldable pub report_told : Answer → Told Word
+report_told (Ok r) = is (word_for r)
+report_told (Err r) = refused (number_of r)

@@ -7,76 +7,68 @@
 #![tactic(auto)]
 
 ghost use Rattle.std.specs.Prelude.{◌≡◌, length, set, replicate};
+ghost use Rattle.refusal.specs.Told.{told, told_maybe};
 ghost use Rattle.slots.specs.Decide.{free_slot};
+ghost use Rattle.slots.specs.Look.{asked_of};
 ghost use Rattle.pending.specs.Over.{look_all};
-ghost use Rattle.pending.specs.Table.{waiting_told, place_told, CountTold, PlaceTold};
+ghost use Rattle.pending.specs.Table.{CountTold, PlaceTold};
 ghost use Rattle.pending.specs.Step.{Step, freed};
 
 use entry::Entry;
-use slots::Slot;
-use slots::decide::{Report, count_of, decide, free_slot, lowered, place_of};
-use slots::look::{Seen, look, seek, start};
 use refusal::Refusal;
+use slots::Slot;
+use slots::ask::Ask;
+use slots::decide::{Change, Report};
+use slots::look::Seen;
 
 // Every slot is made free.
 pub fn clear(slots: &mut [Slot])
     ensures { slots.new ≡ replicate (length slots.old) free_slot }
 {
-    let mut i: usize = 0;
-    while i < slots.len() {
-        slots[i] = free_slot();
-        i = i + 1;
-    }
+    slots.fill(Slot::free());
 }
 
 // One entry.
-pub fn step(e: Entry, slots: &mut [Slot]) -> Report
+pub fn step(e: Entry, slots: &mut [Slot]) -> Result<Report, Refusal>
     ensures { Step e slots.old result slots.new }
 {
-    let begun = start(e, slots.len());
-    let seen = find_oldest(slots, begun);
-    let plan = decide(seen);
-    if plan.rank == 0 {
-        take(slots, plan.at, plan.slot);
-    } else {
-        free(slots, plan.rank);
+    let plan = look(slots, Ask::of(e)).decide()?;
+    match plan.change {
+        Change::Nothing => {}
+        Change::Put(at, slot) => put(slots, at, slot),
+        Change::Free(rank) => free(slots, rank),
     }
-    plan.report
+    Ok(plan.report)
 }
 
-// How many slots wait.
+// How many slots wait. No slot that waits has rank 0, so none is asked for.
 pub fn waiting(slots: &[Slot]) -> Result<u32, Refusal>
-    ensures { CountTold slots.now (waiting_told result) }
+    ensures { CountTold slots.now (told result) }
 {
-    let begun = seek(0, slots.len());
-    let seen = find_oldest(slots, begun);
-    count_of(seen)
+    look(slots, Ask::Rank(0)).count()
 }
 
 // Where the k-th oldest of those that wait lies, the oldest being the first.
 pub fn oldest(slots: &[Slot], k: u32) -> Result<Option<usize>, Refusal>
-    ensures { PlaceTold slots.now k (place_told result) }
+    ensures { PlaceTold slots.now k (told_maybe result) }
 {
-    let begun = seek(k, slots.len());
-    let seen = find_oldest(slots, begun);
-    place_of(seen)
+    look(slots, Ask::Rank(k)).place()
 }
 
 // ---- over the slice, slot by slot
 // One look at every slot: the first free one, the ranks, and the oldest that is asked for.
-fn find_oldest(slots: &[Slot], mut seen: Seen) -> Seen
-    ensures { result ≡ look_all slots.now 0 seen }
+fn look(slots: &[Slot], ask: Ask) -> Seen
+    ensures { result ≡ look_all slots.now 0 (asked_of ask (length slots.now)) }
 {
-    let mut i: usize = 0;
-    while i < slots.len() {
-        seen = look(seen, slots[i], i);
-        i = i + 1;
+    let mut seen = Seen::new(ask, slots.len());
+    for (place, slot) in slots.iter().enumerate() {
+        seen.look(*slot, place);
     }
     seen
 }
 
 // A slot goes to a place; nothing where there is no such place.
-fn take(slots: &mut [Slot], at: usize, slot: Slot)
+fn put(slots: &mut [Slot], at: usize, slot: Slot)
     ensures { slots.new ≡ set slots.old at slot }
 {
     if at < slots.len() {
@@ -88,9 +80,7 @@ fn take(slots: &mut [Slot], at: usize, slot: Slot)
 fn free(slots: &mut [Slot], rank: u32)
     ensures { slots.new ≡ freed rank slots.old }
 {
-    let mut i: usize = 0;
-    while i < slots.len() {
-        slots[i] = lowered(slots[i], rank);
-        i = i + 1;
+    for slot in slots.iter_mut() {
+        *slot = slot.lowered(rank);
     }
 }

@@ -1,5 +1,5 @@
 -- What one more slot adds to what was found.
-use Rattle.std.specs.Prelude.{ℕ, ◌+◌, ◌-◌, ◌^◌, Bool, true, false, cond, ◌&&◌, ◌||◌, eqb, ltb}
+use Rattle.std.specs.Prelude.{ℕ, ◌+◌, ◌-◌, ◌^◌, Bool, true, false, cond, ◌&&◌, ◌||◌, eqb, ltb, None, Option, Some}
 use Rattle.std.specs.Int.Bits.{bit_and, bit_or}
 use Rattle.entry.specs.declared.Entry.{Entry}
 use Rattle.slots.specs.declared.Four.{Four}
@@ -12,14 +12,7 @@ use Rattle.slots.specs.declared.look.Seen.{Seen}
 use Rattle.slots.specs.Ask.{ask_of}
 
 abbrev pub asked_of : Ask → ℕ → Seen
-asked_of ask n =
-    record {
-      ask = ask;
-      size = n;
-      free = n;
-      ranks = record { count = 0; mask = 0; well = true };
-      oldest = record { place = 0; rank = 65 };
-    }
+asked_of ask n = record { ask = ask; size = n; free = None; ranks = record { count = 0; mask = 0; well = true }; oldest = None }
 
 unfoldable pub start_of : Entry → ℕ → Seen
 start_of e n = asked_of (ask_of e) n
@@ -27,8 +20,10 @@ start_of e n = asked_of (ask_of e) n
 unfoldable pub seek_of : ℕ → ℕ → Seen
 seek_of k n = asked_of (A.Rank k) n
 
-unfoldable pub first_of : ℕ → Slot → ℕ → ℕ
-first_of f s i = cond (eqb s.rank 0) (cond (ltb i f) i f) f
+-- the first free place stays
+unfoldable pub first_of : Option ℕ → Slot → ℕ → Option ℕ
+first_of (Some f) s i = Some f
+first_of None s i = cond (eqb s.rank 0) (Some i) None
 
 unfoldable pub bit_of : ℕ → ℕ
 bit_of k = cond (eqb k 0) 0 (cond (ltb 64 k) 0 (2 ^ (k - 1)))
@@ -55,8 +50,13 @@ is_asked (A.Request four) s = false
 is_asked (A.Response four) s = same_four s.four four
 is_asked (A.Rank k) s = eqb s.rank k
 
-unfoldable pub older_of : Oldest → Ask → Slot → ℕ → Oldest
-older_of o ask s i = cond (eqb s.rank 0) o (cond (ltb s.rank o.rank) (cond (is_asked ask s) (record { place = i; rank = s.rank }) o) o)
+-- is a rank older than the oldest that was found, if any?
+abbrev pub before : ℕ → Option Oldest → Bool
+before k (Some o) = ltb k o.rank
+before k None = true
+
+unfoldable pub older_of : Option Oldest → Ask → Slot → ℕ → Option Oldest
+older_of o ask s i = cond (eqb s.rank 0) o (cond (before s.rank o && is_asked ask s) (Some (record { place = i; rank = s.rank })) o)
 
 unfoldable pub look_of : Seen → Slot → ℕ → Seen
 look_of a s i =

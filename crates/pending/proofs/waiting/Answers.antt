@@ -3,4 +3,4 @@ use Rattle.pending.proofs.Steps.{count_told}
 use Rattle.pending.proofs.waiting.Goals as goal
 
 pub returns : goal.returns
-returns c = count_told c.args.slots.now c.count_of.result (rw (c.count_of.ensures, c.find_oldest-seen.ensures, c.seek-begun.ensures))
+returns c = count_told c.args.slots.now c.count.result (rw (c.count.ensures, c.look.ensures))

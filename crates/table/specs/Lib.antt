@@ -1,2 +1,0 @@
--- What the contracts of `table` cite.
-pub mod Held

@@ -33,12 +33,12 @@ unfolding Class.between Class.is_digit Class.is_letter Class.is_word Layout.fiel
     Step.step_from Step.field_at Step.walk_from Step.walk Step.parts
     Value.part_of Value.value_of
     Finding.span_among Finding.span_of Finding.place_of Finding.maybe_of Finding.number_of Finding.byte_of Finding.word_of
-    Gathering.origin_of Gathering.packet_of Gathering.noted_of Gathering.entry_of
+    Gathering.entry_of
     Grammar.dwords_bytes Grammar.rows_of Grammar.present Grammar.record_bytes
     Judging.framed Judging.task_size Judging.judge_field Judging.judged Judging.has_required Judging.refusal_of
     Reading.dwords_at Reading.dword_count Reading.dwords_of Reading.read_of
-    Rule.rule_of Rule.is_letter Rule.fits_text Rule.fits_number Rule.fits_dwords Rule.fits_rule
-    Ranges.fits_part Ranges.fits_texts Ranges.fits_numbers Ranges.writable Writing.bytes_of Writing.write_of
+    Rule.rule_of Rule.is_task_byte Rule.fits_text Rule.fits_number Rule.fits_dwords Rule.fits_rule
+    Ranges.fits_texts Ranges.fits_numbers Ranges.writable Writing.bytes_of Writing.write_of
 records_open = tt
 
 -- the line, its newline with it

@@ -21,13 +21,12 @@ use Rattle.entry.specs.Entry.{EntryValue, part_of, value_of}
 use Rattle.entry.proofs.Parts.{part_in}
 use Rattle.record.specs.declared.rule.Width.{Width}
 use Rattle.record.specs.declared.rule.Width.TheVariants.{One, Two, Four, Eight}
-use Rattle.record.specs.declared.rule.Letters.TheVariants as L
 use Rattle.record.specs.declared.rule.Rule.TheVariants as R
 use Rattle.record.specs.Grammar.{flag, dwords_bytes, rows_of, present, record_bytes, Below, Ranged, IsRecord}
-use Rattle.record.specs.Rule.{bytes_of, rule_of, is_letter, fits_rule}
+use Rattle.record.specs.Rule.{bytes_of, rule_of, is_task_byte, fits_rule}
 use Rattle.record.specs.Judging.{framed, task_size, judged, has_required, refusal_of}
 use Rattle.record.specs.Finding.{number_of, byte_of, word_of, place_of}
-use Rattle.record.specs.Gathering.{origin_of, packet_of, noted_of, entry_of}
+use Rattle.record.specs.Gathering.{entry_of}
 use Rattle.record.specs.Reading.{dword_count, dwords_of}
 use Rattle.record.proofs.Finding.{lookup}
 use Rattle.record.proofs.Rows.{RisingRows, body_at, lookup_present, GoodRows, rows_good}
@@ -65,25 +64,21 @@ flag_small : (b : Bool) → flag b ≤ 1
 flag_small true = omega arith
 flag_small false = omega arith
 
-pub task_letter : (b : ℕ) → (b < 128) × (b ≡ 32 → ⊥) → is_letter L.Task b ≡ true
-unfolding is_letter
+pub task_letter : (b : ℕ) → (b < 128) × (b ≡ 32 → ⊥) → is_task_byte b ≡ true
+unfolding is_task_byte
 task_letter b h = rw (ne_eqb b 32 h.1, lt-ltb b 128 h.0)
-
-pub function_letter : (b : ℕ) → is_word b ≡ true → is_letter L.Function b ≡ true
-unfolding is_letter
-function_letter b h = h
 
 -- a number's body is as its rule asks
 module _ (task : ℕ) (w : Width) (limit : ℕ) where
   number_fits : (n : ℕ) → n < 256 ^ bytes_of w → n ≤ limit → (b : List ℕ) → Some (number_bytes (bytes_of w) n) ≡ Some b
-      → fits_rule (R.Number w limit) task b ≡ true
+      → fits_rule (Some (R.Number w limit)) task b ≡ true
   unfolding fits_rule
   number_fits n h l b e =
       let same : number_bytes (bytes_of w) n ≡ b = cc in
       rw (← same) (fits_number_all (bytes_of w) limit n h l)
 
   maybe_fits : (o : Option ℕ) → Below (256 ^ bytes_of w) o → ((n : ℕ) → n < 256 ^ bytes_of w → n ≤ limit) → (b : List ℕ)
-      → option_map (number_bytes (bytes_of w)) o ≡ Some b → fits_rule (R.Number w limit) task b ≡ true
+      → option_map (number_bytes (bytes_of w)) o ≡ Some b → fits_rule (Some (R.Number w limit)) task b ≡ true
   maybe_fits None h l b e = absurd (let z : ◌≡◌ {A = ℕ} 0 1 = cc in omega arith)
   maybe_fits (Some n) h l b e = number_fits n h (l n h) b e
 
@@ -95,20 +90,20 @@ rows_rise v =
 
 -- rows of a value within the ranges are good
 module _ (v : EntryValue) (r : Ranged v) where
-  task_fits : (task : ℕ) (b : List ℕ) → Some v.task ≡ Some b → fits_rule R.Task task b ≡ true
+  task_fits : (task : ℕ) (b : List ℕ) → Some v.task ≡ Some b → fits_rule (Some R.Task) task b ≡ true
   unfolding fits_rule
   task_fits task b e =
       let same : v.task ≡ b = cc in
-      rw (← same) (fits_text_all (is_letter L.Task) (λ b. (b < 128) × (b ≡ 32 → ⊥)) task_letter v.task r.task.some r.task.letters)
+      rw (← same) (fits_text_all is_task_byte (λ b. (b < 128) × (b ≡ 32 → ⊥)) task_letter v.task r.task.some r.task.letters)
 
-  function_fits : (b : List ℕ) → Some v.function ≡ Some b → fits_rule R.Function (length v.task) b ≡ true
+  function_fits : (b : List ℕ) → Some v.function ≡ Some b → fits_rule (Some R.Function) (length v.task) b ≡ true
   unfolding fits_rule
   function_fits b e =
       let same : v.function ≡ b = cc in
       rw (← same, le-leb (length v.task + length v.function) 4096 r.together)
-      (fits_text_all (is_letter L.Function) (λ b. is_word b ≡ true) function_letter v.function r.function.some r.function.letters)
+      (fits_text_all is_word (λ b. is_word b ≡ true) (λ b h. h) v.function r.function.some r.function.letters)
 
-  dwords_fit : (task : ℕ) (b : List ℕ) → Some (dwords_bytes v.dwords) ≡ Some b → fits_rule R.Dwords task b ≡ true
+  dwords_fit : (task : ℕ) (b : List ℕ) → Some (dwords_bytes v.dwords) ≡ Some b → fits_rule (Some R.Dwords) task b ≡ true
   unfolding fits_rule
   dwords_fit task b e =
       let same : dwords_bytes v.dwords ≡ b = cc in
@@ -307,7 +302,7 @@ module _ (t : List ℕ) (v : EntryValue) (r : IsRecord t v) where
 
   -- the fields give the value that the record was made from
   pub record_value : value_in t ≡ v
-  unfolding value_in value_of entry_of origin_of packet_of noted_of rows_of dword_count
+  unfolding value_in value_of entry_of rows_of dword_count
   record_value =
       let q = r.ranged in
       let task : part_of t (place_of t 1).from (place_of t 1).len ≡ v.task = text_read t (body_found t 1 v.task (row_found 1)) in

@@ -20,29 +20,31 @@ dwords_length t from zero = refl
 dwords_length t from (suc n) = ap suc (dwords_length t (from + 4) n)
 
 module _ (t : List ℕ) (from n : ℕ) (found : List ℕ) where
-  -- i dwords are written, and the next stands at a place
-  pub record Copied (slots : List ℕ) (at i : ℕ) : Type 0 where
+  -- i dwords are written
+  pub record Copied (slots : List ℕ) (i : ℕ) : Type 0 where
     pub within : i ≤ n
-    pub place : at ≡ from + 4 * i
     pub size : length slots ≡ length found
-    pub same : sets found 0 (dwords_at t from n) ≡ sets slots i (dwords_at t at (n - i))
+    pub same : sets found 0 (dwords_at t from n) ≡ sets slots i (dwords_at t (from + 4 * i) (n - i))
 
-  pub copying_starts : Copied found from 0
-  copying_starts = record { within = omega arith; place = omega arith; size = refl; same = rw (sub-zero n) }
+  from_here : from + 4 * 0 ≡ from
+  from_here = omega arith
 
-  pub copying_steps : {slots : List ℕ} {at i : ℕ} → Copied slots at i → i < n → {d : ℕ} → d ≡ number 4 t at → Copied (set slots i d) (at + 4) (i + 1)
+  pub copying_starts : Copied found 0
+  copying_starts = record { within = omega arith; size = refl; same = rw (from_here, sub-zero n) }
+
+  pub copying_steps : {slots : List ℕ} {i : ℕ} → Copied slots i → i < n → {d : ℕ} → d ≡ number 4 t (from + 4 * i) → Copied (set slots i d) (i + 1)
   unfolding dwords_at
-  copying_steps {slots} {at} {i} c h {d} e =
+  copying_steps {slots} {i} c h {d} e =
       let left : n - i ≡ suc (n - (i + 1)) = omega arith in
+      let next : from + 4 * i + 4 ≡ from + 4 * (i + 1) = omega arith in
       record {
         within = omega arith;
-        place = omega (arith, c.place);
         size = length-set slots i d ∙ c.size;
-        same = c.same ∙ rw (left, e) (ap (λ (k : ℕ). sets (set slots i (number 4 t at)) k (dwords_at t (at + 4) (n - (i + 1)))) (sym (add-one i)));
+        same = c.same ∙ rw (left, e, next) (ap (λ (k : ℕ). sets (set slots i (number 4 t (from + 4 * i))) k (dwords_at t (from + 4 * (i + 1)) (n - (i + 1)))) (sym (add-one i)));
       }
 
-  pub copying_ends : {slots : List ℕ} {at i : ℕ} → Copied slots at i → n ≤ i → n ≤ length found → slots ≡ over (dwords_at t from n) found
+  pub copying_ends : {slots : List ℕ} {i : ℕ} → Copied slots i → n ≤ i → n ≤ length found → slots ≡ over (dwords_at t from n) found
   unfolding dwords_at
-  copying_ends {slots} {at} {i} c h room =
+  copying_ends {slots} {i} c h room =
       let none : n - i ≡ 0 = omega arith in
       sym (c.same ∙ rw none) ∙ sets_over (dwords_at t from n) found (rw (dwords_length t from n) room)

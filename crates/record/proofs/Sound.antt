@@ -25,16 +25,15 @@ use Rattle.tlv.proofs.Pieces.{part_made, fills_made}
 use Rattle.entry.specs.Entry.{part_of, value_of, Lies}
 use Rattle.record.specs.declared.rule.Width.{Width}
 use Rattle.record.specs.declared.rule.Width.TheVariants.{One, Two, Four, Eight}
-use Rattle.record.specs.declared.rule.Letters.TheVariants as L
 use Rattle.record.specs.declared.rule.Rule.{Rule}
 use Rattle.record.specs.declared.rule.Rule.TheVariants as R
 use Rattle.record.specs.declared.find.Span.{Span}
 use Rattle.record.specs.Grammar.{flag, dwords_bytes, rows_of, present, record_bytes, Below, TaskText, FunctionText, Ranged, IsRecord}
-use Rattle.record.specs.Rule.{bytes_of, rule_of, is_known, is_letter, fits_text, fits_rule}
+use Rattle.record.specs.Rule.{bytes_of, rule_of, is_known, is_task_byte, fits_text, fits_rule}
 use Rattle.record.specs.Judging.{framed, framed_by, task_size, judged, required_tags, has_required, refusal_of}
 use Rattle.record.specs.Conditions.{GoodFields}
 use Rattle.record.specs.Finding.{span_of, is_there, maybe_of, number_of, byte_of, word_of, place_of}
-use Rattle.record.specs.Gathering.{origin_of, packet_of, noted_of, entry_of}
+use Rattle.record.specs.Gathering.{entry_of}
 use Rattle.record.specs.Reading.{dwords_at, dword_count, dwords_of}
 use Rattle.record.proofs.Texts.{unknown_behind}
 use Rattle.record.proofs.Finding.{lookup}
@@ -84,7 +83,7 @@ pub known_low : (tag : ℕ) → is_known (rule_of tag) ≡ true → tag ≤ 19
 known_low tag h =
     elim (dec_le tag 19) [
       | yes l ↦ l
-      | no l ↦ absurd (false≢true (ap is_known (unknown_behind tag (omega arith)) ∙ h))
+      | no l ↦ absurd (false≢true (ap is_known (sym (unknown_behind tag (omega arith))) ∙ h))
     ]
 
 good_low : (task last : ℕ) (ps : List Piece) → GoodFields task last ps → All (λ p. p.tag ≤ 0 + 19) ps
@@ -99,7 +98,7 @@ module _ (t : List ℕ) (bytes : Bytes t) (good : GoodFields (task_size t) 0 (pi
     is : option_map (number_bytes k) (maybe_of k t tag) ≡ lookup tag (pieces_in t)
     low : Below (suc limit) (maybe_of k t tag)
 
-  numbered : (tag : ℕ) (w : Width) (limit : ℕ) → rule_of tag ≡ R.Number w limit → Numbered tag (bytes_of w) limit
+  numbered : (tag : ℕ) (w : Width) (limit : ℕ) → rule_of tag ≡ Some (R.Number w limit) → Numbered tag (bytes_of w) limit
   unfolding maybe_of fits_rule
   numbered tag w limit rule = go (lookup tag (pieces_in t)) refl
     where
@@ -108,7 +107,7 @@ module _ (t : List ℕ) (bytes : Bytes t) (good : GoodFields (task_size t) 0 (pi
           let absent : span_of t tag ≡ None = body_absent t tag e in
           record { is = rw (absent, e); low = rw absent tt }
       go (Some b) e =
-          let fits : fits_rule (R.Number w limit) (task_size t) b ≡ true = rw rule at (good_lookup (task_size t) (pieces_in t) 0 good tag b e) in
+          let fits : fits_rule (Some (R.Number w limit)) (task_size t) b ≡ true = rw rule at (good_lookup (task_size t) (pieces_in t) 0 good tag b e) in
           let f = fits_number_is (bytes_of w) limit b fits in
           let body : Body t tag b = body_found t tag b e in
           let read : maybe_of (bytes_of w) t tag ≡ Some (number (bytes_of w) b 0) = number_read t body (bytes_of w) f.0 in
@@ -122,7 +121,7 @@ module _ (t : List ℕ) (bytes : Bytes t) (good : GoodFields (task_size t) 0 (pi
     is : Some (number_bytes k (number_of k t tag)) ≡ lookup tag (pieces_in t)
     low : number_of k t tag < suc limit
 
-  needed : (tag : ℕ) (w : Width) (limit : ℕ) → rule_of tag ≡ R.Number w limit → is_there (span_of t tag) ≡ true → Needed tag (bytes_of w) limit
+  needed : (tag : ℕ) (w : Width) (limit : ℕ) → rule_of tag ≡ Some (R.Number w limit) → is_there (span_of t tag) ≡ true → Needed tag (bytes_of w) limit
   unfolding number_of maybe_of
   needed tag w limit rule there = go (span_of t tag) refl there (numbered tag w limit rule)
     where
@@ -131,13 +130,13 @@ module _ (t : List ℕ) (bytes : Bytes t) (good : GoodFields (task_size t) 0 (pi
       go None h k n = absurd (false≢true k)
 
   -- a field that is not a number, by its body
-  record Bodied (tag : ℕ) (rule : Rule) : Type 0 where
+  record Bodied (tag : ℕ) (rule : Option Rule) : Type 0 where
     body : List ℕ
     found : lookup tag (pieces_in t) ≡ Some body
     has : Body t tag body
     fits : fits_rule rule (task_size t) body ≡ true
 
-  bodied : (tag : ℕ) (rule : Rule) → rule_of tag ≡ rule → is_there (span_of t tag) ≡ true → Bodied tag rule
+  bodied : (tag : ℕ) (rule : Option Rule) → rule_of tag ≡ rule → is_there (span_of t tag) ≡ true → Bodied tag rule
   bodied tag rule e there = go (lookup tag (pieces_in t)) refl
     where
       go : (o : Option (List ℕ)) → lookup tag (pieces_in t) ≡ o → Bodied tag rule
@@ -157,13 +156,9 @@ flag_forth n h = go (eqb n 1) refl
     go true e = sym (eqb-true n 1 e)
     go false e = omega (arith, eqb-false n 1 e)
 
-pub task_byte : (b : ℕ) → is_letter L.Task b ≡ true → (b < 128) × (b ≡ 32 → ⊥)
-unfolding is_letter
+pub task_byte : (b : ℕ) → is_task_byte b ≡ true → (b < 128) × (b ≡ 32 → ⊥)
+unfolding is_task_byte
 task_byte b e = (ltb-true b 128 (both_right (not (eqb b 32)) _ e), eqb-false b 32 (not-true (eqb b 32) (both_left _ _ e)))
-
-pub function_byte : (b : ℕ) → is_letter L.Function b ≡ true → is_word b ≡ true
-unfolding is_letter
-function_byte b e = e
 
 -- ---- a text that passes
 
@@ -178,9 +173,9 @@ module _ (t : List ℕ) (bytes : Bytes t) (p : Passes t) where
   unfolding has_required
   there = all_is (λ tag. is_there (span_of t tag)) (λ tag. is_there (span_of t tag) ≡ true) (λ tag e. e) required_tags p.required
 
-  task : Bodied t bytes good 1 R.Task
+  task : Bodied t bytes good 1 (Some R.Task)
   unfolding rule_of
-  task = bodied t bytes good 1 R.Task refl there.0
+  task = bodied t bytes good 1 (Some R.Task) refl there.0
 
   pid : Needed t bytes good 2 4 0xffffffff
   unfolding rule_of
@@ -198,9 +193,9 @@ module _ (t : List ℕ) (bytes : Bytes t) (p : Passes t) where
   unfolding rule_of
   microseconds = needed t bytes good 5 Eight 0x7fffffffffffffff refl there.1.1.1.1.0
 
-  function : Bodied t bytes good 6 R.Function
+  function : Bodied t bytes good 6 (Some R.Function)
   unfolding rule_of
-  function = bodied t bytes good 6 R.Function refl there.1.1.1.1.1.0
+  function = bodied t bytes good 6 (Some R.Function) refl there.1.1.1.1.1.0
 
   kind : Needed t bytes good 7 1 12
   unfolding rule_of
@@ -250,9 +245,9 @@ module _ (t : List ℕ) (bytes : Bytes t) (p : Passes t) where
   unfolding rule_of
   unplug = numbered t bytes good 18 One 0xff refl
 
-  words : Bodied t bytes good 19 R.Dwords
+  words : Bodied t bytes good 19 (Some R.Dwords)
   unfolding rule_of
-  words = bodied t bytes good 19 R.Dwords refl there.1.1.1.1.1.1.1.1.1.1.1.0
+  words = bodied t bytes good 19 (Some R.Dwords) refl there.1.1.1.1.1.1.1.1.1.1.1.0
 
   word_size_lem : (length words.body ≡ 4 * (length words.body / 4)) × (length words.body / 4 ≤ 256)
   unfolding fits_rule
@@ -285,7 +280,7 @@ module _ (t : List ℕ) (bytes : Bytes t) (p : Passes t) where
 
   -- the rows of the value are what is found tag by tag
   rows_are : rows_of (value_in t) ≡ rows_from 19 1 (λ tag. lookup tag (pieces_in t))
-  unfolding value_in value_of entry_of origin_of packet_of noted_of rows_of word_of byte_of
+  unfolding value_in value_of entry_of rows_of word_of byte_of
   rows_are =
       let e01 : Some (value_in t).task ≡ lookup 1 (pieces_in t) = ap Some (text_read t task.has) ∙ sym task.found in
       let e06 : Some (value_in t).function ≡ lookup 6 (pieces_in t) = ap Some (text_read t function.has) ∙ sym function.found in
@@ -342,11 +337,11 @@ module _ (t : List ℕ) (bytes : Bytes t) (p : Passes t) where
   task_text : TaskText (value_in t).task
   unfolding value_in value_of entry_of fits_rule
   task_text =
-      let f = fits_text_is (is_letter L.Task) (λ b. (b < 128) × (b ≡ 32 → ⊥)) task_byte task.body task.fits in
+      let f = fits_text_is is_task_byte (λ b. (b < 128) × (b ≡ 32 → ⊥)) task_byte task.body task.fits in
       let e : part_of t (place_of t 1).from (place_of t 1).len ≡ task.body = text_read t task.has in
       record { some = rw e f.0; letters = rw e f.1 }
 
-  function_fits : (task_size t + length function.body ≤ 4096) × (fits_text (is_letter L.Function) function.body ≡ true)
+  function_fits : (task_size t + length function.body ≤ 4096) × (fits_text is_word function.body ≡ true)
   unfolding fits_rule
   function_fits = (
     leb-true (task_size t + length function.body) 4096 (both_left _ _ function.fits),
@@ -359,7 +354,7 @@ module _ (t : List ℕ) (bytes : Bytes t) (p : Passes t) where
 
   function_text : FunctionText (value_in t).function
   function_text =
-      let f = fits_text_is (is_letter L.Function) (λ b. is_word b ≡ true) function_byte function.body function_fits.1 in
+      let f = fits_text_is is_word (λ b. is_word b ≡ true) (λ b e. e) function.body function_fits.1 in
       record { some = rw function_is f.0; letters = rw function_is f.1 }
 
   together : length (value_in t).task + length (value_in t).function ≤ 4096
@@ -367,7 +362,7 @@ module _ (t : List ℕ) (bytes : Bytes t) (p : Passes t) where
 
   -- the value's numbers are within the ranges
   ranged : Ranged (value_in t)
-  unfolding value_in value_of entry_of origin_of packet_of noted_of word_of byte_of
+  unfolding value_in value_of entry_of word_of byte_of
   ranged =
       record {
         task = task_text;

@@ -1,12 +1,11 @@
 // Numbers 30 to 34: the frame, then field by field, then the required tags.
 ghost use Rattle.std.specs.Prelude.{◌≡◌, ◌≤◌, length};
 ghost use Rattle.text.specs.Told.{number_in};
-ghost use Rattle.tlv.specs.Reading.{between};
 ghost use Rattle.refusal.specs.Told.{told};
 ghost use Rattle.record.specs.Judging.{refusal_of, framed, judged, judge_field, task_size, has_required};
 
 use crate::find::is_there;
-use crate::rule::{fits, is_known, rule_of};
+use crate::rule::Rule;
 use refusal::Refusal;
 use tlv::{Step, field_at};
 
@@ -33,22 +32,21 @@ pub fn judge(text: &[u8]) -> Result<(), Refusal>
 fn is_framed(text: &[u8]) -> bool
     ensures { result ≡ framed text.now }
 {
-    match field_at(text, 0) {
-        Step::Field { tag, from: _, to } => tag == 0xA1 && to == text.len(),
-        _ => false,
-    }
+    matches!(field_at(text, 0), Step::Field { tag: 0xA1, from: _, to } if to == text.len())
 }
 
 // Field by field: 31, 32, 34.
+#[tactic(auto, using(crate::proofs::Finding::field_moves))]
 fn judge_fields(text: &[u8]) -> Result<(), Refusal>
     ensures { number_in (told result) ≡ judged text.now 3 0 }
 {
+    let task = task_size(text);
     let mut at = 3;
-    let mut last = 0u8;
+    let mut last = 0;
     loop {
         match field_at(text, at) {
             Step::Field { tag, from, to } => {
-                judge_field(text, tag, from, to, last)?;
+                judge_field(&text[from..to], tag, last, task)?;
                 last = tag;
                 at = to;
             }
@@ -58,20 +56,16 @@ fn judge_fields(text: &[u8]) -> Result<(), Refusal>
     }
 }
 
-// A whole field behind the tag `last`: 32, then 34.
+// A field behind the tag `last`, and behind a task of a length: 32, then 34.
 #[tactic(auto, unfolding(crate::specs::Judging::judge_field))]
-fn judge_field(text: &[u8], tag: u8, from: usize, to: usize, last: u8) -> Result<(), Refusal>
-    requires { (from ≤ to) × (to ≤ length text.now) }
-    ensures { number_in (told result) ≡ judge_field (task_size text.now) tag (between text.now from to) last }
+fn judge_field(body: &[u8], tag: u8, last: u8, task: usize) -> Result<(), Refusal>
+    ensures { number_in (told result) ≡ judge_field task tag body.now last }
 {
     if tag <= last {
         return Err(Refusal::BadTag);
     }
-    let rule = rule_of(tag);
-    if !is_known(rule) {
-        return Err(Refusal::BadTag);
-    }
-    if !fits(text, from, to, rule, task_size(text)) {
+    let rule = Rule::of(tag).ok_or(Refusal::BadTag)?;
+    if !rule.fits(body, task) {
         return Err(Refusal::BadBody);
     }
     Ok(())

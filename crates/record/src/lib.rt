@@ -42,11 +42,7 @@ fn copy_dwords(text: &[u8], from: usize, n: usize, slots: &mut [u32])
     requires { (n ≤ length slots.old) × (from + 4 * n ≤ length text.now) }
     ensures { slots.new ≡ over (dwords_at text.now from n) slots.old }
 {
-    let mut at = from;
-    let mut i = 0;
-    while i < n {
-        slots[i] = four_at(text, at);
-        at += 4;
-        i += 1;
+    for i in 0..n {
+        slots[i] = four_at(text, from + 4 * i);
     }
 }

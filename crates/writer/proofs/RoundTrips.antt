@@ -3,7 +3,7 @@
 use Rattle.std.specs.Prelude.{Err, Ok, Result}
 use Rattle.refusal.specs.declared.Refusal.{Refusal}
 use Rattle.refusal.specs.declared.Refusal.TheVariants as R
-use Prim.Native.Nat.{ℕ, suc, ◌+◌, ◌-◌, ◌^◌, ◌≤◌, ◌<◌}
+use Prim.Native.Nat.{ℕ, suc, ◌+◌, ◌^◌, ◌≤◌, ◌<◌}
 use mathlib.Core.Path.{◌≡◌, ◌∙◌, sym, ap, refl}
 use mathlib.Core.Bool.{Bool, true, false, cond, false≢true}
 use mathlib.Core.List.{List, [], ◌∷◌}
@@ -20,31 +20,23 @@ use Rattle.refusal.specs.Told.{told}
 use Rattle.refusal.proofs.Told.{one_told}
 use Rattle.tlv.specs.Number.{Bytes as AreBytes}
 use Rattle.tlv.specs.Grammar.{All}
-use Rattle.tlv.specs.Reading.{between}
-use Rattle.tlv.proofs.Places.{between_is, bytes_take}
+use Rattle.tlv.proofs.Places.{bytes_take}
 use Rattle.entry.specs.declared.Entry.{Entry}
 use Rattle.entry.specs.Entry.{EntryValue, part_of, value_of, SameEntry}
 use Rattle.entry.proofs.Parts.{part_in}
-use Rattle.record.specs.declared.rule.Letters.TheVariants as L
 use Rattle.record.specs.Grammar.{record_bytes, IsRecord}
-use Rattle.record.specs.Rule.{is_letter}
+use Rattle.record.specs.Rule.{is_task_byte}
 use Rattle.record.specs.Reading.{over, dwords_of, read_of}
 use Rattle.record.proofs.Bodies.{fits_text_is, fits_text_all}
-use Rattle.record.proofs.Complete.{task_letter, function_letter}
-use Rattle.record.proofs.Sound.{task_byte, function_byte}
+use Rattle.record.proofs.Complete.{task_letter}
+use Rattle.record.proofs.Sound.{task_byte}
 use Rattle.record.proofs.Records.{Accepts, record_accepted_exactly, record_at_most_5227}
-use Rattle.writer.specs.Ranges.{fits_part, fits_texts, fits_numbers, writable}
+use Rattle.writer.specs.Ranges.{fits_texts, fits_numbers, writable}
 use Rattle.writer.specs.Typed.{Typed}
 use Rattle.writer.specs.Writing.{bytes_of, write_of, buffer_by, Writing}
 use Rattle.writer.specs.Conditions.{Writable, Refuses, not_writable, short_buffer}
 use Rattle.writer.proofs.Puts.{part_length}
 use Rattle.writer.proofs.Writes.{Fits, fits_all}
-
--- a part of the text, both ways of cutting it
-part_between : (l : List ℕ) (at n : ℕ) → at + n ≤ length l → between l at (at + n) ≡ part_of l at n
-part_between l at n h =
-    let e : at + n - at ≡ n = omega arith in
-    between_is l at (at + n) ∙ rw e (part_in l at n h)
 
 below_all : (l : List ℕ) → ((i : ℕ) → get_or l i 0 < 2 ^ 32) → All (λ d. d < 2 ^ 32) l
 below_all [] h = tt
@@ -66,23 +58,18 @@ module _ (text : List ℕ) (e : Entry) (dwords : List ℕ) where
   unfolding value_of
   writable_is t h =
       let f : Fits text e dwords = fits_all text e dwords h in
-      let task : part_of text e.task_at e.task_len ≡ between text e.task_at (e.task_at + e.task_len) =
-      sym (part_between text e.task_at e.task_len f.lies.task) in
-      let function : part_of text e.function_at e.function_len ≡ between text e.function_at (e.function_at + e.function_len) =
-      sym (part_between text e.function_at e.function_len f.lies.function) in
-      let tt-task = fits_text_is (is_letter L.Task) (λ b. (b < 128) × (b ≡ 32 → ⊥)) task_byte (between text e.task_at (e.task_at + e.task_len)) f.task in
-      let tt-function =
-      fits_text_is (is_letter L.Function) (λ b. is_word b ≡ true) function_byte (between text e.function_at (e.function_at + e.function_len)) f.function in
+      let task = fits_text_is is_task_byte (λ b. (b < 128) × (b ≡ 32 → ⊥)) task_byte (part_of text e.task_at e.task_len) f.task in
+      let function = fits_text_is is_word (λ b. is_word b ≡ true) (λ b h. h) (part_of text e.function_at e.function_len) f.function in
       record {
         lies = f.lies;
         ranged =
             record {
-              task = record { some = rw task tt-task.0; letters = rw task tt-task.1 };
+              task = record { some = task.0; letters = task.1 };
               pid = t.pid;
               cpu = f.cpu;
               seconds = omega (arith, f.seconds);
               microseconds = omega (arith, f.microseconds);
-              function = record { some = rw function tt-function.0; letters = rw function tt-function.1 };
+              function = record { some = function.0; letters = function.1 };
               together =
                   omega (
                     arith,
@@ -106,12 +93,6 @@ module _ (text : List ℕ) (e : Entry) (dwords : List ℕ) where
             };
       }
 
-  part_fits : (ok : ℕ → Bool) (P : ℕ → Type 0) → ((b : ℕ) → P b → ok b ≡ true) → (at n : ℕ) → at + n ≤ length text → 0 < length (part_of text at n)
-      → All P (part_of text at n) → fits_part ok text at n ≡ true
-  unfolding fits_part
-  part_fits ok P g at n h some letters =
-      rw (le-leb (at + n) (length text) h, part_between text at n h) (fits_text_all ok P g (part_of text at n) some letters)
-
   writable_all : Writable text e dwords → writable text e dwords ≡ true
   unfolding writable fits_texts fits_numbers value_of
   writable_all w =
@@ -128,8 +109,8 @@ module _ (text : List ℕ) (e : Entry) (dwords : List ℕ) where
       let seconds : e.seconds ≤ 0x7fffffffffffffff = omega (arith, r.seconds) in
       let microseconds : e.microseconds ≤ 0x7fffffffffffffff = omega (arith, r.microseconds) in
       rw (
-        part_fits (is_letter L.Task) (λ b. (b < 128) × (b ≡ 32 → ⊥)) task_letter e.task_at e.task_len l.task r.task.some r.task.letters,
-        part_fits (is_letter L.Function) (λ b. is_word b ≡ true) function_letter e.function_at e.function_len l.function r.function.some r.function.letters,
+        fits_text_all is_task_byte (λ b. (b < 128) × (b ≡ 32 → ⊥)) task_letter (part_of text e.task_at e.task_len) r.task.some r.task.letters,
+        fits_text_all is_word (λ b. is_word b ≡ true) (λ b h. h) (part_of text e.function_at e.function_len) r.function.some r.function.letters,
         le-leb (e.task_len + e.function_len) 4096 sum,
         le-leb e.cpu 999 r.cpu,
         le-leb e.seconds 0x7fffffffffffffff seconds,

@@ -1,29 +1,27 @@
 -- The fields written tag by tag are the record's rows, the size computed is the record's length, and each way out is one of the ways to an answer.
 -- Assumes nothing.
 use Rattle.std.specs.Prelude.{Err, None, Ok, Option, Some}
-use Rattle.refusal.specs.declared.Refusal.{Refusal}
 use Rattle.refusal.specs.declared.Refusal.TheVariants as R
 use Prim.Native.Nat.{ℕ, zero, suc, ◌+◌, ◌-◌, ◌≤◌, ◌<◌}
 use mathlib.Core.Path.{◌≡◌, ◌∙◌, sym, ap, refl}
-use mathlib.Core.Bool.{true, false, cond, ◌&&◌}
+use mathlib.Core.Bool.{Bool, true, false, cond, ◌&&◌, false≢true}
 use mathlib.Core.List.{List, [], ◌∷◌, ◌++◌}
 use Rattle.std.specs.Option.{option_map}
 use native.Mathlib.Omega.{arith}
 use borrow.Author.Tests.{leb-true, le-leb, lt-leb}
 use lib.Dec.{leb}
-use lib.ListN.{length, get_or}
+use lib.ListN.{length, get_or, take, drop}
 use lib.Seq.{sets}
 use Rattle.text.proofs.Texts.{both_left, both_right}
 use Rattle.tlv.specs.Number.{number_bytes}
 use Rattle.tlv.specs.Grammar.{field_bytes, fields_bytes, All}
-use Rattle.tlv.specs.Reading.{between}
+use Rattle.text.specs.Class.{is_word}
 use Rattle.tlv.proofs.Numbers.{number_bytes_length}
 use Rattle.tlv.proofs.Pieces.{field_bytes_length}
 use Rattle.entry.specs.declared.Entry.{Entry}
 use Rattle.entry.specs.Entry.{part_of, value_of, Lies}
-use Rattle.record.specs.declared.rule.Letters.TheVariants as L
 use Rattle.record.specs.Grammar.{Row, placed, present, rows_of, record_bytes, dwords_bytes, flag}
-use Rattle.record.specs.Rule.{is_letter, fits_text}
+use Rattle.record.specs.Rule.{is_task_byte, fits_text}
 use Rattle.record.proofs.Rows.{rows_from, size_of, present_length}
 use Rattle.record.proofs.Slots.{sets_over}
 use Rattle.writer.specs.declared.item.Item.{Item}
@@ -46,7 +44,7 @@ use Rattle.writer.specs.Item.{
   word_size,
   record_size,
 }
-use Rattle.writer.specs.Ranges.{fits_part, fits_texts, fits_numbers, writable}
+use Rattle.writer.specs.Ranges.{fits_texts, fits_numbers, writable}
 use Rattle.writer.specs.Writing.{bytes_of, write_of, buffer_by, Writing}
 use Rattle.writer.proofs.Puts.{field_head, part_length, dwords_size}
 
@@ -54,8 +52,8 @@ use Rattle.writer.proofs.Puts.{field_head, part_length, dwords_size}
 
 pub record Fits (text : List ℕ) (e : Entry) (dwords : List ℕ) : Type 0 where
   pub lies : Lies e text dwords
-  pub task : fits_text (is_letter L.Task) (between text e.task_at (e.task_at + e.task_len)) ≡ true
-  pub function : fits_text (is_letter L.Function) (between text e.function_at (e.function_at + e.function_len)) ≡ true
+  pub task : fits_text is_task_byte (part_of text e.task_at e.task_len) ≡ true
+  pub function : fits_text is_word (part_of text e.function_at e.function_len) ≡ true
   pub together : e.task_len + e.function_len ≤ 4096
   pub cpu : e.cpu ≤ 999
   pub seconds : e.seconds ≤ 0x7fffffffffffffff
@@ -63,32 +61,41 @@ pub record Fits (text : List ℕ) (e : Entry) (dwords : List ℕ) : Type 0 where
   pub kind : e.kind ≤ 12
   pub few : e.dwords ≤ 256
 
+-- a part that fits lies in the text, since one outside is empty
+part_lies : (ok : ℕ → Bool) (text : List ℕ) (at n : ℕ) → fits_text ok (part_of text at n) ≡ true → at + n ≤ length text
+unfolding part_of fits_text
+part_lies ok text at n h = go (leb (at + n) (length text)) refl h
+  where
+    go : (x : Bool) → leb (at + n) (length text) ≡ x → fits_text ok (cond x (take n (drop at text)) []) ≡ true → at + n ≤ length text
+    go true e h = leb-true (at + n) (length text) e
+    go false e h = absurd (false≢true h)
+
 pub fits_all : (text : List ℕ) (e : Entry) (dwords : List ℕ) → writable text e dwords ≡ true → Fits text e dwords
-unfolding writable fits_texts fits_numbers fits_part
+unfolding writable fits_texts fits_numbers
 fits_all text e dwords h =
     let front : (fits_texts text e && fits_numbers e && leb e.dwords 256) ≡ true = both_left _ _ h in
     let two : (fits_texts text e && fits_numbers e) ≡ true = both_left _ _ front in
     let texts : fits_texts text e ≡ true = both_left _ _ two in
     let numbers : fits_numbers e ≡ true = both_right (fits_texts text e) _ two in
-    let parts : (fits_part (is_letter L.Task) text e.task_at e.task_len && fits_part (is_letter L.Function) text e.function_at e.function_len) ≡ true =
+    let parts : (fits_text is_task_byte (part_of text e.task_at e.task_len) && fits_text is_word (part_of text e.function_at e.function_len)) ≡ true =
     both_left _ _ texts in
-    let a : fits_part (is_letter L.Task) text e.task_at e.task_len ≡ true = both_left _ _ parts in
-    let b : fits_part (is_letter L.Function) text e.function_at e.function_len ≡ true =
-    both_right (fits_part (is_letter L.Task) text e.task_at e.task_len) _ parts in
+    let a : fits_text is_task_byte (part_of text e.task_at e.task_len) ≡ true = both_left _ _ parts in
+    let b : fits_text is_word (part_of text e.function_at e.function_len) ≡ true =
+    both_right (fits_text is_task_byte (part_of text e.task_at e.task_len)) _ parts in
     let three : (leb e.cpu 999 && leb e.seconds 0x7fffffffffffffff && leb e.microseconds 0x7fffffffffffffff) ≡ true = both_left _ _ numbers in
     let pair : (leb e.cpu 999 && leb e.seconds 0x7fffffffffffffff) ≡ true = both_left _ _ three in
     record {
       lies =
           record {
-            task = leb-true _ _ (both_left _ _ a);
-            function = leb-true _ _ (both_left _ _ b);
+            task = part_lies is_task_byte text e.task_at e.task_len a;
+            function = part_lies is_word text e.function_at e.function_len b;
             dwords = leb-true _ _ (both_right (fits_texts text e && fits_numbers e && leb e.dwords 256) _ h);
           };
-      task = both_right (leb (e.task_at + e.task_len) (length text)) _ a;
-      function = both_right (leb (e.function_at + e.function_len) (length text)) _ b;
+      task = a;
+      function = b;
       together =
           leb-true _ _
-          (both_right (fits_part (is_letter L.Task) text e.task_at e.task_len && fits_part (is_letter L.Function) text e.function_at e.function_len) _ texts);
+          (both_right (fits_text is_task_byte (part_of text e.task_at e.task_len) && fits_text is_word (part_of text e.function_at e.function_len)) _ texts);
       cpu = leb-true _ _ (both_left _ _ pair);
       seconds = leb-true _ _ (both_right (leb e.cpu 999) _ pair);
       microseconds = leb-true _ _ (both_right (leb e.cpu 999 && leb e.seconds 0x7fffffffffffffff) _ three);

@@ -1,20 +1,16 @@
 -- Number 37 as a test: the ranges of the record that an entry could break, and parts inside what is lent.
 -- Assumes nothing.
 use Rattle.std.specs.Prelude.{ℕ, ◌+◌, Bool, ◌&&◌, List, leb, length}
-use Rattle.tlv.specs.Reading.{between}
+use Rattle.text.specs.Class.{is_word}
 use Rattle.entry.specs.declared.Entry.{Entry}
-use Rattle.record.specs.declared.rule.Letters.TheVariants as L
-use Rattle.record.specs.Rule.{is_letter, fits_text}
+use Rattle.entry.specs.Entry.{part_of}
+use Rattle.record.specs.Rule.{is_task_byte, fits_text}
 
--- a part lies in the text and is one or more bytes that pass
-unfoldable pub fits_part : (ℕ → Bool) → List ℕ → ℕ → ℕ → Bool
-fits_part ok text at len = leb (at + len) (length text) && fits_text ok (between text at (at + len))
-
--- task and function, each by itself and both together
+-- task and function, each by itself and both together: each is one or more bytes that pass, and lies in the text, since a part outside is empty
 unfoldable pub fits_texts : List ℕ → Entry → Bool
 fits_texts text e =
-    fits_part (is_letter L.Task) text e.task_at e.task_len
-    && fits_part (is_letter L.Function) text e.function_at e.function_len
+    fits_text is_task_byte (part_of text e.task_at e.task_len)
+    && fits_text is_word (part_of text e.function_at e.function_len)
     && leb (e.task_len + e.function_len) 4096
 
 -- CPU, seconds, microseconds and kind

@@ -158,7 +158,8 @@ module _ (s key : List ℕ) where
 
   -- what a caller is told of an answer
   pub value_at : {r : Option Span} → r ≡ last_pair s key → ValueAt s key r
-  value_at q = record { is = q; within = λ a b h. last_within (sym q ∙ h) }
+  value_at {r = Some w} q = record { is = q; within = last_within (sym q) }
+  value_at {r = None} q = record { is = q; within = tt }
 
 -- the last pair's value, read
 module _ (s key : List ℕ) (limit : ℕ) where

@@ -156,4 +156,5 @@ module _ (s : List ℕ) where
 
   -- what a caller is told of an answer
   pub next_pair_lem : {from : ℕ} {r : Option Hit} → r ≡ next_pair s from → NextPair s from r
-  next_pair_lem q = record { is = q; rise = λ i m e h. next_rise (sym q ∙ h) }
+  next_pair_lem {r = Some p} q = record { is = q; rise = next_rise (sym q) }
+  next_pair_lem {r = None} q = record { is = q; rise = tt }

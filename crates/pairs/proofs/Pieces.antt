@@ -30,7 +30,7 @@ module _ (l : List ℕ) (i : ℕ) where
   passing_ends {left} {at} {to} p z e =
       record {
         is = sym (p.same ∙ rw z (ap (span at) (sym e.is)));
-        within = λ a b q. let x : at ≡ a = (same_span q).0 in let y : to ≡ b = (same_span q).1 in (omega (arith, x, y, e.up), omega (arith, y, e.within));
+        within = (e.up, e.within);
       }
 
   step_of : (left at to : ℕ) → to ≡ piece_end l at → (left ≡ 0 → ⊥) → nth_piece left l at ≡ cond (ltb to (length l)) (nth_piece (left - 1) l (to + 2)) None
@@ -42,7 +42,7 @@ module _ (l : List ℕ) (i : ℕ) where
   passing_runs_out {left} {at} {to} p n e end =
       record {
         is = sym (p.same ∙ step_of left at to e.is n ∙ rw (le-ltb to (length l) (omega arith)));
-        within = λ a b q. absurd (let z : ◌≡◌ {A = ℕ} 0 1 = cc in omega arith);
+        within = tt;
       }
 
   pub passing_steps : {left at to : ℕ} → Passing left at → (left ≡ 0 → ⊥) → EndsPiece l at to → (to ≡ length l → ⊥) → Passing (left - 1) (to + 2)

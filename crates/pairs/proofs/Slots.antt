@@ -280,12 +280,11 @@ module _ (value : List ℕ) where
 
   -- what a caller is told of an answer
   pub bracketed : {r : Option Span} → r ≡ inside_of value → Bracketed value r
-  bracketed q =
-      record
-      { is = q; within = λ a b h. let o = inside_tells (sym q ∙ h) in (omega (arith, o.from, o.some), omega (arith, o.ends)) }
+  bracketed {r = Some w} q = let o = inside_tells (sym q) in record { is = q; within = (omega (arith, o.from, o.some), omega (arith, o.ends)) }
+  bracketed {r = None} q = record { is = q; within = tt }
 
 -- brackets around one or more bytes other than `]` are found
-module _ (inner : List ℕ) (Some : 0 < length inner) (no_close : Inside (in_class NotClose) inner 0 (length inner)) where
+module _ (inner : List ℕ) (some : 0 < length inner) (no_close : Inside (in_class NotClose) inner 0 (length inner)) where
   closed : List ℕ
   closed = 91 ∷ inner ++ (93 ∷ [])
 

@@ -1,5 +1,5 @@
 -- The dwords of a bracketed value.
-use Rattle.std.specs.Prelude.{ℕ, zero, suc, ◌+◌, ◌-◌, ◌≤◌, ◌<◌, ◌^◌, ◌≡◌, Bool, true, false, cond, ◌&&◌, ◌||◌, List, [], ◌∷◌, ◌++◌, ltb, eqb, length, get_or, take, drop, None, Option, Some}
+use Rattle.std.specs.Prelude.{ℕ, zero, suc, ◌+◌, ◌-◌, ◌≤◌, ◌<◌, ◌^◌, ◌≡◌, Bool, true, false, cond, ◌&&◌, ◌||◌, List, [], ◌∷◌, ◌++◌, ltb, eqb, length, get_or, take, drop, IfSome, None, Option, Some}
 use Rattle.text.specs.declared.class.Class.TheVariants.{NotClose}
 use Rattle.text.specs.Class.{in_class}
 use Rattle.text.specs.Number.{HexNumber, hex_number_of}
@@ -149,7 +149,7 @@ filled ds out = ds ++ drop (length ds) out
 -- an answer is what stands between the brackets, and lies within the value
 pub record Bracketed (value : List ℕ) (r : Option Span) : Type 0 where
   pub is : r ≡ inside_of value
-  pub within : (a b : ℕ) → r ≡ span a b → (a < b) × (b ≤ length value)
+  pub within : IfSome r (λ w. (w.from < w.to) × (w.to ≤ length value))
 
 -- an answer is the piece's end; a comma-space stands there, or the text ends
 pub record EndsPiece (l : List ℕ) (from e : ℕ) : Type 0 where
@@ -161,7 +161,7 @@ pub record EndsPiece (l : List ℕ) (from e : ℕ) : Type 0 where
 -- an answer is the i-th piece, and lies within the text
 pub record NthPiece (l : List ℕ) (i : ℕ) (r : Option Span) : Type 0 where
   pub is : r ≡ nth_piece i l 0
-  pub within : (a b : ℕ) → r ≡ span a b → (a ≤ b) × (b ≤ length l)
+  pub within : IfSome r (λ w. (w.from ≤ w.to) × (w.to ≤ length l))
 
 -- an answer is the number of dwords, and whether a piece is bad
 pub record Tallied (inner : List ℕ) (r : Tally) : Type 0 where

@@ -1,5 +1,5 @@
 -- The pairs of a payload, and the last pair of a key.
-use Rattle.std.specs.Prelude.{ℕ, zero, suc, ◌+◌, ◌-◌, ◌≤◌, ◌<◌, ◌≡◌, Bool, true, false, cond, ◌&&◌, List, [], ◌∷◌, ◌++◌, ltb, length, get_or, take, drop, None, Option, Some}
+use Rattle.std.specs.Prelude.{ℕ, zero, suc, ◌+◌, ◌-◌, ◌≤◌, ◌<◌, ◌≡◌, Bool, true, false, cond, ◌&&◌, List, [], ◌∷◌, ◌++◌, ltb, length, get_or, take, drop, IfSome, None, Option, Some}
 use Rattle.text.specs.declared.class.Class.TheVariants.{NotClose}
 use Rattle.text.specs.Class.{is_word, in_class}
 use Rattle.text.specs.Number.{number_of, hex_number_of}
@@ -160,9 +160,9 @@ hex_at s key limit = hex_in s limit (last_pair s key)
 -- an answer is the next pair; its places rise within the text, which spares callers the argument
 pub record NextPair (s : List ℕ) (from : ℕ) (r : Option Hit) : Type 0 where
   pub is : r ≡ next_pair s from
-  pub rise : (i m e : ℕ) → r ≡ hit i m e → (from ≤ i) × (i < m) × (m + 1 < e) × (e ≤ length s)
+  pub rise : IfSome r (λ p. (from ≤ p.key) × (p.key < p.equals) × (p.equals + 1 < p.end) × (p.end ≤ length s))
 
 -- an answer is the last pair's value; it lies within the text, which spares callers the argument
 pub record ValueAt (s key : List ℕ) (r : Option Span) : Type 0 where
   pub is : r ≡ last_pair s key
-  pub within : (a b : ℕ) → r ≡ span a b → (a < b) × (b ≤ length s)
+  pub within : IfSome r (λ w. (w.from < w.to) × (w.to ≤ length s))

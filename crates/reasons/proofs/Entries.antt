@@ -92,8 +92,8 @@ module _ (t : List ℕ) {colon : ℕ} (f : frame_of t ≡ is colon) (key : Key) 
     where
       go : (s : Option Span) → last_pair (payload_of t colon) (name_of key) ≡ s
           → number_told (said_at (limit_of key) (start_at t colon) (payload_of t colon) s) ≡ (hex_at (payload_of t colon) (name_of key) (limit_of key))
-      go (Some w) e = ap (hex_some (payload_of t colon) (name_of key) (limit_of key) e)
-      go None e = ap (hex_none (payload_of t colon) (name_of key) (limit_of key) e)
+      go (Some w) e = hex_some (payload_of t colon) (name_of key) (limit_of key) e
+      go None e = hex_none (payload_of t colon) (name_of key) (limit_of key) e
 
 -- an accepted line is parted
 line_framed : (pieces : Pieces) (t : List ℕ) {v : EntryValue} → Line pieces t v → (colon : ℕ) × (frame_of t ≡ is colon)

@@ -13,6 +13,7 @@ use Rattle.text.specs.Quote.{bytes}
 use Rattle.text.proofs.Hexes.{hex_means, means_all}
 use Rattle.pairs.specs.declared.pair.Span.{Span}
 use Rattle.pairs.specs.Pair.{part, last_pair, LastPair, span}
+use Rattle.pairs.proofs.Ends.{same_span}
 use Rattle.pairs.specs.Data.{Data, PieceIn, cut, dwords_of, inside_of, data_in, data_of, nth_piece}
 use Rattle.pairs.proofs.LastPairs.{last_pair_is, last_pair_all, last_within}
 use Rattle.pairs.proofs.Cuts.{cut_all}
@@ -46,7 +47,7 @@ module _ (p : List ℕ) where
         length-take-le (to - from) (drop from p) (omega (arith, w.0, w.1, length-drop from p))
 
     brackets_fit : length r.inner + 1 ≤ to - from
-    brackets_fit = let w = (bracketed (part p from to) (sym (data_stands r))).within _ _ refl in omega (arith, w.1, value_size)
+    brackets_fit = let w = (bracketed (part p from to) (sym (data_stands r))).within in omega (arith, w.1, value_size)
 
     pub data_found : data_span p ≡ span (from + 1) (from + (length r.inner + 1))
     unfolding data_span brackets_at moved
@@ -67,8 +68,8 @@ module _ (p : List ℕ) where
           let last = last_pair_is p (bytes "data") e in
           let held : Data (part p a b) (dwords_of (part (part p a b) w.from w.to)) = data_is (data_there i) in
           let found : span (a + 1) (a + (length held.inner + 1)) ≡ span c d = sym (data_found last held) ∙ sym (data-found-by e i) ∙ r in
-          let low : a + 1 ≡ c = cc in
-          let high : a + (length held.inner + 1) ≡ d = cc in
+          let low : a + 1 ≡ c = (same_span found).0 in
+          let high : a + (length held.inner + 1) ≡ d = (same_span found).1 in
           record {
             from = a;
             to = b;
@@ -84,7 +85,7 @@ module _ (p : List ℕ) where
           data_there : inside_of (part p a b) ≡ span w.from w.to → data_of (part p a b) ≡ Some (dwords_of (part (part p a b) w.from w.to))
           data_there i = ap (data_in (part p a b)) i
 
-          data-found-by : last_pair p (bytes "data") ≡ span a b → inside_of (part p a b) ≡ span x y → span (a + x) (a + y) ≡ data_span p
+          data-found-by : last_pair p (bytes "data") ≡ span a b → inside_of (part p a b) ≡ Some w → span (a + w.from) (a + w.to) ≡ data_span p
           data-found-by e i = rw (e, i)
       by-brackets e None i r = absurd (let z : ◌≡◌ {A = ℕ} 0 1 = cc in omega arith)
 

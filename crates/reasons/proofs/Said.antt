@@ -1,6 +1,6 @@
 -- Spans and what they say: a span that was found lies in its text, so it has a place in the line, and each call's answer is the definition's
 -- by the case it took. Assumes nothing.
-use Rattle.std.specs.Prelude.{Err, Ok, Result, None, Option}
+use Rattle.std.specs.Prelude.{Err, Ok, Result, None, Option, Some}
 use Rattle.text.specs.declared.number.BadNumber.{BadNumber}
 use Prim.Native.Nat.{ℕ, ◌+◌, ◌-◌, ◌^◌, ◌≤◌, ◌<◌}
 use mathlib.Core.Path.{◌≡◌, refl, sym}
@@ -15,6 +15,8 @@ use Rattle.text.specs.Run.{run_end, stripped}
 use Rattle.text.proofs.Stripping.{strip_size}
 use Rattle.pairs.specs.declared.pair.Span.{Span}
 use Rattle.pairs.specs.Pair.{part, last_pair, ValueAt, span}
+use Rattle.refusal.specs.declared.Refusal.{Refusal}
+use Rattle.refusal.specs.Number.{number_of}
 use Rattle.pairs.specs.Data.{Bracketed, NthPiece}
 use Rattle.scan.specs.Frame.{frame_of}
 use Rattle.reasons.specs.declared.Key.{Key}
@@ -24,17 +26,18 @@ use Rattle.reasons.specs.Reasons.{name_of, limit_of, payload_from, payload_place
 -- ---- spans within their text
 
 pub pair_within : {s key : List ℕ} {r : Option Span} → ValueAt s key r → SpanWithin s r
-pair_within v a b q = let w = v.within a b q in (omega (arith, w.0), w.1)
+pair_within {r = Some w} v = (omega (arith, v.within.0), v.within.1)
+pair_within {r = None} v = tt
 
 -- ---- what a span says
 
 module _ (limit start : ℕ) (s : List ℕ) where
-  pub said_some : {span : Option Span} {a b : ℕ} → span ≡ span a b → {r : Result ℕ BadNumber} → r ≡ hex_of limit (part s a b)
-      → is (record { from = start + a; to = start + b; reading = r }) ≡ said_at limit start s span
+  pub said_some : {w : Option Span} {a b : ℕ} → w ≡ span a b → {r : Result ℕ BadNumber} → r ≡ hex_of limit (part s a b)
+      → is (record { from = start + a; to = start + b; reading = r }) ≡ said_at limit start s w
   unfolding said_at
   said_some e q = rw (e, q)
 
-  pub said_none : {span : Option Span} → span ≡ None → absent ≡ said_at limit start s span
+  pub said_none : {w : Option Span} → w ≡ None → absent ≡ said_at limit start s w
   unfolding said_at
   said_none e = rw e
 
@@ -50,11 +53,11 @@ module _ (p : List ℕ) where
   pub data_inside : {a b x y : ℕ} {value : List ℕ} → ValueAt p (bytes "data") (span a b) → value ≡ part p a b → length value ≡ b - a → Bracketed value (span x y) → DataAt p (span (a + x) (a + y))
   unfolding data_span brackets_at moved
   data_inside {a} {b} {x} {y} {value} v e size r =
-      let w = v.within a b refl in
-      let i = r.within x y refl in
+      let w = v.within in
+      let i = r.within in
       record {
         is = sym (rw (← v.is, ← e, ← r.is));
-        within = λ c d q. let m : a + x ≡ c = cc in let n : a + y ≡ d = cc in (omega (arith, m, n, i.0), omega (arith, n, i.1, w.0, w.1, size));
+        within = (omega (arith, i.0), omega (arith, i.1, w.0, w.1, size));
       }
 
   pub data_not_inside : {a b : ℕ} {value : List ℕ} → ValueAt p (bytes "data") (span a b) → value ≡ part p a b → Bracketed value None → DataAt p None
@@ -62,7 +65,7 @@ module _ (p : List ℕ) where
   data_not_inside {a} {b} v e r =
       record {
         is = sym (rw (← v.is, ← e, ← r.is));
-        within = λ c d q. absurd (let z : ◌≡◌ {A = ℕ} 0 1 = cc in omega arith);
+        within = tt;
       }
 
   pub data_missing : ValueAt p (bytes "data") None → DataAt p None
@@ -70,7 +73,7 @@ module _ (p : List ℕ) where
   data_missing v =
       record {
         is = sym (rw (← v.is));
-        within = λ c d q. absurd (let z : ◌≡◌ {A = ℕ} 0 1 = cc in omega arith);
+        within = tt;
       }
 
   pub says_piece : (start i : ℕ) {a b : ℕ} {r : Option Span} → DataAt p (span a b) → NthPiece (part p a b) i r
@@ -101,12 +104,12 @@ module _ (t : List ℕ) {colon : ℕ} where
   pub payload_there : {place : Place} → frame_of t ≡ is colon → PlacedAt t colon place → PayloadAt t (Ok place)
   unfolding payload_place
   payload_there {place} f p =
-      record { is = rw (f, p.is); within = λ other e. let q : place ≡ other = cc in rw (← q) (p.up, p.within) }
+      record { is = rw (f, p.is); within = (p.up, p.within) }
 
-pub payload_refused : (t : List ℕ) {k : ℕ} → frame_of t ≡ refused k → PayloadAt t (Err k)
+pub payload_refused : (t : List ℕ) {k : Refusal} → frame_of t ≡ refused (number_of k) → PayloadAt t (Err k)
 unfolding payload_place
 payload_refused t f =
-    record { is = rw f; within = λ place e. absurd (let z : ◌≡◌ {A = ℕ} 0 1 = cc in omega arith) }
+    record { is = rw f; within = tt }
 
 -- ---- the whole line
 
@@ -115,7 +118,7 @@ module _ (t : List ℕ) where
   unfolding key_answer
   key_there key p = rw (← p.is)
 
-  pub key_refused : {k : ℕ} (key : Key) → PayloadAt t (Err k) → refused k ≡ key_answer t key
+  pub key_refused : {k : Refusal} (key : Key) → PayloadAt t (Err k) → refused (number_of k) ≡ key_answer t key
   unfolding key_answer
   key_refused key p = rw (← p.is)
 
@@ -123,6 +126,6 @@ module _ (t : List ℕ) where
   unfolding piece_answer
   piece_there i p = rw (← p.is)
 
-  pub piece_refused : {k : ℕ} (i : ℕ) → PayloadAt t (Err k) → refused k ≡ piece_answer t i
+  pub piece_refused : {k : Refusal} (i : ℕ) → PayloadAt t (Err k) → refused (number_of k) ≡ piece_answer t i
   unfolding piece_answer
   piece_refused i p = rw (← p.is)

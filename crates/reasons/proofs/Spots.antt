@@ -1,6 +1,6 @@
 -- Spots of a payload: a part of a part is a part, so a text that stands in the payload stands in the line; and the last pair of a key is at the
 -- one spot that the answer gives. Assumes nothing.
-use Rattle.std.specs.Prelude.{Result, None, Option}
+use Rattle.std.specs.Prelude.{Result, None, Option, Some}
 use Rattle.text.specs.declared.number.BadNumber.{BadNumber}
 use Prim.Native.Nat.{ℕ, ◌+◌, ◌-◌, ◌≤◌, ◌<◌}
 use mathlib.Core.Path.{◌≡◌, refl, sym, ap, ◌∙◌}
@@ -37,11 +37,11 @@ part_in_part l s e a b h =
 -- ---- what a reading of the payload must give
 
 -- the text asked for stands in the payload, which starts at a place of the line
-pub record Sits (span : Spot) (limit : ℕ) (p : List ℕ) (start : ℕ) (said : HexText) : Type 0 where
+pub record Sits (At : Spot) (limit : ℕ) (p : List ℕ) (start : ℕ) (said : HexText) : Type 0 where
   pub text : List ℕ
   pub a : ℕ
   pub b : ℕ
-  pub there : span p text a b
+  pub there : At p text a b
   pub from : said.from ≡ start + a
   pub to : said.to ≡ start + b
   pub reads : Means limit text said.reading
@@ -53,12 +53,12 @@ pub record Stands (p text : List ℕ) (a b : ℕ) : Type 0 where
   pub is : part p a b ≡ text
 
 -- what is told of a payload is what is there
-pub record Answers (span : Spot) (limit : ℕ) (tell : List ℕ → ℕ → Told HexText) : Type 0 where
+pub record Answers (At : Spot) (limit : ℕ) (tell : List ℕ → ℕ → Told HexText) : Type 0 where
   pub never : (p : List ℕ) (start k : ℕ) → tell p start ≡ refused k → ⊥
-  pub sits : (p : List ℕ) (start : ℕ) (said : HexText) → tell p start ≡ is said → Sits span limit p start said
-  pub lacks : (p : List ℕ) (start : ℕ) → tell p start ≡ absent → (text : List ℕ) (a b : ℕ) → span p text a b → ⊥
-  pub all : (p : List ℕ) (start : ℕ) (said : HexText) → Sits span limit p start said → tell p start ≡ is said
-  pub stands : (p text : List ℕ) (a b : ℕ) → span p text a b → Stands p text a b
+  pub sits : (p : List ℕ) (start : ℕ) (said : HexText) → tell p start ≡ is said → Sits At limit p start said
+  pub lacks : (p : List ℕ) (start : ℕ) → tell p start ≡ absent → (text : List ℕ) (a b : ℕ) → At p text a b → ⊥
+  pub all : (p : List ℕ) (start : ℕ) (said : HexText) → Sits At limit p start said → tell p start ≡ is said
+  pub stands : (p text : List ℕ) (a b : ℕ) → At p text a b → Stands p text a b
 
 -- two texts of one place and reading are one
 pub one_text : {a b : ℕ} {r : Result ℕ BadNumber} (said : HexText) → a ≡ said.from → b ≡ said.to → r ≡ said.reading → record { from = a; to = b; reading = r } ≡ said

@@ -1,16 +1,17 @@
 -- Why a hex number was unreadable, in one statement; and no second answer. Assumes nothing.
-use Rattle.std.specs.Prelude.{Err, None, Ok, Option, Result, Some}
+use Rattle.std.specs.Prelude.{Option, Result}
 use Rattle.refusal.specs.declared.Refusal.{Refusal}
+use Rattle.refusal.specs.Told.{told_maybe}
+use Rattle.refusal.proofs.Told.{one_told_maybe}
 use Prim.Native.Nat.{ℕ, ◌-◌, ◌^◌}
 use mathlib.Core.Path.{◌≡◌, refl, sym, ◌∙◌}
 use mathlib.Core.List.{List}
 use mathlib.Core.Logic.{◌↔◌}
 use Rattle.text.specs.Told.{Told}
 use Rattle.text.proofs.Hexes.{hex_exactly, one_meaning}
-use Rattle.text.proofs.Told.{by_cases, fixed_by_told}
 use Rattle.reasons.specs.declared.Key.{Key}
 use Rattle.reasons.specs.declared.HexText.{HexText}
-use Rattle.reasons.specs.Reasons.{limit_of, answer_told, key_in, piece_in, key_answer, piece_answer}
+use Rattle.reasons.specs.Reasons.{limit_of, key_in, piece_in, key_answer, piece_answer}
 use Rattle.reasons.specs.Meaning.{KeyAt, PieceAt, Tells, WhyUnreadable}
 use Rattle.reasons.proofs.Spots.{key_answers}
 use Rattle.reasons.proofs.Pieces.{piece_answers}
@@ -25,20 +26,11 @@ pub piece_exactly : (t : List ℕ) (i : ℕ) (told : Told HexText) → (piece_an
 unfolding piece_answer
 piece_exactly t i told = told_exactly (PieceAt i) (2 ^ 32 - 1) (λ p start. piece_in p start i) (piece_answers i) t told
 
--- an answer is fixed by what it tells, so a call that meets its contract has one answer
-pub one_answer : (a b : Result (Option HexText) Refusal) → answer_told a ≡ answer_told b → a ≡ b
-one_answer = fixed_by_told answer_told (by_cases Ok (Some (Ok None)) Err) back
-  where
-    back : (a : Result (Option HexText) Refusal) → by_cases Ok (Some (Ok None)) Err (answer_told a) ≡ a
-    back (Ok (Some said)) = refl
-    back (Ok None) = refl
-    back (Err k) = refl
+pub no_second_key : (t : List ℕ) (key : Key) (a b : Result (Option HexText) Refusal) → told_maybe a ≡ key_answer t key → told_maybe b ≡ key_answer t key → a ≡ b
+no_second_key t key a b x y = one_told_maybe a b (x ∙ sym y)
 
-pub no_second_key : (t : List ℕ) (key : Key) (a b : Result (Option HexText) Refusal) → answer_told a ≡ key_answer t key → answer_told b ≡ key_answer t key → a ≡ b
-no_second_key t key a b x y = one_answer a b (x ∙ sym y)
-
-pub no_second_piece : (t : List ℕ) (i : ℕ) (a b : Result (Option HexText) Refusal) → answer_told a ≡ piece_answer t i → answer_told b ≡ piece_answer t i → a ≡ b
-no_second_piece t i a b x y = one_answer a b (x ∙ sym y)
+pub no_second_piece : (t : List ℕ) (i : ℕ) (a b : Result (Option HexText) Refusal) → told_maybe a ≡ piece_answer t i → told_maybe b ≡ piece_answer t i → a ≡ b
+no_second_piece t i a b x y = one_told_maybe a b (x ∙ sym y)
 
 pub why_unreadable : WhyUnreadable
 why_unreadable =
@@ -50,7 +42,7 @@ why_unreadable =
       number_exactly = number_exactly;
       none_exactly = none_exactly;
       no_route = no_route;
-      one_answer = one_answer;
+      one_answer = one_told_maybe;
       in_order = in_order;
       bad_exactly = bad_exactly;
     }

@@ -1,5 +1,6 @@
 -- What each answer means, without a search: which text of the payload is asked for, where it stands in the line, and what it reads as.
 use Rattle.refusal.specs.declared.Refusal.{Refusal}
+use Rattle.refusal.specs.Told.{told_maybe}
 use Rattle.text.specs.declared.number.BadNumber.{BadNumber}
 use Rattle.text.specs.declared.number.BadNumber.TheVariants as BadNumber
 use Rattle.std.specs.Prelude.{ℕ, zero, suc, ◌+◌, ◌-◌, ◌^◌, ◌≤◌, ◌<◌, ◌≡◌, ◌↔◌, List, [], ◌∷◌, length, Err, None, Ok, Option, Result, Some}
@@ -17,7 +18,7 @@ use Rattle.scan.specs.Line.{Line, Condition, Applies}
 use Rattle.reasons.specs.declared.Key.{Key}
 use Rattle.reasons.specs.declared.Key.TheVariants as K
 use Rattle.reasons.specs.declared.HexText.{HexText}
-use Rattle.reasons.specs.Reasons.{name_of, limit_of, answer_told, key_answer, piece_answer}
+use Rattle.reasons.specs.Reasons.{name_of, limit_of, key_answer, piece_answer}
 
 -- a text of the payload, from a place of it up to another
 abbrev pub Spot : Type 1
@@ -129,7 +130,7 @@ pub record PieceWithout (t : List ℕ) : Type 0 where
 
 -- ---- the promise, in one place
 
--- `Answer` is what the calls `ask_key` and `ask_piece` hand out; their contracts are `answer_told r ≡ key_answer t key` and `≡ piece_answer t i`
+-- `Result<Option<HexText>, Refusal>` is what the calls `ask_key` and `ask_piece` hand out; their contracts are `told_maybe r ≡ key_answer t key` and `≡ piece_answer t i`
 pub record WhyUnreadable : Type 0 where
   -- of every text and within every limit exactly one case holds, and it is the hex reader's answer
   pub hex_exactly : (limit : ℕ) (s : List ℕ) (r : Result ℕ BadNumber) → (hex_of limit s ≡ r) ↔ Means limit s r
@@ -145,7 +146,7 @@ pub record WhyUnreadable : Type 0 where
   -- of a line refused with 14 the route is absent or gives a reason
   pub no_route : (pieces : Pieces) (t : List ℕ) (room : ℕ) → Applies pieces t room 14 → NoNumber (key_answer t K.Route)
   -- no second answer meets either contract
-  pub one_answer : (a b : Result (Option HexText) Refusal) → answer_told a ≡ answer_told b → a ≡ b
+  pub one_answer : (a b : Result (Option HexText) Refusal) → told_maybe a ≡ told_maybe b → a ≡ b
   -- the dwords of an accepted line are the numbers that its pieces say, in order
   pub in_order : (pieces : Pieces) (t : List ℕ) {v : EntryValue} → Line pieces t v → InOrder t v.dwords
   -- strict says 18 of a line exactly when none of 1 to 15 applies and one of its pieces says no number

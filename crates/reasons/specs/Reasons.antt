@@ -1,6 +1,7 @@
 -- The one answer for a line and a hex key, and for a line and a piece of its data.
 use Rattle.refusal.specs.declared.Refusal.{Refusal}
-use Rattle.std.specs.Prelude.{ℕ, ◌+◌, ◌-◌, ◌^◌, ◌≤◌, ◌≡◌, List, length, drop, Err, None, Ok, Option, Result, Some}
+use Rattle.refusal.specs.Told.{told}
+use Rattle.std.specs.Prelude.{ℕ, ◌+◌, ◌-◌, ◌^◌, ◌≤◌, ◌≡◌, List, length, drop, IfOk, IfSome, None, Option, Result, Some}
 use Rattle.text.specs.Told.{Told, is, absent, refused, and_then}
 use Rattle.text.specs.Class.{is_blank}
 use Rattle.text.specs.Number.{hex_of}
@@ -32,12 +33,6 @@ limit_of K.Error = 2 ^ 8 - 1
 limit_of K.Config = 2 ^ 8 - 1
 limit_of K.Unplug = 2 ^ 8 - 1
 
--- what each case of an answer tells: the text and what it reads as; "none", where it is absent; or the number 1 to 4
-abbrev pub answer_told : Result (Option HexText) Refusal → Told HexText
-answer_told (Ok (Some text)) = is text
-answer_told (Ok None) = absent
-answer_told (Err k) = refused k
-
 -- where the payload of a line parted at a colon stands
 unfoldable pub payload_from : List ℕ → ℕ → Place
 payload_from t colon =
@@ -47,11 +42,6 @@ payload_from t colon =
 -- numbers 1 to 4 in their order, or where the payload stands
 unfoldable pub payload_place : List ℕ → Told Place
 payload_place t = and_then (frame_of t) (λ colon. is (payload_from t colon))
-
--- what each case of the payload's answer tells: where it stands, or the number
-abbrev pub payload_told : Result Place Refusal → Told Place
-payload_told (Ok place) = is place
-payload_told (Err k) = refused k
 
 -- what a span of a text that starts at a place of the line says in hex
 unfoldable pub said_at : ℕ → ℕ → List ℕ → Option Span → Told HexText
@@ -97,7 +87,7 @@ piece_answer t i = and_then (payload_place t) (λ p. piece_in (part t p.from p.t
 
 -- a span lies within the text
 abbrev pub SpanWithin : List ℕ → Option Span → Type 0
-SpanWithin s span = (a b : ℕ) → span ≡ span a b → (a ≤ b) × (b ≤ length s)
+SpanWithin s r = IfSome r (λ w. (w.from ≤ w.to) × (w.to ≤ length s))
 
 -- a place is that of the payload behind the colon, and lies within the line
 pub record PlacedAt (t : List ℕ) (colon : ℕ) (place : Place) : Type 0 where
@@ -107,8 +97,8 @@ pub record PlacedAt (t : List ℕ) (colon : ℕ) (place : Place) : Type 0 where
 
 -- an answer is the payload's place, and lies within the line
 pub record PayloadAt (t : List ℕ) (r : Result Place Refusal) : Type 0 where
-  pub is : payload_told r ≡ payload_place t
-  pub within : (place : Place) → r ≡ Ok place → (place.from ≤ place.to) × (place.to ≤ length t)
+  pub is : told r ≡ payload_place t
+  pub within : IfOk r (λ place. (place.from ≤ place.to) × (place.to ≤ length t))
 
 -- an answer is what stands between the brackets, and lies within the payload
 pub record DataAt (p : List ℕ) (r : Option Span) : Type 0 where

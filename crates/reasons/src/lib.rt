@@ -8,22 +8,53 @@
 pub mod payload;
 
 ghost use Rattle.std.specs.Prelude.{◌≡◌, ◌+◌, ◌^◌, ◌<◌, length};
-ghost use Rattle.reasons.specs.Reasons.{answer_told, key_answer, piece_answer, key_in, piece_in, SpanWithin, said_at};
+ghost use Rattle.std.specs.Prelude.{Ok};
+ghost use Rattle.refusal.specs.Told.{told_maybe};
+ghost use Rattle.reasons.specs.Reasons.{name_of, limit_of, key_answer, piece_answer, key_in, piece_in, SpanWithin, said_at};
 
-use crate::payload::{find_data, payload_of};
+use crate::payload::{Place, find_data, payload_of};
 use pairs::dwords::nth_piece;
 use pairs::pair::{Span, last_pair};
-use text::number::{MAX_8, MAX_16, MAX_32, MAX_64, hex};
 use refusal::Refusal;
+use text::number::{BadNumber, MAX_8, MAX_16, MAX_32, MAX_64, hex};
 
 // The keys of a line that are read as hex.
-#[derive(Clone, Copy)]
+#[derive(Clone, Copy, Debug, PartialEq, Eq, Hash)]
 pub enum Key {
     Route,
     Offset,
     Error,
     Config,
     Unplug,
+}
+
+impl Key {
+    // Its name in a payload.
+    #[tactic(auto, unfolding(crate::specs::Reasons::name_of))]
+    pub fn name(self) -> &'static [u8]
+        ensures { result.now ≡ name_of self }
+    {
+        match self {
+            Key::Route => b"route",
+            Key::Offset => b"offset",
+            Key::Error => b"error",
+            Key::Config => b"config",
+            Key::Unplug => b"unplug",
+        }
+    }
+
+    // The largest number of its width.
+    pub fn limit(self) -> u64
+        ensures { result ≡ limit_of self }
+    {
+        match self {
+            Key::Route => MAX_64,
+            Key::Offset => MAX_16,
+            Key::Error => MAX_8,
+            Key::Config => MAX_8,
+            Key::Unplug => MAX_8,
+        }
+    }
 }
 
 // Where a text stands in the line, and what it reads as. A bad digit's place counts from the text's own start.
@@ -34,72 +65,53 @@ pub struct HexText {
     pub reading: Result<u64, BadNumber>,
 }
 
-// The last pair of the key; absent where the payload has none.
+// The last pair of the key; none where the payload has none.
+#[tactic(auto, using(crate::proofs::Said::key_there, crate::proofs::Said::key_refused))]
 pub fn ask_key(line: &[u8], key: Key) -> Result<Option<HexText>, Refusal>
-    ensures { answer_told result ≡ key_answer line.now key }
+    ensures { told_maybe result ≡ key_answer line.now key }
 {
-    match payload_of(line) {
-        Ok(place) => {
-            let from = place.from;
-            let to = place.to;
-            key_in(&line[from..to], from, key)
-        }
-        Err(number) => Err(number),
-    }
+    let Place { from, to } = payload_of(line)?;
+    Ok(key_in(&line[from..to], from, key))
 }
 
-// The piece of that number, from 0; absent behind the last piece, and where `data` is missing or not in brackets.
+// The piece of that number, from 0; none behind the last piece, and where `data` is missing or not in brackets.
+#[tactic(auto, using(crate::proofs::Said::piece_there, crate::proofs::Said::piece_refused))]
 pub fn ask_piece(line: &[u8], i: usize) -> Result<Option<HexText>, Refusal>
-    ensures { answer_told result ≡ piece_answer line.now i }
+    ensures { told_maybe result ≡ piece_answer line.now i }
 {
-    match payload_of(line) {
-        Ok(place) => {
-            let from = place.from;
-            let to = place.to;
-            piece_in(&line[from..to], from, i)
-        }
-        Err(number) => Err(number),
-    }
+    let Place { from, to } = payload_of(line)?;
+    Ok(piece_in(&line[from..to], from, i))
 }
 
-// Each key with its name and its width.
-pub fn key_in(payload: &[u8], start: usize, key: Key) -> Result<Option<HexText>, Refusal>
+// The last pair of the key in a payload that starts at a place of the line.
+#[tactic(auto, using(crate::proofs::Said::pair_within), unfolding(crate::specs::Reasons::key_in))]
+pub fn key_in(payload: &[u8], start: usize, key: Key) -> Option<HexText>
     requires { start + length payload.now < 2 ^ 64 }
-    ensures { answer_told result ≡ key_in payload.now start key }
+    ensures { told_maybe (Ok result) ≡ key_in payload.now start key }
 {
-    match key {
-        Key::Route => read_at(payload, start, last_pair(payload, b"route"), MAX_64),
-        Key::Offset => read_at(payload, start, last_pair(payload, b"offset"), MAX_16),
-        Key::Error => read_at(payload, start, last_pair(payload, b"error"), MAX_8),
-        Key::Config => read_at(payload, start, last_pair(payload, b"config"), MAX_8),
-        Key::Unplug => read_at(payload, start, last_pair(payload, b"unplug"), MAX_8),
-    }
+    read_at(payload, start, last_pair(payload, key.name()), key.limit())
 }
 
-fn piece_in(payload: &[u8], start: usize, i: usize) -> Result<Option<HexText>, Refusal>
+#[tactic(auto, unfolding(crate::specs::Reasons::piece_in, crate::specs::Reasons::piece_at))]
+fn piece_in(payload: &[u8], start: usize, i: usize) -> Option<HexText>
     requires { start + length payload.now < 2 ^ 64 }
-    ensures { answer_told result ≡ piece_in payload.now start i }
+    ensures { told_maybe (Ok result) ≡ piece_in payload.now start i }
 {
-    match find_data(payload) {
-        Span::At { from, to } => {
-            let inner = &payload[from..to];
-            read_at(inner, start + from, nth_piece(inner, i), MAX_32)
-        }
-        Span::Nothing => Ok(None),
-    }
+    let Span { from, to } = find_data(payload)?;
+    let inner = &payload[from..to];
+    read_at(inner, start + from, nth_piece(inner, i), MAX_32)
 }
 
 // What stands at a span of a text that starts at a place of the line.
-fn read_at(s: &[u8], start: usize, span: Span, limit: u64) -> Result<Option<HexText>, Refusal>
+#[tactic(auto, unfolding(crate::specs::Reasons::said_at))]
+fn read_at(s: &[u8], start: usize, span: Option<Span>, limit: u64) -> Option<HexText>
     requires { (start + length s.now < 2 ^ 64) × (SpanWithin s.now span) }
-    ensures { answer_told result ≡ said_at limit start s.now span }
+    ensures { told_maybe (Ok result) ≡ said_at limit start s.now span }
 {
-    match span {
-        Span::At { from, to } => Ok(Some(HexText {
-            from: start + from,
-            to: start + to,
-            reading: hex(&s[from..to], limit),
-        })),
-        Span::Nothing => Ok(None),
-    }
+    let Span { from, to } = span?;
+    Some(HexText {
+        from: start + from,
+        to: start + to,
+        reading: hex(&s[from..to], limit),
+    })
 }

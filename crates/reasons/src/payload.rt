@@ -4,10 +4,10 @@ ghost use Rattle.reasons.specs.Reasons.{PayloadAt, PlacedAt, DataAt};
 
 use pairs::dwords::inside;
 use pairs::pair::{Span, last_pair};
+use refusal::Refusal;
 use scan::frame::read_frame;
 use text::class::Class;
 use text::run::{run_end, strip};
-use refusal::Refusal;
 
 // A part of the line.
 #[derive(Clone, Copy)]
@@ -20,10 +20,8 @@ pub struct Place {
 pub fn payload_of(line: &[u8]) -> Result<Place, Refusal>
     ensures { PayloadAt line.now result }
 {
-    match read_frame(line) {
-        Ok(colon) => Ok(payload_behind(line, colon)),
-        Err(number) => Err(number),
-    }
+    let colon = read_frame(line)?;
+    Ok(payload_behind(line, colon))
 }
 
 // What stands behind the colon, without the blanks at its ends.
@@ -43,20 +41,13 @@ fn payload_behind(line: &[u8], colon: usize) -> Place
 }
 
 // What stands between the brackets of the last `data`.
-pub fn find_data(payload: &[u8]) -> Span
+pub fn find_data(payload: &[u8]) -> Option<Span>
     ensures { DataAt payload.now result }
 {
-    match last_pair(payload, b"data") {
-        Span::At { from, to } => match inside(&payload[from..to]) {
-            Span::At {
-                from: first,
-                to: end,
-            } => Span::At {
-                from: from + first,
-                to: from + end,
-            },
-            Span::Nothing => Span::Nothing,
-        },
-        Span::Nothing => Span::Nothing,
-    }
+    let value = last_pair(payload, b"data")?;
+    let inner = inside(&payload[value.from..value.to])?;
+    Some(Span {
+        from: value.from + inner.from,
+        to: value.from + inner.to,
+    })
 }

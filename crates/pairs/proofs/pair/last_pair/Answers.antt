@@ -15,45 +15,12 @@ pub next_before-requires : goal.next_before-requires
 unfolding in_class
 next_before-requires c = search rules
 
-pub slice_bounds-eq-count : goal.slice_bounds-eq-count
-slice_bounds-eq-count c = omega (arith, c.next_before.ensures.rise _ _ _ c.in-Some.is)
-
-pub slice_bounds-eq-start : goal.slice_bounds-eq-start
-slice_bounds-eq-start c = omega (arith, c.next_before.ensures.rise _ _ _ c.in-Some.is)
-
-pub slice_bounds-eq-end : goal.slice_bounds-eq-end
-slice_bounds-eq-end c = omega (arith, c.next_before.ensures.rise _ _ _ c.in-Some.is)
-
-pub overflow_add-best : goal.overflow_add-best
-overflow_add-best c =
-    omega (
-      arith,
-      c.next_before.ensures.rise _ _ _
-          c.in-Some.is,
-    )
-
-pub loop-hit-smaller-then-eq : goal.loop-hit-smaller-then-eq
-loop-hit-smaller-then-eq c =
-    omega (
-      arith,
-      c.next_before.ensures.rise _ _ _
-          c.in-Some.is,
-    )
-
 pub loop-hit-preserved-then-eq : goal.loop-hit-preserved-then-eq
 loop-hit-preserved-then-eq c =
     c.loop-hit.invariant ∙ last_takes _ _ _ _
     (sym c.next_before.ensures.is
     ∙ c.in-Some.is)
     (sym c.eq.ensures ∙ c.if-eq.true)
-
-pub loop-hit-smaller : goal.loop-hit-smaller
-loop-hit-smaller c =
-    omega (
-      arith,
-      c.next_before.ensures.rise _ _ _
-          c.in-Some.is,
-    )
 
 pub loop-hit-preserved : goal.loop-hit-preserved
 loop-hit-preserved c =

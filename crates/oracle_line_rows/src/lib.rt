@@ -1,128 +1,77 @@
-// The answer to a line as one row of text: every field of its entry, or the number that refuses it. A row that fits the buffer is whole;
+// The answer to a line as one row of text: every field of its entry, or the number that refuses it. A row that fits the page is whole;
 // of one that does not, the parts that do not fit are left out.
+//
+//     put_answer    the row of a line
+//     put_row       an entry's fields
+//     fields        a field of a row
+//     rows          what a replaying program reads and writes
 #![tactic(auto)]
 
 pub mod fields;
+pub mod rows;
 
-ghost use Rattle.std.specs.Prelude.{◌≤◌, length};
-
-use crate::fields::{
-    put_both, put_count, put_dwords, put_flag, put_maybe_byte, put_maybe_word, put_name, put_text,
-};
+use crate::fields::{put_bytes, put_count, put_list, put_maybe, put_refused};
 use entry::Entry;
+use print::page::Page;
 use scan::{Pieces, parse};
 
-// The row of a line, read by the choice into the lent slots. It asks for a place inside the buffer, as all that it calls does: the program
-// that has the buffer goes on from where the last row ended.
-pub fn put_answer(
-    out: &mut [u8],
-    at: usize,
-    line: &[u8],
-    pieces: Pieces,
-    slots: &mut [u32],
-) -> usize
-    requires { at ≤ length out.old }
-    ensures { result ≤ length out.old }
-{
+// The row of a line, read by the choice into the lent slots.
+pub fn put_answer(page: &mut Page, line: &[u8], pieces: Pieces, slots: &mut [u32]) {
     match parse(line, pieces, slots) {
-        Ok(e) => {
-            let end = put_row(out, at, line, slots, e);
-            put_text(out, end, b"\n")
-        }
-        Err(number) => {
-            let end = put_count(out, at, b"refused ", number as u64);
-            put_text(out, end, b"\n")
-        }
+        Ok(e) => put_row(page, line, slots, e),
+        Err(refusal) => put_refused(page, b"refused ", refusal),
     }
+    page.put(b"\n");
 }
 
 // An entry's fields, with no newline. Task and function lie in the text, the dwords in the slots.
-pub fn put_row(out: &mut [u8], at: usize, text: &[u8], slots: &[u32], e: Entry) -> usize
-    requires { at ≤ length out.old }
-    ensures { result ≤ length out.old }
-{
-    let a = put_head(out, at, text, e);
-    let b = put_body(out, a, e);
-    let c = put_optionals(out, b, e);
-    let d = put_questions(out, c, e);
-    put_data(out, d, slots, e)
-}
-
-fn put_data(out: &mut [u8], at: usize, slots: &[u32], e: Entry) -> usize
-    requires { at ≤ length out.old }
-    ensures { result ≤ length out.old }
-{
-    let a = put_count(out, at, b" dwords=", e.dwords as u64);
-    let b = put_text(out, a, b" data=");
-    put_dwords(out, b, e.data(slots))
+pub fn put_row(page: &mut Page, text: &[u8], slots: &[u32], e: Entry) {
+    put_head(page, text, e);
+    put_body(page, e);
+    put_optionals(page, e);
+    put_questions(page, e);
+    put_count(page, b" dwords=", e.dwords as u64);
+    page.put(b" data=");
+    put_list(page, e.data(slots), |page, dword| page.put_dword(dword));
 }
 
 // What the header says.
-fn put_head(out: &mut [u8], at: usize, line: &[u8], e: Entry) -> usize
-    requires { at ≤ length out.old }
-    ensures { result ≤ length out.old }
-{
-    let a = put_both(out, at, b"entry task=", e.task(line));
-    let b = put_count(out, a, b" pid=", e.pid as u64);
-    let c = put_count(out, b, b" cpu=", e.cpu as u64);
-    put_stamp(out, c, line, e)
-}
-
-fn put_stamp(out: &mut [u8], at: usize, line: &[u8], e: Entry) -> usize
-    requires { at ≤ length out.old }
-    ensures { result ≤ length out.old }
-{
-    let a = put_count(out, at, b" sec=", e.seconds);
-    let b = put_count(out, a, b" usec=", e.microseconds);
-    put_both(out, b, b" function=", e.function(line))
+fn put_head(page: &mut Page, text: &[u8], e: Entry) {
+    put_bytes(page, b"entry task=", e.task(text));
+    put_count(page, b" pid=", e.pid);
+    put_count(page, b" cpu=", e.cpu);
+    put_count(page, b" sec=", e.seconds);
+    put_count(page, b" usec=", e.microseconds);
+    put_bytes(page, b" function=", e.function(text));
 }
 
 // What the payload must say.
-fn put_body(out: &mut [u8], at: usize, e: Entry) -> usize
-    requires { at ≤ length out.old }
-    ensures { result ≤ length out.old }
-{
-    let a = put_count(out, at, b" kind=", e.kind as u64);
-    let b = put_count(out, a, b" size=", e.size as u64);
-    let c = put_flag(out, b, b" dropped=", Some(e.dropped));
-    let d = put_count(out, c, b" domain=", e.domain as u64);
-    put_count(out, d, b" route=", e.route)
+fn put_body(page: &mut Page, e: Entry) {
+    put_count(page, b" kind=", e.kind);
+    put_count(page, b" size=", e.size);
+    put_count(page, b" dropped=", e.dropped);
+    put_count(page, b" domain=", e.domain);
+    put_count(page, b" route=", e.route);
 }
 
 // What it may say.
-fn put_optionals(out: &mut [u8], at: usize, e: Entry) -> usize
-    requires { at ≤ length out.old }
-    ensures { result ≤ length out.old }
-{
-    let offset = e.offset;
-    let code = e.code;
-    let len = e.len;
-    let port = e.port;
-    let a = put_maybe_word(out, at, b" offset=", offset);
-    let b = put_maybe_byte(out, a, b" event=", code);
-    let c = put_maybe_word(out, b, b" len=", len);
-    let d = put_maybe_byte(out, c, b" port=", port);
-    put_bytes(out, d, e)
-}
-
-fn put_bytes(out: &mut [u8], at: usize, e: Entry) -> usize
-    requires { at ≤ length out.old }
-    ensures { result ≤ length out.old }
-{
-    let config = e.config;
-    let seq = e.seq;
-    let byte = e.unplug;
-    let a = put_maybe_byte(out, at, b" config=", config);
-    let b = put_maybe_byte(out, a, b" seq=", seq);
-    put_maybe_byte(out, b, b" unplug=", byte)
+fn put_optionals(page: &mut Page, e: Entry) {
+    put_maybe(page, b" offset=", e.offset);
+    put_maybe(page, b" event=", e.code);
+    put_maybe(page, b" len=", e.len);
+    put_maybe(page, b" port=", e.port);
+    put_maybe(page, b" config=", e.config);
+    put_maybe(page, b" seq=", e.seq);
+    put_maybe(page, b" unplug=", e.unplug);
 }
 
 // What the entry's questions answer.
-fn put_questions(out: &mut [u8], at: usize, e: Entry) -> usize
-    requires { at ≤ length out.old }
-    ensures { result ≤ length out.old }
-{
-    let a = put_maybe_byte(out, at, b" adapter=", e.adapter_num());
-    let b = put_flag(out, a, b" unplugged=", e.unplug());
-    put_name(out, b, b" name=", e.event())
+fn put_questions(page: &mut Page, e: Entry) {
+    put_maybe(page, b" adapter=", e.adapter_num());
+    put_maybe(page, b" unplugged=", e.unplug());
+    page.put(b" name=");
+    match e.event() {
+        Some(event) => page.put(event.name().as_bytes()),
+        None => page.put(b"-"),
+    }
 }

@@ -1,182 +1,112 @@
-// The answer to a packet as one row of text: its descriptions and every question, or the number that refuses it. A row that fits the buffer
-// is whole; of one that does not, the parts that do not fit are left out.
+// The answer to a packet as one row of text: its descriptions and every question, or the number that refuses it. A row that fits the page is
+// whole; of one that does not, the parts that do not fit are left out.
+//
+//     put_answer    the row of a packet
 #![tactic(auto)]
 
 mod asked;
 mod fields;
 mod told;
 
-ghost use Rattle.std.specs.Prelude.{◌≤◌, length};
-
 use crate::asked::put_all;
-use crate::fields::{count_control, put_fields, put_places, put_sources};
-use crate::told::{put_byte, put_flag, put_name, put_refused, put_uuid, put_wide, put_word};
-use oracle_line_rows::fields::{put_count, put_none, put_text};
-use refusal::Refusal;
+use crate::fields::count_control;
+use crate::told::{put_name, put_number, put_told, put_uuid};
+use oracle_line_rows::fields::{put_count, put_list, put_refused};
+use print::page::Page;
+use questions as ask;
+
+// A packet that was described: the places are those of its dwords' entries.
+#[derive(Clone, Copy)]
+pub struct Packet<'a> {
+    kind: u8,
+    book: &'a [u8],
+    dwords: &'a [u32],
+    places: &'a [u32],
+}
 
 // The row of a packet, its places in those that are lent; the names to ask for stand each behind its length.
 pub fn put_answer(
-    out: &mut [u8],
-    at: usize,
+    page: &mut Page,
     kind: u8,
     book: &[u8],
     names: &[u8],
     dwords: &[u32],
     places: &mut [u32],
-) -> usize
-    requires { at ≤ length out.old }
-    ensures { result ≤ length out.old }
-{
-    let parsed = packet::parse(kind, book, dwords, places);
-    match parsed {
+) {
+    match packet::parse(kind, book, dwords, places) {
         Ok(_) => {
-            let n = least(dwords.len(), places.len());
-            put_row(out, at, kind, book, names, dwords, &places[..n])
+            // There is a place for each dword of a packet that was described.
+            let n = dwords.len().min(places.len());
+            let places = &places[..n];
+            let packet = Packet {
+                kind,
+                book,
+                dwords,
+                places,
+            };
+            packet.put_row(page, names);
         }
-        Err(number) => {
-            let end = put_count(out, at, b"refused ", number as u64);
-            put_text(out, end, b"\n")
-        }
+        Err(refusal) => put_refused(page, b"refused ", refusal),
     }
+    page.put(b"\n");
 }
 
-// There is a place for each dword of a packet that was described.
-fn least(a: usize, b: usize) -> usize
-    ensures { result ≤ b }
-{
-    if a < b {
-        return a;
+impl Packet<'_> {
+    fn put_row(self, page: &mut Page, names: &[u8]) {
+        self.put_head(page);
+        self.put_route(page);
+        self.put_data(page);
+        self.put_kind(page);
+        self.put_type(page);
+        page.put(b" fields=");
+        self.put_fields(page);
+        page.put(b" asked=");
+        put_all(page, self, names);
     }
-    b
-}
 
-fn put_row(
-    out: &mut [u8],
-    at: usize,
-    kind: u8,
-    book: &[u8],
-    names: &[u8],
-    dwords: &[u32],
-    places: &[u32],
-) -> usize
-    requires { at ≤ length out.old }
-    ensures { result ≤ length out.old }
-{
-    let a = put_head(out, at, kind, book, dwords, places);
-    let b = put_questions(out, a, kind, book, dwords);
-    let c = put_text(out, b, b" fields=");
-    let d = put_fields(out, c, kind, book, dwords, places);
-    let e = put_text(out, d, b" asked=");
-    let f = put_all(out, e, kind, book, names, dwords, places);
-    put_text(out, f, b"\n")
-}
-
-// What the dwords are described by.
-fn put_head(
-    out: &mut [u8],
-    at: usize,
-    kind: u8,
-    book: &[u8],
-    dwords: &[u32],
-    places: &[u32],
-) -> usize
-    requires { at ≤ length out.old }
-    ensures { result ≤ length out.old }
-{
-    let a = put_count(out, at, b"packet n=", count_control(kind, book) as u64);
-    let b = put_text(out, a, b" places=");
-    let c = put_places(out, b, places);
-    let d = put_text(out, c, b" sources=");
-    put_sources(out, d, kind, book, dwords, places)
-}
-
-fn put_questions(out: &mut [u8], at: usize, kind: u8, book: &[u8], dwords: &[u32]) -> usize
-    requires { at ≤ length out.old }
-    ensures { result ≤ length out.old }
-{
-    let a = put_route(out, at, kind, book, dwords);
-    let b = put_data(out, a, kind, book, dwords);
-    let c = put_kind(out, b, kind, book, dwords);
-    put_type(out, c, kind, book, dwords)
-}
-
-fn put_route(out: &mut [u8], at: usize, kind: u8, book: &[u8], dwords: &[u32]) -> usize
-    requires { at ≤ length out.old }
-    ensures { result ≤ length out.old }
-{
-    let a = put_uuid(out, at, b" uuid=", questions::uuid(kind, book, dwords));
-    let b = put_wide(out, a, b" route=", questions::route(kind, book, dwords));
-    put_flag(out, b, b" cm=", questions::cm(kind, book, dwords))
-}
-
-fn put_data(out: &mut [u8], at: usize, kind: u8, book: &[u8], dwords: &[u32]) -> usize
-    requires { at ≤ length out.old }
-    ensures { result ≤ length out.old }
-{
-    let start = questions::data_start(kind, book, dwords);
-    let a = put_byte(
-        out,
-        at,
-        b" adapter=",
-        questions::adapter_num(kind, book, dwords),
-    );
-    let b = put_word(
-        out,
-        a,
-        b" address=",
-        questions::data_address(kind, book, dwords),
-    );
-    let c = put_word(out, b, b" start=", start);
-    let d = put_word(out, c, b" size=", questions::data_size(kind, book, dwords));
-    put_view(out, d, start, questions::data(kind, book, dwords))
-}
-
-// The index of the view's first dword, and how many it has.
-fn put_view(out: &mut [u8], at: usize, start: Result<Option<u16>, Refusal>, view: &[u32]) -> usize
-    requires { at ≤ length out.old }
-    ensures { result ≤ length out.old }
-{
-    match start {
-        Ok(Some(first)) => {
-            let behind = put_count(out, at, b" view=", first as u64);
-            put_count(out, behind, b"+", view.len() as u64)
-        }
-        Ok(None) => put_none(out, at, b" view="),
-        Err(number) => put_refused(out, at, b" view=", number),
+    // What the dwords are described by.
+    fn put_head(self, page: &mut Page) {
+        put_count(page, b"packet n=", count_control(self.kind, self.book) as u64);
+        page.put(b" places=");
+        put_list(page, self.places, |page, place| page.put_decimal(place as u64));
+        page.put(b" sources=");
+        self.put_sources(page);
     }
-}
 
-fn put_kind(out: &mut [u8], at: usize, kind: u8, book: &[u8], dwords: &[u32]) -> usize
-    requires { at ≤ length out.old }
-    ensures { result ≤ length out.old }
-{
-    let a = put_flag(out, at, b" read=", questions::is_read(kind, book, dwords));
-    let b = put_flag(out, a, b" write=", questions::is_write(kind, book, dwords));
-    put_flag(
-        out,
-        b,
-        b" xdomain=",
-        questions::is_xdomain(kind, book, dwords),
-    )
-}
+    fn put_route(self, page: &mut Page) {
+        let Packet { kind, book, dwords, .. } = self;
+        put_uuid(page, b" uuid=", ask::uuid(kind, book, dwords));
+        put_number(page, b" route=", ask::route(kind, book, dwords).map(Some));
+        put_number(page, b" cm=", ask::cm(kind, book, dwords).map(Some));
+    }
 
-// The packet type's value and its name.
-fn put_type(out: &mut [u8], at: usize, kind: u8, book: &[u8], dwords: &[u32]) -> usize
-    requires { at ≤ length out.old }
-    ensures { result ≤ length out.old }
-{
-    let told = questions::packet_type(kind, book, dwords);
-    match told {
-        Ok(Some(found)) => {
-            let behind = put_count(out, at, b" type=", found.value as u64);
-            put_name(
-                out,
-                behind,
-                b":",
-                questions::packet_type_name(kind, book, dwords),
-            )
-        }
-        Ok(None) => put_none(out, at, b" type="),
-        Err(number) => put_refused(out, at, b" type=", number),
+    // The view is said by the index of its first dword, and how many it has.
+    fn put_data(self, page: &mut Page) {
+        let Packet { kind, book, dwords, .. } = self;
+        let start = ask::data_start(kind, book, dwords);
+        put_number(page, b" adapter=", ask::adapter_num(kind, book, dwords));
+        put_number(page, b" address=", ask::data_address(kind, book, dwords));
+        put_number(page, b" start=", start);
+        put_number(page, b" size=", ask::data_size(kind, book, dwords));
+        put_told(page, b" view=", start, |page, first| {
+            page.put_decimal(first as u64);
+            put_count(page, b"+", ask::data(kind, book, dwords).len() as u64);
+        });
+    }
+
+    fn put_kind(self, page: &mut Page) {
+        let Packet { kind, book, dwords, .. } = self;
+        put_number(page, b" read=", ask::is_read(kind, book, dwords).map(Some));
+        put_number(page, b" write=", ask::is_write(kind, book, dwords).map(Some));
+        put_number(page, b" xdomain=", ask::is_xdomain(kind, book, dwords).map(Some));
+    }
+
+    // The packet type's value and its name.
+    fn put_type(self, page: &mut Page) {
+        let Packet { kind, book, dwords, .. } = self;
+        put_told(page, b" type=", ask::packet_type(kind, book, dwords), |page, found| {
+            page.put_decimal(found.value as u64);
+            put_name(page, b":", ask::packet_type_name(kind, book, dwords));
+        });
     }
 }

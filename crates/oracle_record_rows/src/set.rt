@@ -11,47 +11,29 @@ pub struct Change {
     pub value: u64,
 }
 
-pub fn set_number(e: Entry, change: Change) -> Entry {
-    let cpu = (set_or(change, 6, e.cpu as u64) % 65_536) as u16;
-    let kind = (set_or(change, 9, e.kind as u64) % 256) as u8;
-    let offset = e.offset;
-    let code = e.code;
-    let len = e.len;
-    let port = e.port;
-    let config = e.config;
-    let seq = e.seq;
-    let unplug = e.unplug;
-    Entry {
-        task_at: set_or(change, 1, e.task_at as u64) as usize,
-        task_len: set_or(change, 2, e.task_len as u64) as usize,
-        pid: e.pid,
-        cpu: cpu,
-        seconds: set_or(change, 7, e.seconds),
-        microseconds: set_or(change, 8, e.microseconds),
-        function_at: set_or(change, 3, e.function_at as u64) as usize,
-        function_len: set_or(change, 4, e.function_len as u64) as usize,
-        kind: kind,
-        size: e.size,
-        dropped: e.dropped,
-        domain: e.domain,
-        route: e.route,
-        offset: offset,
-        code: code,
-        len: len,
-        port: port,
-        config: config,
-        seq: seq,
-        unplug: unplug,
-        dwords: set_or(change, 5, e.dwords as u64) as usize,
+impl Change {
+    pub fn set(self, e: Entry) -> Entry {
+        Entry {
+            task_at: self.set_or(1, e.task_at as u64) as usize,
+            task_len: self.set_or(2, e.task_len as u64) as usize,
+            function_at: self.set_or(3, e.function_at as u64) as usize,
+            function_len: self.set_or(4, e.function_len as u64) as usize,
+            dwords: self.set_or(5, e.dwords as u64) as usize,
+            cpu: (self.set_or(6, e.cpu as u64) % 65_536) as u16,
+            seconds: self.set_or(7, e.seconds),
+            microseconds: self.set_or(8, e.microseconds),
+            kind: (self.set_or(9, e.kind as u64) % 256) as u8,
+            ..e
+        }
     }
-}
 
-// The value that a number is set to, or what it is.
-fn set_or(change: Change, number: u8, old: u64) -> u64
-    ensures { result ≡ set_or change number old }
-{
-    if change.number == number {
-        return change.value;
+    // The value that a number is set to, or what it is.
+    fn set_or(self, number: u8, old: u64) -> u64
+        ensures { result ≡ set_or self number old }
+    {
+        if self.number == number {
+            return self.value;
+        }
+        old
     }
-    old
 }

@@ -1,6 +1,7 @@
 // Why a hex number of a line could not be read. A line without a payload answers its number, 1 to 4.
 ghost use Rattle.std.specs.Prelude.{◌≡◌, ◌≤◌};
-ghost use Rattle.reasons.specs.Reasons.{answer_told, piece_answer};
+ghost use Rattle.refusal.specs.Told.{told_maybe};
+ghost use Rattle.reasons.specs.Reasons.{piece_answer};
 ghost use Rattle.capi.specs.Hexes.{hex_by, text_by, bare_by, key_numbered, key_told, other_key, Upright};
 
 use reasons::payload::payload_of;
@@ -61,8 +62,8 @@ fn other_key(line: &[u8]) -> HexAnswer
 }
 
 fn hex_answer(answer: Result<Option<HexText>, Refusal>) -> HexAnswer
-    requires { Upright (answer_told answer) }
-    ensures { result ≡ hex_by (answer_told answer) }
+    requires { Upright (told_maybe answer) }
+    ensures { result ≡ hex_by (told_maybe answer) }
 {
     match answer {
         Ok(Some(text)) => text_answer(text),

@@ -12,7 +12,7 @@ use mathlib.Core.Logic.{inl, inr}
 use native.Mathlib.Omega.{arith}
 use lib.Dec.{leb, ltb}
 use lib.ListN.{length, get_or}
-use Rattle.refusal.specs.Told.{told}
+use Rattle.refusal.specs.Told.{told, told_maybe}
 use Rattle.text.specs.Told as T
 use Rattle.text.specs.Told.{Told, number_in, and_then}
 use Rattle.text.proofs.Told.{number_first, number_behind}
@@ -317,8 +317,8 @@ calls_never =
     record {
       parse = λ pieces t slots left r c e. line_never pieces t (length slots) (sym c.answer ∙ ap Line.answer_told e);
       read_frame = λ t r c e. frame_never t (sym c ∙ ap told e);
-      ask_key = λ t key r c e. key_never t key (sym c ∙ ap Reasons.answer_told e);
-      ask_piece = λ t i r c e. piece_never t i (sym c ∙ ap Reasons.answer_told e);
+      ask_key = λ t key r c e. key_never t key (sym c ∙ ap told_maybe e);
+      ask_piece = λ t i r c e. piece_never t i (sym c ∙ ap told_maybe e);
       payload_of = λ t r c e. payload_never t (sym c.is ∙ ap Reasons.payload_told e);
       record_read = λ t b slots left r c e. record_never t b (length slots) (sym c.answer ∙ ap Records.answer_told e);
       refusal = λ t b r c e. refusal_never t b (sym c ∙ e);

@@ -9,11 +9,11 @@ use Rattle.std.specs.Prelude.{ℕ, ◌≡◌, List, length, Err, None, Ok, Optio
 use Rattle.tlv.specs.Number.{Bytes}
 use Rattle.entry.specs.declared.Entry.{Entry}
 use Rattle.scan.specs.declared.Pieces.{Pieces}
-use Rattle.refusal.specs.Told.{told}
+use Rattle.refusal.specs.Told.{told, told_maybe}
 use Rattle.scan.specs.Frame.{frame_of}
 use Rattle.scan.specs.Parse as Parse
 use Rattle.reasons.specs.declared.Key.{Key}
-use Rattle.reasons.specs.Reasons.{answer_told, key_answer, piece_answer, PayloadAt}
+use Rattle.reasons.specs.Reasons.{key_answer, piece_answer, PayloadAt}
 use Rattle.record.specs.Judging.{refusal_of}
 use Rattle.record.specs.Reading.{Reading, read_of, dwords_of}
 use Rattle.writer.specs.Writing.{Writing}
@@ -53,9 +53,9 @@ pub record CallsNever : Type 0 where
   -- `read_frame` of `scan`, which parts a line.
   pub read_frame : (text : List ℕ) (answer : Result ℕ Refusal) → told answer ≡ frame_of text → answer ≡ Err 10 → ⊥
   -- `ask_key` of `reasons`.
-  pub ask_key : (text : List ℕ) (key : Key) (answer : Result (Option HexText) Refusal) → answer_told answer ≡ key_answer text key → answer ≡ Err 10 → ⊥
+  pub ask_key : (text : List ℕ) (key : Key) (answer : Result (Option HexText) Refusal) → told_maybe answer ≡ key_answer text key → answer ≡ Err 10 → ⊥
   -- `ask_piece` of `reasons`.
-  pub ask_piece : (text : List ℕ) (i : ℕ) (answer : Result (Option HexText) Refusal) → answer_told answer ≡ piece_answer text i → answer ≡ Err 10 → ⊥
+  pub ask_piece : (text : List ℕ) (i : ℕ) (answer : Result (Option HexText) Refusal) → told_maybe answer ≡ piece_answer text i → answer ≡ Err 10 → ⊥
   -- `payload_of` of `reasons`.
   pub payload_of : (text : List ℕ) (answer : Result Place Refusal) → PayloadAt text answer → answer ≡ Err 10 → ⊥
   -- `read` of `record`; the text is bytes, as every lent text is.

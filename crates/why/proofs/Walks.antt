@@ -1,5 +1,6 @@
 -- A line's numbers, as they are met: each key's text lies in the payload, the pieces are met as the data is cut, and what was found so far with
 -- what is found from here on is all. Assumes nothing.
+use Rattle.refusal.specs.Told.{told, told_maybe}
 use Rattle.std.specs.Prelude.{Err, None, Ok, Option, Result, Some}
 use Rattle.refusal.specs.declared.Refusal.{Refusal}
 use Rattle.text.specs.declared.number.BadNumber.{BadNumber}
@@ -24,7 +25,7 @@ use Rattle.reasons.specs.declared.Key.{Key}
 use Rattle.reasons.specs.declared.Key.TheVariants as K
 use Rattle.reasons.specs.declared.HexText.{HexText}
 use Rattle.reasons.specs.declared.payload.Place.{Place}
-use Rattle.reasons.specs.Reasons.{name_of, limit_of, answer_told, payload_from, payload_place, payload_told, said_at, key_in, data_span, PayloadAt, DataAt}
+use Rattle.reasons.specs.Reasons.{name_of, limit_of, payload_from, payload_place, said_at, key_in, data_span, PayloadAt, DataAt}
 use Rattle.why_rows.specs.declared.What.{What}
 use Rattle.why_rows.specs.declared.What.TheVariants as W
 use Rattle.why_rows.specs.declared.Reason.TheVariants as Y
@@ -97,12 +98,12 @@ said_in limit p (Some v) w {h} e =
     rw (← q) (record { up = (w v.from v.to refl).0; within = (w v.from v.to refl).1; read = bad_within limit (part p v.from v.to) refl })
 said_in limit p None w e = absurd (let z : ◌≡◌ {A = ℕ} 0 1 = cc in omega arith)
 
-module _ (p : List ℕ) (key : Key) {r : Result (Option HexText) Refusal} (told : answer_told r ≡ key_in p 0 key) where
+module _ (p : List ℕ) (key : Key) {r : Result (Option HexText) Refusal} (told : told_maybe r ≡ key_in p 0 key) where
   pub key_text : {h : HexText} → r ≡ Ok (Some h) → HexIn p h
   unfolding key_in
   key_text {h} e =
       said_in (limit_of key) p (last_pair p (name_of key))
-      (λ a b q. let w = last_within p (name_of key) q in (omega (arith, w.0), w.1)) (sym told ∙ ap answer_told e)
+      (λ a b q. let w = last_within p (name_of key) q in (omega (arith, w.0), w.1)) (sym told ∙ ap told_maybe e)
 
   pub key_found_lem : {h : HexText} → r ≡ Ok (Some h) → unread (W.Key key) (part p h.from h.to) h.reading ≡ key_found p key
   unfolding key_found asked
@@ -181,7 +182,7 @@ module _ (t : List ℕ) where
   -- a line with a payload is not too long
   pub line_short : {r : Result Place Refusal} {place : Place} → PayloadAt t r → r ≡ Ok place → length t ≤ 4096
   unfolding payload_place
-  line_short {r} {place} p e = go (frame_of t) refl (sym (ap payload_told e) ∙ p.is)
+  line_short {r} {place} p e = go (frame_of t) refl (sym (ap told e) ∙ p.is)
     where
       go : (f : Told ℕ) → frame_of t ≡ f → is place ≡ and_then f (λ (colon : ℕ). is (payload_from t colon)) → length t ≤ 4096
       go (is k) q x = (frame_passed t q).1
@@ -192,7 +193,7 @@ module _ (t : List ℕ) where
     pub line_there : {r : Result Place Refusal} {place : Place} {paid : Counts} {out exit : List ℕ} {done : Done} → PayloadAt t r → r ≡ Ok place → paid ≡ with_payload c → Gone c.lines (record { sink = d.sink; counts = paid }) (found_in (part t place.from place.to)) out exit done → LineSaid t d out exit done
     unfolding findings found_at line_counts with_line
     line_there {r} {place} {paid} p e q g =
-        let at_place : payload_place t ≡ is place = sym p.is ∙ ap payload_told e in
+        let at_place : payload_place t ≡ is place = sym p.is ∙ ap told e in
         let number : c.lines ≡ up d.counts.lines = ap (λ (x : Counts). x.lines) counted in
         record {
           says = rw (at_place, ← number) g.says;
@@ -202,5 +203,5 @@ module _ (t : List ℕ) where
     pub line_refused : {r : Result Place Refusal} {k : ℕ} {out : List ℕ} → PayloadAt t r → r ≡ Err k → LineSaid t d out out (record { sink = d.sink; counts = c })
     unfolding findings found_at line_counts rows_of tallied
     line_refused p e =
-        let none : payload_place t ≡ refused _ = sym p.is ∙ ap payload_told e in
+        let none : payload_place t ≡ refused _ = sym p.is ∙ ap told e in
         record { says = rw none (SaidAll.none refl refl); counts = rw none counted }

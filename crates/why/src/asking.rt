@@ -113,7 +113,7 @@ fn say_key(
     ensures { Gone n done (key_found payload.now key) out.old out.new result }
 {
     match key_in(payload, 0, key) {
-        Ok(Some(text)) => {
+        Some(text) => {
             let from = text.from;
             let to = text.to;
             let reading = text.reading;
@@ -128,8 +128,7 @@ fn say_key(
                 done,
             )
         }
-        Ok(None) => done,
-        Err(_) => done,
+        None => done,
     }
 }
 
@@ -145,8 +144,8 @@ fn say_data(
     ensures { Gone n done (data_found payload.now (data_span payload.now)) out.old out.new result }
 {
     match find_data(payload) {
-        Span::At { from, to } => say_pieces(output, &payload[from..to], n, row, out, done),
-        Span::Nothing => done,
+        Some(Span { from, to }) => say_pieces(output, &payload[from..to], n, row, out, done),
+        None => done,
     }
 }
 

@@ -1,11 +1,11 @@
 -- `hex_answer` meets its contract, by cases. Assumes nothing.
 use Rattle.capi.specs.Hexes.{hex_by}
-use Rattle.reasons.specs.Reasons.{answer_told}
+use Rattle.refusal.specs.Told.{told_maybe}
 use mathlib.Core.Path.{ap, ◌∙◌}
 use Rattle.capi.proofs.hexes.hex_answer.Goals as goal
 
 pub text_answer-requires : goal.text_answer-requires
-text_answer-requires c = c.requires _ (ap answer_told c.in-Ok.is)
+text_answer-requires c = c.requires _ (ap told_maybe c.in-Ok.is)
 
 pub returns-in-Ok : goal.returns-in-Ok
 unfolding hex_by

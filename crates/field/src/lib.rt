@@ -23,20 +23,20 @@ use book::find;
 use packet::field::{name_in, range_in, value_in};
 
 // Where an entry stands in the book: the place of its tag byte.
-#[derive(Clone, Copy)]
+#[derive(Clone, Copy, Debug, PartialEq, Eq, Hash)]
 pub struct Place {
     pub at: usize,
 }
 
 // A part of the book: where it starts, and how many bytes it has.
-#[derive(Clone, Copy)]
+#[derive(Clone, Copy, Debug, PartialEq, Eq, Hash)]
 pub struct Span {
     pub at: usize,
     pub len: usize,
 }
 
 // The table that a description comes from, with the place of the entry; or there is no description.
-#[derive(Clone, Copy)]
+#[derive(Clone, Copy, Debug, PartialEq, Eq, Hash)]
 pub enum Source {
     Control(Place),
     Header(Place),
@@ -44,7 +44,7 @@ pub enum Source {
     Bare,
 }
 
-#[derive(Clone, Copy)]
+#[derive(Clone, Copy, Debug, PartialEq, Eq, Hash)]
 pub struct Field {
     pub offset: u16,
     pub value: u32,
@@ -52,7 +52,7 @@ pub struct Field {
 }
 
 // A bit range of a field: its bits, their value in the field's dword, and the place of the range in the book.
-#[derive(Clone, Copy)]
+#[derive(Clone, Copy, Debug, PartialEq, Eq, Hash)]
 pub struct Range {
     pub low: u8,
     pub high: u8,

@@ -20,7 +20,7 @@ use Rattle.packet.specs.Packet.{is_xdomain, first_from, number_of, places_of, uu
 use Rattle.packet.proofs.Packets.{length_places, passed}
 use Rattle.packet.proofs.Theorems.{packet_number_exactly, packet_answered_exactly}
 use Rattle.text.specs.Told.{Told, is, absent, refused, unless, maybe}
-use Rattle.packet.specs.Packet.{maybe_uuid}
+use Rattle.text.specs.Told.{maybe}
 use Rattle.questions.specs.Described.{is_read, is_write, cut, asked_at, asked, adapter_in, address_in, size_in, uuid_in}
 use Rattle.questions.specs.Questions.{refusal, answer, adapter_of, address_of, size_of, uuid_by_name, uuid_answer, start_of}
 use Rattle.meaning.specs.Packet.{Description, RangeNamed, value_of, Each, IsUuid, Holds, FoundAt, IsPacket, Refuses}
@@ -227,7 +227,7 @@ module _ (k : ℕ) (s : List ℕ) (s-bytes : Bytes s) (ds : List ℕ) where
       (four_or_none name ds os (values_named s name ds (places_of k s ds))
       (gathers b.tables s name (λ i d o. Unit {0}) 0 ds (places_of k s ds) os (lined 0 ds os (sym (all_long s b os (places_of k s ds) a ∙ length_places k s ds))) a))
     where
-      by : (u : Option Uuid) → IsUuid name ds os (u) → UuidNamed ds os name (maybe_uuid u)
+      by : (u : Option Uuid) → IsUuid name ds os (u) → UuidNamed ds os name (maybe u)
       by (Some u) h = h
       by None h = h
 
@@ -243,7 +243,7 @@ module _ (k : ℕ) (s : List ℕ) (s-bytes : Bytes s) (ds : List ℕ) where
   unfolding uuid_answer
   uuid_is = asks_exactly k s s-bytes ds (λ ts os u n. Kept u) _ (λ b os a p few clear. by (uuid_of k s ds))
     where
-      by : (u : Option Uuid) → Kept (u) (maybe_uuid u)
+      by : (u : Option Uuid) → Kept (u) (maybe u)
       by (Some u) = refl
       by None = refl
 

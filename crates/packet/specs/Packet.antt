@@ -107,11 +107,6 @@ packet_of kind s ds =
 
 -- ---- the answer
 
--- the UUID, as a packet keeps it
-abbrev pub maybe_uuid : Option Uuid → Told Uuid
-maybe_uuid (Some u) = is u
-maybe_uuid None = absent
-
 -- what is told: 20 to 26 in their order, else the packet
 unfoldable pub parse_of : ℕ → List ℕ → List ℕ → ℕ → Told Packet
 parse_of kind s ds room = unless (number_of kind s (length ds) room) (is (packet_of kind s ds))

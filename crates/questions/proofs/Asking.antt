@@ -1,7 +1,8 @@
 -- The questions of a described packet, case by case of what was found. Assumes nothing.
-use Rattle.std.specs.Prelude.{None, Some}
+use Rattle.std.specs.Prelude.{◌%◌, None, Ok, Option, Some}
 use Prim.Native.Nat.{ℕ, zero, suc, ◌+◌, ◌*◌, ◌^◌, ◌≤◌, ◌<◌}
-use mathlib.Core.Path.{◌≡◌, refl, ap, ap₂, ◌∙◌}
+use mathlib.Core.Path.{◌≡◌, refl, sym, ap, ap₂, ◌∙◌}
+use Rattle.refusal.specs.Told.{told_maybe}
 use mathlib.Core.Bool.{cond}
 use mathlib.Core.List.{List, [], ◌∷◌}
 use native.Mathlib.Omega.{arith}
@@ -14,8 +15,8 @@ use Rattle.packet.specs.Steps.{values_named, exactly_four, gathered}
 use Rattle.packet.specs.Packet.{first_from}
 use Rattle.field.specs.declared.Field.{Field}
 use Rattle.questions.specs.declared.PacketType.{PacketType}
-use Rattle.text.specs.Told.{Told, is, absent, refused}
-use Rattle.questions.specs.Described.{route_in, asked, named, type_by, type_in, field_in, field_with}
+use Rattle.text.specs.Told.{Told, is, absent, refused, maybe}
+use Rattle.questions.specs.Described.{route_in, cut, asked, named, type_by, type_in, field_in, field_with}
 
 -- ---- the route
 
@@ -95,3 +96,18 @@ module _ (s name : List ℕ) where
   pub gathered_dwords : (ds ps : List ℕ) → gathered s name (take (length ps) ds) ps ≡ gathered s name ds ps
   unfolding gathered
   gathered_dwords ds ps = ap exactly_four (fewer_dwords ds ps)
+
+-- ---- what was found, and what a closure made of it
+
+-- a value that was asked, cut
+pub cut_is : (bits : ℕ) (o : Option ℕ) {r : Option ℕ} → ((v : ℕ) → o ≡ Some v → r ≡ Some (v % 2 ^ bits)) → (o ≡ None → r ≡ None)
+    → {told : Told ℕ} → maybe o ≡ told → told_maybe (Ok r) ≡ cut bits told
+cut_is bits (Some v) some none h = rw (some v refl) (ap (cut bits) h)
+cut_is bits None some none h = rw (none refl) (ap (cut bits) h)
+
+-- the field that was found
+pub found_is : (s ds ps : List ℕ) (ask : Ask) (kind : ℕ) (name : List ℕ) (o : Option ℕ) {r : Option Field}
+    → ((i : ℕ) → o ≡ Some i → r ≡ Some (field_in s ds ps kind i)) → (o ≡ None → r ≡ None) → o ≡ first_from (asks ask s name) 0 ps
+    → told_maybe (Ok r) ≡ field_with s ds ps ask kind name
+found_is s ds ps ask kind name (Some i) some none h = rw (some i refl) (field_found s ds ps ask kind name (sym h) refl)
+found_is s ds ps ask kind name None some none h = rw (none refl) (field_none s ds ps ask kind name (sym h))

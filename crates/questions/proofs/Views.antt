@@ -19,7 +19,7 @@ use Rattle.packet.specs.Packet.{is_read_response_or_write_request, is_xdomain, e
 use Rattle.packet.proofs.Packets.{length_places}
 use Rattle.packet.proofs.Gathering.{first_within}
 use Rattle.questions.specs.declared.PacketType.{PacketType}
-use Rattle.questions.specs.Answers.{word_told, type_told}
+use Rattle.refusal.specs.Told.{told_maybe}
 use Rattle.questions.specs.Questions.{refusal, answer, start_of, view_at, view_of, view_place, DataView, name_by}
 use Rattle.text.specs.Told.{Told, is, absent, unless, maybe}
 use Rattle.questions.proofs.Over.{passed, no_number}
@@ -60,7 +60,7 @@ module _ (kind : ℕ) (s ds : List ℕ) where
   pub start_is_not_cut : refusal kind s ds ≡ 0 → start_of kind s ds ≡ started (view_from kind s (places_of kind s ds))
   unfolding start_of
   start_is_not_cut none =
-      sym (no_number kind s ds (sym none) (maybe (word (view_from kind s (places_of kind s ds)))) refl)
+      sym (no_number kind s ds (maybe (word (view_from kind s (places_of kind s ds)))) none)
       ∙ by (view_from kind s (places_of kind s ds)) (start_within none)
     where
       by : (f : Option ℕ) → ((n : ℕ) → f ≡ Some n → n ≤ length ds) → maybe (word f) ≡ started f
@@ -143,20 +143,20 @@ view_is_the_callers_own kind s {dwords} v none h =
 -- ---- where there is none
 
 -- no start, no place
-pub no_place : (r : Result (Option ℕ) Refusal) → ((n : ℕ) → r ≡ Ok (Some n) → ⊥) → view_place (word_told r) ≡ 0
+pub no_place : (r : Result (Option ℕ) Refusal) → ((n : ℕ) → r ≡ Ok (Some n) → ⊥) → view_place (told_maybe r) ≡ 0
 no_place (Ok (Some n)) h = absurd (h n refl)
 no_place (Ok None) h = refl
 no_place (Err k) h = refl
 
 module _ (kind : ℕ) (s ds : List ℕ) where
   -- no start, no view
-  pub no_start : (r : Result (Option ℕ) Refusal) → ((n : ℕ) → r ≡ Ok (Some n) → ⊥) → view_at kind s ds (word_told r) ≡ []
+  pub no_start : (r : Result (Option ℕ) Refusal) → ((n : ℕ) → r ≡ Ok (Some n) → ⊥) → view_at kind s ds (told_maybe r) ≡ []
   no_start (Ok (Some n)) h = absurd (h n refl)
   no_start (Ok None) h = refl
   no_start (Err k) h = refl
 
   -- no packet type, no name
-  pub no_type : (r : Result (Option PacketType) Refusal) → ((t : PacketType) → r ≡ Ok (Some t) → ⊥) → name_by kind s ds (type_told r) ≡ []
+  pub no_type : (r : Result (Option PacketType) Refusal) → ((t : PacketType) → r ≡ Ok (Some t) → ⊥) → name_by kind s ds (told_maybe r) ≡ []
   no_type (Ok (Some t)) h = absurd (h t refl)
   no_type (Ok None) h = refl
   no_type (Err k) h = refl

@@ -13,7 +13,7 @@ use Rattle.field.specs.declared.Field.{Field}
 use Rattle.field.specs.Source.{field_of}
 use Rattle.questions.specs.declared.PacketType.{PacketType}
 use Rattle.text.specs.Told.{Told, is, absent, refused}
-use Rattle.packet.specs.Packet.{maybe_uuid}
+use Rattle.text.specs.Told.{maybe}
 
 -- kinds 1 and 2 read, kinds 3 and 4 write
 unfoldable pub is_read : ℕ → Bool
@@ -77,7 +77,7 @@ module _ (s ds ps : List ℕ) where
 
   -- a UUID by name gathers as step 2 does
   unfoldable pub uuid_in : List ℕ → Told Uuid
-  uuid_in name = maybe_uuid (gathered s name ds ps)
+  uuid_in name = maybe (gathered s name ds ps)
 
   -- in the dword that was found
   abbrev pub type_at : Option ℕ → Told PacketType

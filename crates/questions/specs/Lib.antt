@@ -1,4 +1,3 @@
--- What the contracts of `questions` cite: what each answer tells, the questions of a described packet, and the questions of a packet.
-pub mod Answers
+-- What the contracts of `questions` cite: the questions of a described packet, and the questions of a packet.
 pub mod Described
 pub mod Questions

@@ -1,6 +1,8 @@
 -- The questions of a packet, each a function of kind, book and dwords: 20 to 25 first, then the answer over the places of its entries.
 -- Assumes nothing.
-use Rattle.std.specs.Prelude.{ℕ, Bool, List, [], length, drop}
+use Rattle.std.specs.Prelude.{ℕ, ◌≡◌, Bool, List, [], length, drop, Option, Result}
+use Rattle.refusal.specs.declared.Refusal.{Refusal}
+use Rattle.refusal.specs.Told.{told_maybe}
 use Rattle.text.specs.Part.{Slice, OwnDwords}
 use Rattle.book.specs.declared.Uuid.{Uuid}
 use Rattle.book.specs.Finders.{OwnName}
@@ -10,7 +12,6 @@ use Rattle.packet.specs.Packet.{is_xdomain, number_of, places_of, uuid_of, view_
 use Rattle.field.specs.declared.Field.{Field}
 use Rattle.questions.specs.declared.PacketType.{PacketType}
 use Rattle.text.specs.Told.{Told, is, absent, refused, unless, maybe}
-use Rattle.packet.specs.Packet.{maybe_uuid}
 use Rattle.questions.specs.Described as described
 
 module _ (kind : ℕ) (s ds : List ℕ) where
@@ -21,6 +22,15 @@ module _ (kind : ℕ) (s ds : List ℕ) where
   -- 20 to 25 come before what is told
   unfoldable pub answer : {A : Type 0} → Told A → Told A
   answer told = unless refusal told
+
+  -- 20 to 25, else no more to tell
+  unfoldable pub passed_of : Told (Unit {0})
+  passed_of = answer (is tt)
+
+  -- 20 to 25 come first, else a question of the places says what is answered
+  pub record Asked {A : Type 0} (Says : List ℕ → Result (Option A) Refusal → Type 0) (r : Result (Option A) Refusal) : Type 0 where
+    pub first : (refusal ≡ 0 → ⊥) → told_maybe r ≡ refused refusal
+    pub then : refusal ≡ 0 → Says (places_of kind s ds) r
 
   -- the first dword above the second; 27 under two dwords
   unfoldable pub route_of : Told ℕ
@@ -68,7 +78,7 @@ module _ (kind : ℕ) (s ds : List ℕ) where
 
   -- the UUID that step 2 gathered
   unfoldable pub uuid_answer : Told Uuid
-  uuid_answer = answer (maybe_uuid (uuid_of kind s ds))
+  uuid_answer = answer (maybe (uuid_of kind s ds))
 
   -- a UUID by name gathers over the final descriptions
   unfoldable pub uuid_by_name : List ℕ → Told Uuid

@@ -1,7 +1,8 @@
 // The questions of a described packet: its dwords, and for each the place of its entry, as `packet::parse` fills them. Each takes any book,
 // dwords and places, and looks at no number but 27 and 28.
 ghost use Rattle.std.specs.Prelude.{◌≡◌, ◌+◌, ◌*◌, ◌^◌};
-ghost use Rattle.questions.specs.Answers.{byte_told, word_told, wide_told, flag_told, uuid_told, type_told, field_told, dword_told};
+ghost use Rattle.text.specs.Told.{maybe};
+ghost use Rattle.refusal.specs.Told.{told, told_maybe};
 ghost use Rattle.questions.specs.Described.{
   route_in,
   top_bit,
@@ -18,9 +19,9 @@ ghost use Rattle.questions.specs.Described.{
   field_with,
 };
 
-use crate::kept::uuid_kept;
-use crate::kinds::{is_reading, is_writing};
 use crate::PacketType;
+use crate::kinds::{is_reading, is_writing};
+use book::Uuid;
 use field::{Field, Place, field_of};
 use packet::field::{Ask, named_in, range_in, value_in, wide};
 use packet::numbers::is_xdomain_kind;
@@ -29,7 +30,7 @@ use refusal::Refusal;
 
 // The first dword above the second.
 pub fn route_in(dwords: &[u32]) -> Result<u64, Refusal>
-    ensures { wide_told result ≡ route_in dwords.now }
+    ensures { told result ≡ route_in dwords.now }
 {
     if dwords.len() < 2 {
         return Err(Refusal::NoPacketRoute);
@@ -46,41 +47,37 @@ fn join(high: u32, low: u32) -> u64
 
 // The top bit of the route.
 pub fn cm_in(dwords: &[u32]) -> Result<bool, Refusal>
-    ensures { flag_told result ≡ top_bit (route_in dwords.now) }
+    ensures { told result ≡ top_bit (route_in dwords.now) }
 {
-    let route = route_in(dwords);
-    match route {
-        Ok(v) => Ok(v / 9_223_372_036_854_775_808 % 2 == 1),
-        Err(number) => Err(number),
-    }
+    let route = route_in(dwords)?;
+    Ok(route / 9_223_372_036_854_775_808 % 2 == 1)
 }
 
 // The value of the first bit range of that name, in the first dword that has one.
 pub fn value_asked(book: &[u8], name: &[u8], dwords: &[u32], places: &[u32]) -> Option<u32>
-    ensures { dword_told result ≡ asked book.now dwords.now places.now name.now }
+    ensures { maybe result ≡ asked book.now dwords.now places.now name.now }
 {
-    let found = first_asked(book, Ask::Holds, name, places, 0);
-    let Some(i) = found else {
-        return None;
-    };
+    let i = first_asked(book, Ask::Holds, name, places, 0)?;
     let range = range_in(book, name, wide(dword_at(places, i)));
     Some(value_in(book, range, dword_at(dwords, i)))
 }
 
 // The adapter number, cut to 8 bits.
 pub fn adapter_in(book: &[u8], dwords: &[u32], places: &[u32]) -> Result<Option<u8>, Refusal>
-    ensures { byte_told result ≡ adapter_in book.now dwords.now places.now }
+    ensures { told_maybe result ≡ adapter_in book.now dwords.now places.now }
 {
     let value = value_asked(book, b"Adapter Num", dwords, places);
-    match value {
-        Some(v) => Ok(Some((v % 256) as u8)),
-        None => Ok(None),
-    }
+    Ok(value.map(|v| (v % 256) as u8))
 }
 
 // The offset of an inter-domain packet, the address of any other.
-pub fn address_in(kind: u8, book: &[u8], dwords: &[u32], places: &[u32]) -> Result<Option<u16>, Refusal>
-    ensures { word_told result ≡ address_in book.now dwords.now places.now kind }
+pub fn address_in(
+    kind: u8,
+    book: &[u8],
+    dwords: &[u32],
+    places: &[u32],
+) -> Result<Option<u16>, Refusal>
+    ensures { told_maybe result ≡ address_in book.now dwords.now places.now kind }
 {
     if is_xdomain_kind(kind) {
         return word_asked(book, b"Offset", dwords, places);
@@ -89,8 +86,13 @@ pub fn address_in(kind: u8, book: &[u8], dwords: &[u32], places: &[u32]) -> Resu
 }
 
 // The size that the kind has, if it has one.
-pub fn size_in(kind: u8, book: &[u8], dwords: &[u32], places: &[u32]) -> Result<Option<u16>, Refusal>
-    ensures { word_told result ≡ size_in book.now dwords.now places.now kind }
+pub fn size_in(
+    kind: u8,
+    book: &[u8],
+    dwords: &[u32],
+    places: &[u32],
+) -> Result<Option<u16>, Refusal>
+    ensures { told_maybe result ≡ size_in book.now dwords.now places.now kind }
 {
     if is_reading(kind) {
         return word_asked(book, b"Read Size", dwords, places);
@@ -105,34 +107,40 @@ pub fn size_in(kind: u8, book: &[u8], dwords: &[u32], places: &[u32]) -> Result<
 }
 
 // The value of the first bit range of that name, cut to 16 bits.
-fn word_asked(book: &[u8], name: &[u8], dwords: &[u32], places: &[u32]) -> Result<Option<u16>, Refusal>
-    ensures { word_told result ≡ cut 16 (asked book.now dwords.now places.now name.now) }
+fn word_asked(
+    book: &[u8],
+    name: &[u8],
+    dwords: &[u32],
+    places: &[u32],
+) -> Result<Option<u16>, Refusal>
+    ensures { told_maybe result ≡ cut 16 (asked book.now dwords.now places.now name.now) }
 {
     let value = value_asked(book, name, dwords, places);
-    match value {
-        Some(v) => Ok(Some((v % 65_536) as u16)),
-        None => Ok(None),
-    }
+    Ok(value.map(|v| (v % 65_536) as u16))
 }
 
 // The values of the dwords of that name, if there are exactly four. A dword without a place, or a place without a dword, counts for nothing.
-pub fn uuid_in(book: &[u8], name: &[u8], dwords: &[u32], places: &[u32]) -> Result<Option<Uuid>, Refusal>
-    ensures { uuid_told result ≡ uuid_in book.now dwords.now places.now name.now }
+pub fn uuid_in(
+    book: &[u8],
+    name: &[u8],
+    dwords: &[u32],
+    places: &[u32],
+) -> Result<Option<Uuid>, Refusal>
+    ensures { told_maybe result ≡ uuid_in book.now dwords.now places.now name.now }
 {
     let n = dwords.len();
     let m = places.len();
     if n < m {
-        return uuid_kept(gather(book, name, dwords, &places[..n]));
+        return Ok(gather(book, name, dwords, &places[..n]));
     }
-    uuid_kept(gather(book, name, &dwords[..m], places))
+    Ok(gather(book, name, &dwords[..m], places))
 }
 
 // The packet type: of the first dword with such a range, whether its value has a name or not.
 pub fn type_in(book: &[u8], dwords: &[u32], places: &[u32]) -> Result<Option<PacketType>, Refusal>
-    ensures { type_told result ≡ type_in book.now dwords.now places.now }
+    ensures { told_maybe result ≡ type_in book.now dwords.now places.now }
 {
-    let found = first_asked(book, Ask::Holds, b"Packet Type", places, 0);
-    let Some(i) = found else {
+    let Some(i) = first_asked(book, Ask::Holds, b"Packet Type", places, 0) else {
         return Ok(None);
     };
     let range = range_in(book, b"Packet Type", wide(dword_at(places, i)));
@@ -141,7 +149,7 @@ pub fn type_in(book: &[u8], dwords: &[u32], places: &[u32]) -> Result<Option<Pac
 
 // The value of a packet type's range and the place of its name.
 fn type_by(book: &[u8], range: usize, dword: u32) -> Result<Option<PacketType>, Refusal>
-    ensures { type_told result ≡ type_by book.now range dword }
+    ensures { told_maybe result ≡ type_by book.now range dword }
 {
     let at = named_in(book, range, dword);
     if at == 0 {
@@ -154,8 +162,14 @@ fn type_by(book: &[u8], range: usize, dword: u32) -> Result<Option<PacketType>, 
 }
 
 // The field at an offset, where there is a dword.
-pub fn field_at(kind: u8, book: &[u8], dwords: &[u32], places: &[u32], offset: u16) -> Result<Option<Field>, Refusal>
-    ensures { field_told result ≡ field_at book.now dwords.now places.now kind offset }
+pub fn field_at(
+    kind: u8,
+    book: &[u8],
+    dwords: &[u32],
+    places: &[u32],
+    offset: u16,
+) -> Result<Option<Field>, Refusal>
+    ensures { told_maybe result ≡ field_at book.now dwords.now places.now kind offset }
 {
     let i = offset as usize;
     if dwords.len() <= i {
@@ -173,13 +187,10 @@ pub fn field_with(
     dwords: &[u32],
     places: &[u32],
 ) -> Result<Option<Field>, Refusal>
-    ensures { field_told result ≡ field_with book.now dwords.now places.now ask kind name.now }
+    ensures { told_maybe result ≡ field_with book.now dwords.now places.now ask kind name.now }
 {
     let found = first_asked(book, ask, name, places, 0);
-    match found {
-        Some(i) => Ok(Some(field_in(kind, book, dwords, places, i))),
-        None => Ok(None),
-    }
+    Ok(found.map(|i| field_in(kind, book, dwords, places, i)))
 }
 
 // The field of a dword, its offset cut to 16 bits.

@@ -6,18 +6,12 @@ ghost use Rattle.questions.specs.Described.{is_read, is_write};
 pub fn is_reading(kind: u8) -> bool
     ensures { result ≡ is_read kind }
 {
-    if kind == 1 {
-        return true;
-    }
-    kind == 2
+    kind == 1 || kind == 2
 }
 
 // Write requests and responses.
 pub fn is_writing(kind: u8) -> bool
     ensures { result ≡ is_write kind }
 {
-    if kind == 3 {
-        return true;
-    }
-    kind == 4
+    kind == 3 || kind == 4
 }

@@ -13,11 +13,12 @@
 #![tactic(auto)]
 
 pub mod described;
-mod kept;
 pub mod kinds;
+mod passed;
 
 ghost use Rattle.std.specs.Prelude.{◌≡◌};
-ghost use Rattle.questions.specs.Answers.{byte_told, word_told, wide_told, flag_told, uuid_told, type_told, field_told};
+ghost use Rattle.std.specs.Fn.{FnOnceReturnsAt};
+ghost use Rattle.refusal.specs.Told.{told, told_maybe};
 ghost use Rattle.questions.specs.Questions.{
   route_of,
   cm_of,
@@ -35,11 +36,12 @@ ghost use Rattle.questions.specs.Questions.{
   TypeNamePart,
   field_by_offset,
   field_by,
+  Asked,
 };
 
 use crate::described::{adapter_in, address_in, field_at, field_with, size_in, type_in, uuid_in};
-use crate::kept::{number_of, start_in, uuid_kept};
 use crate::kinds::{is_reading, is_writing};
+use crate::passed::pass;
 use book::Uuid;
 use field::{Field, Place};
 use packet::field::{Ask, name_in};
@@ -47,7 +49,7 @@ use packet::numbers::is_xdomain_kind;
 use refusal::Refusal;
 
 // A packet type: its number, and where the book names it.
-#[derive(Clone, Copy)]
+#[derive(Clone, Copy, Debug, PartialEq, Eq, Hash)]
 pub struct PacketType {
     pub value: u32,
     pub name: Place,
@@ -55,75 +57,63 @@ pub struct PacketType {
 
 // The route: the first dword above the second; 27 if there are fewer than two.
 pub fn route(kind: u8, book: &[u8], dwords: &[u32]) -> Result<u64, Refusal>
-    ensures { wide_told result ≡ route_of kind book.now dwords.now }
+    ensures { told result ≡ route_of kind book.now dwords.now }
 {
-    let number = number_of(kind, book, dwords);
-    if number != 0 {
-        return Err(number);
-    }
+    pass(kind, book, dwords)?;
     described::route_in(dwords)
 }
 
 // The top bit of the route; 27 as for the route.
 pub fn cm(kind: u8, book: &[u8], dwords: &[u32]) -> Result<bool, Refusal>
-    ensures { flag_told result ≡ cm_of kind book.now dwords.now }
+    ensures { told result ≡ cm_of kind book.now dwords.now }
 {
-    let number = number_of(kind, book, dwords);
-    if number != 0 {
-        return Err(number);
-    }
+    pass(kind, book, dwords)?;
     described::cm_in(dwords)
 }
 
 // The adapter number, cut to 8 bits.
 pub fn adapter_num(kind: u8, book: &[u8], dwords: &[u32]) -> Result<Option<u8>, Refusal>
-    ensures { byte_told result ≡ adapter_of kind book.now dwords.now }
+    ensures { told_maybe result ≡ adapter_of kind book.now dwords.now }
 {
-    let mut places = [0u32; 256];
-    let parsed = packet::parse(kind, book, dwords, &mut places[..256]);
-    match parsed {
-        Ok(_) => adapter_in(book, dwords, &places[..dwords.len()]),
-        Err(number) => Err(number),
-    }
+    ask(
+        kind,
+        book,
+        dwords,
+        |places| adapter_in(book, dwords, places),
+    )
 }
 
 // The address of kinds 1 to 7 and 10 to 12, the offset of kinds 8 and 9, cut to 16 bits.
 pub fn data_address(kind: u8, book: &[u8], dwords: &[u32]) -> Result<Option<u16>, Refusal>
-    ensures { word_told result ≡ address_of kind book.now dwords.now }
+    ensures { told_maybe result ≡ address_of kind book.now dwords.now }
 {
-    let mut places = [0u32; 256];
-    let parsed = packet::parse(kind, book, dwords, &mut places[..256]);
-    match parsed {
-        Ok(_) => address_in(kind, book, dwords, &places[..dwords.len()]),
-        Err(number) => Err(number),
-    }
+    ask(
+        kind,
+        book,
+        dwords,
+        |places| address_in(kind, book, dwords, places),
+    )
 }
 
 // The read size, write size or properties block size, by the kind, cut to 16 bits.
 pub fn data_size(kind: u8, book: &[u8], dwords: &[u32]) -> Result<Option<u16>, Refusal>
-    ensures { word_told result ≡ size_of kind book.now dwords.now }
+    ensures { told_maybe result ≡ size_of kind book.now dwords.now }
 {
-    let mut places = [0u32; 256];
-    let parsed = packet::parse(kind, book, dwords, &mut places[..256]);
-    match parsed {
-        Ok(_) => size_in(kind, book, dwords, &places[..dwords.len()]),
-        Err(number) => Err(number),
-    }
+    ask(
+        kind,
+        book,
+        dwords,
+        |places| size_in(kind, book, dwords, places),
+    )
 }
 
 // Where the data view starts; absent where there is none.
 pub fn data_start(kind: u8, book: &[u8], dwords: &[u32]) -> Result<Option<u16>, Refusal>
-    ensures { word_told result ≡ start_of kind book.now dwords.now }
+    ensures { told_maybe result ≡ start_of kind book.now dwords.now }
 {
     let mut places = [0u32; 256];
-    let parsed = packet::parse(kind, book, dwords, &mut places[..256]);
-    match parsed {
-        Ok(packet) => {
-            let start = packet.start;
-            start_in(start)
-        }
-        Err(number) => Err(number),
-    }
+    let packet = packet::parse(kind, book, dwords, &mut places[..256])?;
+    Ok(packet.start)
 }
 
 // The data view: the caller's own dwords from its start on. Where there is no view, and for a refusal, an empty part at the start of the dwords:
@@ -131,131 +121,149 @@ pub fn data_start(kind: u8, book: &[u8], dwords: &[u32]) -> Result<Option<u16>, 
 pub fn data<'a, 'b>(kind: u8, book: &'b [u8], dwords: &'a [u32]) -> &'a [u32]
     ensures { DataView kind book.now dwords.entry result }
 {
-    let start = data_start(kind, book, dwords);
-    let Ok(Some(n)) = start else {
+    let Ok(Some(start)) = data_start(kind, book, dwords) else {
         return &dwords[..0];
     };
-    let first = n as usize;
-    &dwords[first..]
+    &dwords[start as usize..]
 }
 
 // Is it a read packet: kind 1 or 2?
 pub fn is_read(kind: u8, book: &[u8], dwords: &[u32]) -> Result<bool, Refusal>
-    ensures { flag_told result ≡ read_of kind book.now dwords.now }
+    ensures { told result ≡ read_of kind book.now dwords.now }
 {
-    let number = number_of(kind, book, dwords);
-    if number != 0 {
-        return Err(number);
-    }
+    pass(kind, book, dwords)?;
     Ok(is_reading(kind))
 }
 
 // Is it a write packet: kind 3 or 4?
 pub fn is_write(kind: u8, book: &[u8], dwords: &[u32]) -> Result<bool, Refusal>
-    ensures { flag_told result ≡ write_of kind book.now dwords.now }
+    ensures { told result ≡ write_of kind book.now dwords.now }
 {
-    let number = number_of(kind, book, dwords);
-    if number != 0 {
-        return Err(number);
-    }
+    pass(kind, book, dwords)?;
     Ok(is_writing(kind))
 }
 
 // Is it an inter-domain packet: kind 8 or 9?
 pub fn is_xdomain(kind: u8, book: &[u8], dwords: &[u32]) -> Result<bool, Refusal>
-    ensures { flag_told result ≡ xdomain_of kind book.now dwords.now }
+    ensures { told result ≡ xdomain_of kind book.now dwords.now }
 {
-    let number = number_of(kind, book, dwords);
-    if number != 0 {
-        return Err(number);
-    }
+    pass(kind, book, dwords)?;
     Ok(is_xdomain_kind(kind))
 }
 
 // The UUID of an inter-domain packet, as step 2 gathered it.
 pub fn uuid(kind: u8, book: &[u8], dwords: &[u32]) -> Result<Option<Uuid>, Refusal>
-    ensures { uuid_told result ≡ uuid_answer kind book.now dwords.now }
+    ensures { told_maybe result ≡ uuid_answer kind book.now dwords.now }
 {
     let mut places = [0u32; 256];
-    let parsed = packet::parse(kind, book, dwords, &mut places[..256]);
-    match parsed {
-        Ok(packet) => {
-            let uuid = packet.uuid;
-            uuid_kept(uuid)
-        }
-        Err(number) => Err(number),
-    }
+    let packet = packet::parse(kind, book, dwords, &mut places[..256])?;
+    Ok(packet.uuid)
 }
 
 // The values of the fields of that name, if there are exactly four.
-pub fn uuid_by_name(kind: u8, book: &[u8], dwords: &[u32], name: &[u8]) -> Result<Option<Uuid>, Refusal>
-    ensures { uuid_told result ≡ uuid_by_name kind book.now dwords.now name.now }
+pub fn uuid_by_name(
+    kind: u8,
+    book: &[u8],
+    dwords: &[u32],
+    name: &[u8],
+) -> Result<Option<Uuid>, Refusal>
+    ensures { told_maybe result ≡ uuid_by_name kind book.now dwords.now name.now }
 {
-    let mut places = [0u32; 256];
-    let parsed = packet::parse(kind, book, dwords, &mut places[..256]);
-    match parsed {
-        Ok(_) => uuid_in(book, name, dwords, &places[..dwords.len()]),
-        Err(number) => Err(number),
-    }
+    ask(
+        kind,
+        book,
+        dwords,
+        |places| uuid_in(book, name, dwords, places),
+    )
 }
 
 // The packet type: the value of the first `Packet Type` range and where its name stands; 28 if it has none.
 pub fn packet_type(kind: u8, book: &[u8], dwords: &[u32]) -> Result<Option<PacketType>, Refusal>
-    ensures { type_told result ≡ type_of kind book.now dwords.now }
+    ensures { told_maybe result ≡ type_of kind book.now dwords.now }
 {
-    let mut places = [0u32; 256];
-    let parsed = packet::parse(kind, book, dwords, &mut places[..256]);
-    match parsed {
-        Ok(_) => type_in(book, dwords, &places[..dwords.len()]),
-        Err(number) => Err(number),
-    }
+    ask(kind, book, dwords, |places| type_in(book, dwords, places))
 }
 
 // The name of the packet type: the caller's own bytes of the book, and an empty part at its start where `packet_type` gives none.
 pub fn packet_type_name<'a, 'b>(kind: u8, book: &'b [u8], dwords: &'a [u32]) -> &'b [u8]
     ensures { TypeNamePart kind book.entry dwords.now result }
 {
-    let told = packet_type(kind, book, dwords);
-    let Ok(Some(named)) = told else {
+    let Ok(Some(named)) = packet_type(kind, book, dwords) else {
         return &book[..0];
     };
     name_in(book, named.name.at)
 }
 
 // The field at an offset.
-pub fn field_by_offset(kind: u8, book: &[u8], dwords: &[u32], offset: u16) -> Result<Option<Field>, Refusal>
-    ensures { field_told result ≡ field_by_offset kind book.now dwords.now offset }
+pub fn field_by_offset(
+    kind: u8,
+    book: &[u8],
+    dwords: &[u32],
+    offset: u16,
+) -> Result<Option<Field>, Refusal>
+    ensures { told_maybe result ≡ field_by_offset kind book.now dwords.now offset }
 {
-    let mut places = [0u32; 256];
-    let parsed = packet::parse(kind, book, dwords, &mut places[..256]);
-    match parsed {
-        Ok(_) => field_at(kind, book, dwords, &places[..dwords.len()], offset),
-        Err(number) => Err(number),
-    }
+    ask(
+        kind,
+        book,
+        dwords,
+        |places| field_at(kind, book, dwords, places, offset),
+    )
 }
 
 // The first field of that name.
-pub fn field_by_name(kind: u8, book: &[u8], dwords: &[u32], name: &[u8]) -> Result<Option<Field>, Refusal>
-    ensures { field_told result ≡ field_by kind book.now dwords.now Ask.Named name.now }
+pub fn field_by_name(
+    kind: u8,
+    book: &[u8],
+    dwords: &[u32],
+    name: &[u8],
+) -> Result<Option<Field>, Refusal>
+    ensures { told_maybe result ≡ field_by kind book.now dwords.now Ask.Named name.now }
 {
     field_asked(Ask::Named, kind, book, dwords, name)
 }
 
 // The first field with a bit range of that name.
-pub fn field_by_bitfield_name(kind: u8, book: &[u8], dwords: &[u32], name: &[u8]) -> Result<Option<Field>, Refusal>
-    ensures { field_told result ≡ field_by kind book.now dwords.now Ask.Holds name.now }
+pub fn field_by_bitfield_name(
+    kind: u8,
+    book: &[u8],
+    dwords: &[u32],
+    name: &[u8],
+) -> Result<Option<Field>, Refusal>
+    ensures { told_maybe result ≡ field_by kind book.now dwords.now Ask.Holds name.now }
 {
     field_asked(Ask::Holds, kind, book, dwords, name)
 }
 
 // The first field as asked.
-fn field_asked(ask: Ask, kind: u8, book: &[u8], dwords: &[u32], name: &[u8]) -> Result<Option<Field>, Refusal>
-    ensures { field_told result ≡ field_by kind book.now dwords.now ask name.now }
+fn field_asked(
+    asked: Ask,
+    kind: u8,
+    book: &[u8],
+    dwords: &[u32],
+    name: &[u8],
+) -> Result<Option<Field>, Refusal>
+    ensures { told_maybe result ≡ field_by kind book.now dwords.now asked name.now }
+{
+    ask(
+        kind,
+        book,
+        dwords,
+        |places| field_with(asked, kind, book, name, dwords, places),
+    )
+}
+
+// A question of the places that a parse fills, once the packet is not refused.
+fn ask<T, F: FnOnce(&[u32]) -> Result<Option<T>, Refusal>>(
+    kind: u8,
+    book: &[u8],
+    dwords: &[u32],
+    question: F,
+) -> Result<Option<T>, Refusal>
+    requires { F.IsAlwaysCallable question }
+    ensures { Asked kind book.now dwords.now (FnOnceReturnsAt F.FnOnce question) result }
 {
     let mut places = [0u32; 256];
-    let parsed = packet::parse(kind, book, dwords, &mut places[..256]);
-    match parsed {
-        Ok(_) => field_with(ask, kind, book, name, dwords, &places[..dwords.len()]),
-        Err(number) => Err(number),
-    }
+    packet::parse(kind, book, dwords, &mut places[..256])?;
+    question(&places[..dwords.len()])
 }

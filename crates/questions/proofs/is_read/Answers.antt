@@ -1,15 +1,20 @@
 -- `questions::is_read` meets its contract: a number first. Assumes nothing.
-use Rattle.questions.proofs.Over.{number_first, no_number}
-use Rattle.questions.specs.Described.{is_read}
-use Rattle.questions.specs.Questions.{read_of}
 use Rattle.text.specs.Told.{is}
-use mathlib.Core.Path.{ap, ◌∙◌}
+use Rattle.questions.specs.Described.{is_read}
+use Rattle.refusal.specs.Told as answers
+use Rattle.refusal.proofs.Told.{passed_on}
+use Rattle.questions.proofs.Over.{told_refused, told_passed}
+use Rattle.questions.specs.Questions.{read_of}
+use mathlib.Core.Path.{sym, ap, ◌∙◌}
 use Rattle.questions.proofs.is_read.Goals as goal
 
-pub returns-then-number-ne0 : goal.returns-then-number-ne0
+pub returns-in_err-pass : goal.returns-in_err-pass
 unfolding read_of
-returns-then-number-ne0 c = number_first c.args.kind c.args.book.now c.args.dwords.now c.number_of-number.ensures (is (is_read c.args.kind)) c.if-number-ne0.true
+returns-in_err-pass c =
+    rw (passed_on c.from_residual.result c.from_residual.ensures.1)
+    (told_refused c.args.kind c.args.book.now c.args.dwords.now (is (is_read c.args.kind)) c.pass.result (ap answers.told (sym c.in_err-pass.was) ∙ c.pass.ensures) c.in_err-pass.was)
 
 pub returns : goal.returns
 unfolding read_of
-returns c = ap is c.is_reading.ensures ∙ no_number c.args.kind c.args.book.now c.args.dwords.now c.number_of-number.ensures (is (is_read c.args.kind)) c.if-number-ne0.false
+returns c =
+    ap is c.is_reading.ensures ∙ told_passed c.args.kind c.args.book.now c.args.dwords.now (is (is_read c.args.kind)) (ap answers.told (sym c.in_ok-pass.was) ∙ c.pass.ensures)

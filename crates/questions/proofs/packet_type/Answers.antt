@@ -1,26 +1,18 @@
--- `questions::packet_type` meets its contract: a number first, or what is told over the places. Assumes nothing.
-use Prim.Native.Nat.{ℕ}
-use Rattle.packet.specs.Packet.{places_of}
-use Rattle.questions.proofs.Over.{refused_first, accepted, answers_over}
+-- `questions::packet_type` meets its contract: a question of the places. Assumes nothing.
+use Rattle.std.proofs.Common.{rules, ◌≡◌, ℕ, List}
+use mathlib.Core.Path.{ap, ◌∙◌}
+use Rattle.refusal.specs.Told.{told_maybe}
+use Rattle.questions.proofs.Over.{asked_is}
 use Rattle.questions.specs.Described.{type_in}
 use Rattle.questions.specs.Questions.{type_of}
-use lib.ListN.{length}
-use lib.Seq.{length-take-le}
-use mathlib.Core.List.{List}
-use mathlib.Core.Path.{refl}
-use mathlib.Core.Path.{sym, ◌∙◌}
 use Rattle.questions.proofs.packet_type.Goals as goal
 
-pub slice_bounds-places-end : goal.slice_bounds-places-end
-slice_bounds-places-end c = (accepted c.parse-parsed.ensures refl c.in-Ok.is).fit
-
-pub slice_bounds-type_in-end : goal.slice_bounds-type_in-end
-slice_bounds-type_in-end c = sym (length-take-le (length c.args.dwords.now) _ (accepted c.parse-parsed.ensures refl c.in-Ok.is).fit)
-
-pub returns-in-Ok : goal.returns-in-Ok
+pub returns : goal.returns
 unfolding type_of
-returns-in-Ok c = c.type_in.ensures ∙ answers_over c.parse-parsed.ensures refl c.in-Ok.is (λ (ps : List ℕ). type_in c.args.book.now c.args.dwords.now ps)
-
-pub returns-in-Err : goal.returns-in-Err
-unfolding type_of
-returns-in-Err c = refused_first c.parse-parsed.ensures refl c.in-Err.is (type_in c.args.book.now c.args.dwords.now (places_of c.args.kind c.args.book.now c.args.dwords.now))
+returns c =
+    let s = c.args.book.now in
+    let ds = c.args.dwords.now in
+    let question = λ (ps : List ℕ). type_in s ds ps in
+    asked_is c.args.kind s ds question
+    (λ ps h. let over : told_maybe c.ask.result ≡ type_in s ds h.0.now = search rules in over ∙ ap question h.2)
+    c.ask.ensures

@@ -1,5 +1,5 @@
 -- `questions::described::uuid_in` meets its contract: dwords without places and places without dwords name nothing. Assumes nothing.
-use Rattle.packet.specs.Packet.{maybe_uuid}
+use Rattle.text.specs.Told.{maybe}
 use Rattle.questions.proofs.Asking.{gathered_places, gathered_dwords}
 use Rattle.questions.specs.Described.{uuid_in}
 use lib.ListN.{length}
@@ -16,7 +16,7 @@ gather-requires c = length-take-le (length c.args.dwords.now) c.args.places.now 
 
 pub returns-then-n-m : goal.returns-then-n-m
 unfolding uuid_in
-returns-then-n-m c = c.uuid_kept.ensures ∙ ap maybe_uuid (c.gather.ensures ∙ gathered_places c.args.book.now c.args.name.now c.args.dwords.now c.args.places.now)
+returns-then-n-m c = ap maybe (c.gather.ensures ∙ gathered_places c.args.book.now c.args.name.now c.args.dwords.now c.args.places.now)
 
 pub slice_bounds-gather-end-2 : goal.slice_bounds-gather-end-2
 slice_bounds-gather-end-2 c = sym (length-take-le (length c.args.places.now) c.args.dwords.now c.if-n-m.false)
@@ -26,4 +26,4 @@ gather-requires-2 c = sym (length-take-le (length c.args.places.now) c.args.dwor
 
 pub returns : goal.returns
 unfolding uuid_in
-returns c = c.uuid_kept-2.ensures ∙ ap maybe_uuid (c.gather-2.ensures ∙ gathered_dwords c.args.book.now c.args.name.now c.args.dwords.now c.args.places.now)
+returns c = ap maybe (c.gather-2.ensures ∙ gathered_dwords c.args.book.now c.args.name.now c.args.dwords.now c.args.places.now)

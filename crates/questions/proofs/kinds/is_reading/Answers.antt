@@ -7,6 +7,6 @@ pub returns-then-kind-eq1 : goal.returns-then-kind-eq1
 unfolding is_read
 returns-then-kind-eq1 c = rw (eq-eqb c.args.kind 1 c.if-kind-eq1.true)
 
-pub returns : goal.returns
+pub returns-else-kind-eq1 : goal.returns-else-kind-eq1
 unfolding is_read
-returns c = rw (ne_eqb c.args.kind 1 c.if-kind-eq1.false)
+returns-else-kind-eq1 c = rw (ne_eqb c.args.kind 1 c.if-kind-eq1.false)

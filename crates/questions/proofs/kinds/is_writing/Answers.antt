@@ -7,6 +7,6 @@ pub returns-then-kind-eq3 : goal.returns-then-kind-eq3
 unfolding is_write
 returns-then-kind-eq3 c = rw (eq-eqb c.args.kind 3 c.if-kind-eq3.true)
 
-pub returns : goal.returns
+pub returns-else-kind-eq3 : goal.returns-else-kind-eq3
 unfolding is_write
-returns c = rw (ne_eqb c.args.kind 3 c.if-kind-eq3.false)
+returns-else-kind-eq3 c = rw (ne_eqb c.args.kind 3 c.if-kind-eq3.false)

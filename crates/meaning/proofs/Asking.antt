@@ -4,7 +4,7 @@ use Prim.Native.Nat.{ℕ, zero, suc, ◌%◌, ◌^◌, ◌≤◌}
 use mathlib.Core.Path.{◌≡◌, refl, sym, ap, subst, ◌∙◌}
 use mathlib.Core.Bool.{Bool, true, false, cond}
 use mathlib.Core.List.{List, [], ◌∷◌, ◌++◌}
-use mathlib.Core.Option.{some-injective, some-ne-none}
+use Rattle.std.proofs.lemmas.Option.{none-some, same_Some}
 use native.Mathlib.Omega.{arith}
 use lib.ListN.{length, get_or}
 use Rattle.text.specs.Quote.{bytes}
@@ -47,7 +47,7 @@ module _ (ds : List ℕ) (os : List (Option Description)) where
   one_asked : (name : List ℕ) (v w : ℕ) → Asked ds os name v → Asked ds os name w → v ≡ w
   one_asked name v w a c =
       let f = one_found (Holds name) os a.field c.field in
-      let range : a.range ≡ c.range = some-injective a.range c.range
+      let range : a.range ≡ c.range = same_Some a.range c.range
       (one_range name c.field.value (Some a.range) (Some c.range) (subst (λ o. RangeNamed name o (Some a.range)) f.1 a.range_is) c.range_is) in
       a.value_is ∙ ap (λ (r : Range). value_of r (get_or ds a.at 0)) range ∙ ap (λ (n : ℕ). value_of c.range (get_or ds n 0)) f.0 ∙ sym c.value_is
 
@@ -61,7 +61,7 @@ module _ (ds : List ℕ) (os : List (Option Description)) where
   one_tells bits name absent (refused n) f g = absurd g
 
   pub one_uuid_named : (name : List ℕ) → Sole (UuidNamed ds os name)
-  one_uuid_named name (is u) (is v) a c = ap is (some-injective u v (one_uuid name ds os (Some u) (Some v) a c))
+  one_uuid_named name (is u) (is v) a c = ap is (same_Some u v (one_uuid name ds os (Some u) (Some v) a c))
   one_uuid_named name (is u) absent a c = absurd (c u a)
   one_uuid_named name absent (is v) a c = absurd (a v c)
   one_uuid_named name absent absent a c = refl
@@ -121,7 +121,7 @@ module _ (s : List ℕ) (b : IsBook s) where
         )
         found n f None h l =
             let w = f.first.so in
-            absurd (some-ne-none w.0 (one_range name f.value (Some w.0) None w.1 h))
+            absurd (none-some w.0 (sym (one_range name f.value (Some w.0) None w.1 h)))
 
         by : (f : Option ℕ) → FirstTold s b (asks Ask.Holds s name) (Holds name) (asks_holds s b name) (holds_asks s b name) os 0 f
             → Tells ds os bits name (cut bits (asked_at s ds ps name f))

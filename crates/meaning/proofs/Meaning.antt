@@ -4,7 +4,7 @@ use Prim.Native.Nat.{ℕ, suc, ◌+◌, ◌%◌, ◌≤◌, ◌<◌}
 use mathlib.Core.Path.{◌≡◌, refl, sym, ap, subst, ◌∙◌}
 use mathlib.Core.Bool.{Bool, true, false, cond, not, ◌&&◌, false≢true}
 use mathlib.Core.List.{List, [], ◌∷◌, map}
-use mathlib.Core.Option.{some-ne-none}
+use Rattle.std.proofs.lemmas.Option.{none-some}
 use native.Mathlib.Omega.{arith}
 use borrow.Author.Tests.{eq-eqb, ne_eqb, ltb-false}
 use lib.Dec.{eqb, ltb}
@@ -22,7 +22,7 @@ use Rattle.packet.specs.Field.{range_in, asks}
 use Rattle.packet.specs.Steps.{control_places, header_places, values_named, exactly_four, gathered, protocol_places, places_in, places_by, uuid_places}
 use Rattle.packet.proofs.Packets.{Passed, passed, length_places}
 use Rattle.packet.specs.Packet.{is_nothing, number_checked, is_read_response_or_write_request, is_xdomain, zero_uuid, control_at, header_at, entries_of, step_one, places_of, uuid_of, first_from, behind, view_from, word}
-use Rattle.meaning.specs.First.{None}
+use Rattle.meaning.specs.First.{NoneOf}
 use Rattle.meaning.specs.Packet.{Description, RangeNamed, Each, Gathers, four, IsUuid, StepOne, TableOf, ProtocolTable, Behind, GoesOn, Stays, Holds, FoundAt, JustAfter, View, IsPacket}
 use Rattle.meaning.proofs.One.{one_gather, one_range, one_step}
 use Rattle.meaning.proofs.Bridge.{Place, At, TableAt, table_place, range_got}
@@ -67,7 +67,7 @@ module _ (s : List ℕ) (b : IsBook s) where
     pub there : Sits value f
 
   table_got : (owner : Owner) (f : Option ℕ) → ((p : ℕ) → f ≡ Some p → FirstSo s table_piece (λ t. t.owner ≡ owner) b.tables p)
-      → (f ≡ None → None (λ t. t.owner ≡ owner) b.tables) → TableGot owner f
+      → (f ≡ None → NoneOf (λ t. t.owner ≡ owner) b.tables) → TableGot owner f
   table_got owner (Some p) at nothing =
       let w = at p refl in
       record {
@@ -160,7 +160,7 @@ module _ (s : List ℕ) (b : IsBook s) where
     where
       by : (r : Option Range) → RangeNamed name o r → Place range_piece GoodRange s r (range_in s name q) → not (eqb (range_in s name q) 0) ≡ true
       by (Some r) w l = rw (ne_eqb (range_in s name q) 0 (λ z. absurd (omega (arith, z, l.some_place))))
-      by None w l = absurd (some-ne-none h.0 (one_range name o (Some h.0) None h.1 w))
+      by None w l = absurd (none-some h.0 (sym (one_range name o (Some h.0) None h.1 w)))
 
   module _ (ok : ℕ → Bool) (So : Option Description → Type 0)
       (told : (o : Option Description) (q : ℕ) → At b.tables s o q → ok q ≡ true → So o)
@@ -168,7 +168,7 @@ module _ (s : List ℕ) (b : IsBook s) where
     -- the first index, counted from i
     abbrev pub Told : List (Option Description) → ℕ → Option ℕ → Type 0
     Told os i (Some j) = (n : ℕ) × (j ≡ i + n) × FoundAt So os n
-    Told os i None = None So os
+    Told os i None = NoneOf So os
 
     later : (o : Option Description) (os : List (Option Description)) → (So o → ⊥) → (i : ℕ) (f : Option ℕ) → Told os (suc i) f → Told (o ∷ os) i f
     later o os isnt i (Some j) t = (

@@ -19,7 +19,7 @@ use Rattle.book.proofs.Book.{book_is, book_refused_exactly}
 use Rattle.book.proofs.Unique.{one_book}
 use Rattle.packet.specs.Conditions.{Has, HasNot, NoHeader, TooFew as FewDwords, Condition, Applies as PacketApplies}
 use Rattle.packet.specs.Packet.{is_xdomain, zero_uuid}
-use Rattle.meaning.specs.First.{None}
+use Rattle.meaning.specs.First.{NoneOf}
 use Rattle.meaning.specs.Packet.{TableOf, TooFew, Refuses}
 use Rattle.meaning.specs.Call.{Applies, IsNumber, NoNumber}
 use Rattle.meaning.proofs.One.{among_all}
@@ -34,13 +34,13 @@ book_or_not s s-bytes = by (leb (length s) 65535 && tables_fill s 0) refl
     by false e = inr ((book_refused_exactly s s-bytes).0 (rw e))
 
 -- none is so, if of each that stands among them it is not
-all_from : {X : Type 0} {So : X → Type 0} (xs : List X) → ((before : List X) (x : X) (behind : List X) → xs ≡ before ++ (x ∷ behind) → So x → ⊥) → None So xs
+all_from : {X : Type 0} {So : X → Type 0} (xs : List X) → ((before : List X) (x : X) (behind : List X) → xs ≡ before ++ (x ∷ behind) → So x → ⊥) → NoneOf So xs
 all_from [] f = tt
 all_from {X} (x ∷ xs) f = (f [] x xs refl, all_from xs (λ before y behind e. f (x ∷ before) y behind (ap (λ (l : List X). x ∷ l) e)))
 
 -- what stands before one of an owner is of another
 before_none : (owner : Owner) (xs : List Table) (t : Table) (ys : List Table) → Apart (λ u v. u.owner ≡ v.owner) (xs ++ (t ∷ ys)) → t.owner ≡ owner
-    → None (λ u. u.owner ≡ owner) xs
+    → NoneOf (λ u. u.owner ≡ owner) xs
 before_none owner [] t ys a e = tt
 before_none owner (x ∷ xs) t ys a e =
     (λ h. among_all (λ y. x.owner ≡ y.owner → ⊥) xs t ys a.0 (h ∙ sym e), before_none owner xs t ys a.1 e)
@@ -49,7 +49,7 @@ module _ (s : List ℕ) (b : IsBook s) where
   has_not : (owner : Owner) → HasNot s owner ↔ TableOf b.tables owner None
   has_not owner = (
     λ n. all_from b.tables (λ before t behind e o. n t (record { book = b; before = before; behind = behind; among = e; owner_is = o })),
-    λ n t h. among_all (λ t. t.owner ≡ owner → ⊥) h.before t h.behind (subst (None (λ t. t.owner ≡ owner)) (one_book b h.book ∙ h.among) n) h.owner_is,
+    λ n t h. among_all (λ t. t.owner ≡ owner → ⊥) h.before t h.behind (subst (NoneOf (λ t. t.owner ≡ owner)) (one_book b h.book ∙ h.among) n) h.owner_is,
   )
 
   has : (owner : Owner) (t : Table) → Has s owner t ↔ TableOf b.tables owner (Some t)

@@ -5,7 +5,7 @@ use mathlib.Core.Path.{◌≡◌, refl, sym, ap, subst, ◌∙◌}
 use mathlib.Core.Bool.{Bool, true, false, cond}
 use mathlib.Core.List.{List, [], ◌∷◌, ◌++◌}
 use mathlib.Core.Logic.{inl, inr}
-use mathlib.Core.Option.{some-ne-none, some-injective}
+use Rattle.std.proofs.lemmas.Option.{none-some, same_Some}
 use lib.ListN.{length, get_or}
 use Rattle.text.specs.Quote.{bytes}
 use Rattle.text.proofs.Places.{by_order}
@@ -13,7 +13,7 @@ use Rattle.tlv.specs.Grammar.{All}
 use Rattle.book.specs.declared.Uuid.{Uuid}
 use Rattle.book.specs.Grammar.{Value, Range, Entry, Owner, kind, uuid, Table}
 use Rattle.packet.specs.Packet.{is_read_response_or_write_request, is_xdomain, zero_uuid}
-use Rattle.meaning.specs.First.{First, FirstOf, None, Else}
+use Rattle.meaning.specs.First.{First, FirstOf, NoneOf, Else}
 use Rattle.meaning.specs.Packet.{Description, OfOffset, OfType, Taken, ranges_of, RangeNamed, value_of, ValueNumbered, TypeNamed, Each, Gathers, four, IsUuid, Control, StepOne, Fits, Takes, Latches, Governs, StepThree, TableOf, ProtocolTable, Behind, GoesOn, Stays, Holds, JustAfter, View, IsPacket}
 
 -- at most one answer
@@ -26,7 +26,7 @@ among_all P [] x behind a = a.0
 among_all P (y ∷ before) x behind a = among_all P before x behind a.1
 
 module _ {X : Type 0} (So : X → Type 0) where
-  pub one_split : (b c : List X) (x y : X) (p q : List X) → b ++ (x ∷ p) ≡ c ++ (y ∷ q) → So x → So y → None So b → None So c
+  pub one_split : (b c : List X) (x y : X) (p q : List X) → b ++ (x ∷ p) ≡ c ++ (y ∷ q) → So x → So y → NoneOf So b → NoneOf So c
       → (x ≡ y) × (b ≡ c)
   one_split [] [] x y p q e sx sy nb nc = (cc, refl)
   one_split [] (z ∷ c) x y p q e sx sy nb nc = let same : x ≡ z = cc in absurd (nc.0 (rw same at sx))
@@ -42,8 +42,8 @@ module _ {X : Type 0} (So : X → Type 0) where
   one_first {xs} {x} {y} f g =
       one_split f.before g.before x y f.behind g.behind (sym f.among ∙ g.among) f.so g.so f.none_before g.none_before
 
-  pub first_some : {xs : List X} {x : X} → First So xs x → None So xs → ⊥
-  first_some {xs} {x} f n = among_all (λ y. So y → ⊥) f.before x f.behind (subst (None So) f.among n) f.so
+  pub first_some : {xs : List X} {x : X} → First So xs x → NoneOf So xs → ⊥
+  first_some {xs} {x} f n = among_all (λ y. So y → ⊥) f.before x f.behind (subst (NoneOf So) f.among n) f.so
 
   pub one_of : (xs : List X) → Single (FirstOf So xs)
   one_of xs (Some x) (Some y) f g = ap Some (one_first f g).0
@@ -53,12 +53,12 @@ module _ {X : Type 0} (So : X → Type 0) where
 
 pub one_else : {X : Type 0} {P Q : Option X → Type 0} → Single P → Single Q → Single (Else P Q)
 one_else p q (Some x) (Some y) (inl f) (inl g) = p (Some x) (Some y) f g
-one_else p q (Some x) (Some y) (inl f) (inr g) = absurd (some-ne-none x (p (Some x) None f g.0))
-one_else p q (Some x) (Some y) (inr f) (inl g) = absurd (some-ne-none y (p (Some y) None g f.0))
+one_else p q (Some x) (Some y) (inl f) (inr g) = absurd (none-some x (sym (p (Some x) None f g.0)))
+one_else p q (Some x) (Some y) (inr f) (inl g) = absurd (none-some y (sym (p (Some y) None g f.0)))
 one_else p q (Some x) (Some y) (inr f) (inr g) = q (Some x) (Some y) f.1 g.1
-one_else p q (Some x) None (inl f) g = absurd (some-ne-none x (p (Some x) None f g.0))
+one_else p q (Some x) None (inl f) g = absurd (none-some x (sym (p (Some x) None f g.0)))
 one_else p q (Some x) None (inr f) g = q (Some x) None f.1 g.1
-one_else p q None (Some y) f (inl g) = absurd (some-ne-none y (p (Some y) None g f.0))
+one_else p q None (Some y) f (inl g) = absurd (none-some y (sym (p (Some y) None g f.0)))
 one_else p q None (Some y) f (inr g) = q None (Some y) f.1 g.1
 one_else p q None None f g = refl
 
@@ -85,9 +85,9 @@ one_value None dword = λ a b f g. f ∙ sym g
 
 pub one_type : (o : Option Description) (dword : ℕ) (n m : List ℕ) → TypeNamed o dword n → TypeNamed o dword m → n ≡ m
 one_type o dword n m a b =
-    let range : a.range ≡ b.range = some-injective a.range b.range (one_range (bytes "Packet Type") o (Some a.range) (Some b.range) a.range_is b.range_is) in
+    let range : a.range ≡ b.range = same_Some a.range b.range (one_range (bytes "Packet Type") o (Some a.range) (Some b.range) a.range_is b.range_is) in
     let there : ValueNamed (Some b.range) dword (Some a.value) = subst (λ r. ValueNamed (Some r) dword (Some a.value)) range a.value_is in
-    let value : a.value ≡ b.value = some-injective a.value b.value (one_value (Some b.range) dword (Some a.value) (Some b.value) there b.value_is) in
+    let value : a.value ≡ b.value = same_Some a.value b.value (one_value (Some b.range) dword (Some a.value) (Some b.value) there b.value_is) in
     sym a.name_is ∙ ap (λ (v : Value). v.name) value ∙ b.name_is
 
 -- ---- each dword
@@ -199,7 +199,7 @@ pub record Alike (os qs : List (Option Description)) (u v : Option Uuid) : Type 
 one_goes : (tables : List Table) (control : Table) (ds : List ℕ) {os qs : List (Option Description)} {u v : Option Uuid}
     → GoesOn tables control ds os u → GoesOn tables control ds qs v → Alike os qs u v
 one_goes tables control ds {os} {qs} {u} {v} f g =
-    let header : f.header ≡ g.header = some-injective f.header g.header (one_table tables (uuid zero_uuid) (Some f.header) (Some g.header) f.header_is g.header_is) in
+    let header : f.header ≡ g.header = same_Some f.header g.header (one_table tables (uuid zero_uuid) (Some f.header) (Some g.header) f.header_is g.header_is) in
     let first : f.first ≡ g.first = one_each (λ i d. StepOne control g.header i) (λ i d. one_step control g.header i) 0 ds f.first g.first
     (subst (λ h. Each (λ i d. StepOne control h i) 0 ds f.first) header f.first_are) g.first_are in
     let same : u ≡ v = one_uuid (bytes "UUID") ds g.first u v (subst (λ l. IsUuid (bytes "UUID") ds l u) first f.uuid_is) g.uuid_is in
@@ -222,7 +222,7 @@ one_stays control ds {os} {qs} f g =
 pub one_packet : (k : ℕ) (tables : List Table) (ds : List ℕ) {os qs : List (Option Description)} {u v : Option Uuid} {n m : Option ℕ}
     → IsPacket k tables ds os u n → IsPacket k tables ds qs v m → (os ≡ qs) × (u ≡ v) × (n ≡ m)
 one_packet k tables ds {os} {qs} {u} {v} {n} {m} f g =
-    let control : f.control ≡ g.control = some-injective f.control g.control (one_table tables (kind k) (Some f.control) (Some g.control) f.control_is g.control_is) in
+    let control : f.control ≡ g.control = same_Some f.control g.control (one_table tables (kind k) (Some f.control) (Some g.control) f.control_is g.control_is) in
     let same : Alike os qs u v = by (is_xdomain k) (subst (λ t. cond (is_xdomain k) (GoesOn tables t ds os u) (Stays t ds os u)) control f.described) g.described in
     (same.described, same.uuid, one_view k g.control qs n m (subst (λ l. View k g.control l n) same.described (subst (λ t. View k t os n) control f.view)) g.view)
   where

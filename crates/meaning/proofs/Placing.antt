@@ -15,7 +15,7 @@ use Rattle.book.proofs.Finding.{first_stands, stands_whole}
 use Rattle.book.proofs.Answers.{first_good, range_of_name_is, value_of_number_is}
 use Rattle.packet.specs.Field.{inside, range_in, value_in, named_in}
 use Rattle.packet.proofs.Fields.{inside_some}
-use Rattle.meaning.specs.First.{First, None}
+use Rattle.meaning.specs.First.{First, NoneOf}
 use Rattle.meaning.specs.Packet.{Description, value_of}
 use Rattle.meaning.specs.Places.{entry_up_to, range_up_to}
 use Rattle.meaning.proofs.Bridge.{Stood, Located, some_bytes, fields_both, drop_place, value_at}
@@ -30,7 +30,7 @@ module _ {X Y : Type 0} (outer : X → Piece) (piece : Y → Piece) (Good : Y �
     pub stood : Stood piece Good s value q
     pub place_is : q ≡ place + 3 + head first.before
 
-  pub placed : {So : Y → Type 0} (q : ℕ) → Finds (take a.part.to s) piece So ys q → ((q ≡ 0) × None So ys) ⊎ Placed So q
+  pub placed : {So : Y → Type 0} (q : ℕ) → Finds (take a.part.to s) piece So ys q → ((q ≡ 0) × NoneOf So ys) ⊎ Placed So q
   placed zero f = inl (refl, f.none refl)
   placed (suc q) f =
       let w = f.first (omega arith) in
@@ -86,7 +86,7 @@ module _ (s : List ℕ) (b : IsBook s) where
     abbrev pub RangeHere : ℕ → Type 0
     RangeHere = Placed entry_piece range_piece GoodRange s d.entry q a.stood.stands d.entry.ranges a.stood.good.ranges_good (entry_up_to d.entry) (entry_sized d.entry) (λ r. r.name ≡ name)
 
-    pub range_placed : ((range_in s name q ≡ 0) × None (λ r. r.name ≡ name) d.entry.ranges) ⊎ RangeHere (range_in s name q)
+    pub range_placed : ((range_in s name q ≡ 0) × NoneOf (λ r. r.name ≡ name) d.entry.ranges) ⊎ RangeHere (range_in s name q)
     unfolding range_in
     range_placed =
         let e : inside (λ e. range_of_name s e name) q ≡ range_of_name s q name = inside_some (λ e. range_of_name s e name) q (λ e. absurd (omega (arith, a.stood.some_place, e))) in
@@ -99,7 +99,7 @@ module _ (s : List ℕ) (b : IsBook s) where
     abbrev pub NumberHere : ℕ → Type 0
     NumberHere = Placed range_piece value_piece GoodValue s r q a.stands r.values a.good.values_good (range_up_to r) (range_sized r) (λ w. w.number ≡ n)
 
-    pub number_placed : ((value_of_number s q n ≡ 0) × None (λ w. w.number ≡ n) r.values) ⊎ NumberHere (value_of_number s q n)
+    pub number_placed : ((value_of_number s q n ≡ 0) × NoneOf (λ w. w.number ≡ n) r.values) ⊎ NumberHere (value_of_number s q n)
     number_placed =
         placed range_piece value_piece GoodValue s r q a.stands r.values a.good.values_good (range_up_to r) (range_sized r) (value_of_number s q n)
         (value_of_number_is s r q a.good a.stands n)
@@ -109,7 +109,7 @@ module _ (s : List ℕ) (b : IsBook s) where
     abbrev pub ValueHere : ℕ → Type 0
     ValueHere = NumberHere (value_of r dword) r q a
 
-    pub value_placed : ((named_in s q dword ≡ 0) × None (λ w. w.number ≡ value_of r dword) r.values) ⊎ ValueHere (named_in s q dword)
+    pub value_placed : ((named_in s q dword ≡ 0) × NoneOf (λ w. w.number ≡ value_of r dword) r.values) ⊎ ValueHere (named_in s q dword)
     unfolding named_in
     value_placed =
         let find : ℕ → ℕ = λ p. value_of_number s p (value_in s p dword) in

@@ -6,7 +6,7 @@ use mathlib.Core.Path.{◌≡◌, refl, sym, ap, subst, ◌∙◌}
 use mathlib.Core.Bool.{Bool, true, false}
 use mathlib.Core.List.{List, [], ◌∷◌, ◌++◌, map}
 use mathlib.Core.Logic.{◌⊎◌, inl, inr}
-use mathlib.Core.Option.{some-injective}
+use Rattle.std.proofs.lemmas.Option.{same_Some}
 use native.Mathlib.Omega.{arith}
 use borrow.Author.Tests.{ltb-true, ltb-false}
 use lib.Dec.{ltb}
@@ -30,7 +30,7 @@ use Rattle.field.specs.Source.{place_in, entry_of}
 use Rattle.field.specs.Ranges.{field_name, range_count, range_at, nth_range, range_named, range_name, value_place, value_name}
 use Rattle.book.specs.Finders.{before_name, name_place}
 use Rattle.field.specs.Names.{span_of, Names}
-use Rattle.meaning.specs.First.{None}
+use Rattle.meaning.specs.First.{NoneOf}
 use Rattle.meaning.specs.Packet.{Description}
 use Rattle.meaning.specs.Places.{Stands, PlaceOf, entry_up_to, RangeStands, ValueStands}
 use Rattle.meaning.specs.Questions.{IsSource}
@@ -160,7 +160,7 @@ module _ (s : List ℕ) (b : IsBook s) where
     named_says None q a name = rw (inside_none (λ e. finders.range_of_name s e name) q a) tt
     named_says (Some d) q a name = by (range_in s name q) (range_placed s b name d q a)
       where
-        by : (p : ℕ) → ((p ≡ 0) × None (λ r. r.name ≡ name) d.entry.ranges) ⊎ RangeHere s b name d q a p
+        by : (p : ℕ) → ((p ≡ 0) × NoneOf (λ r. r.name ≡ name) d.entry.ranges) ⊎ RangeHere s b name d q a p
             → RangeOfName b.tables (Some d) dword name (range_at s p dword)
         by zero (inl h) = h.1
         by zero (inr h) = absurd (omega (arith, h.stood.some_place))
@@ -200,7 +200,7 @@ module _ (s : List ℕ) (b : IsBook s) (d : Description) (before : List Range) (
   place_says : (n : ℕ) → NumberPlace b.tables d before range n (value_place s p n)
   place_says n = rw (found_at n) (by (number_placed s b n range p stood))
     where
-      by : ((value_of_number s p n ≡ 0) × None (λ w. w.number ≡ n) range.values) ⊎ NumberHere s b n range p stood (value_of_number s p n)
+      by : ((value_of_number s p n ≡ 0) × NoneOf (λ w. w.number ≡ n) range.values) ⊎ NumberHere s b n range p stood (value_of_number s p n)
           → NumberPlace b.tables d before range n (value_of_number s p n)
       by (inl h) = inr (h.1, h.0)
       by (inr h) =
@@ -209,7 +209,7 @@ module _ (s : List ℕ) (b : IsBook s) (d : Description) (before : List Range) (
   number_name_says : (n : ℕ) → NumberName range n (name_in s (value_place s p n))
   number_name_says n = rw (found_at n) (by (number_placed s b n range p stood))
     where
-      by : ((value_of_number s p n ≡ 0) × None (λ w. w.number ≡ n) range.values) ⊎ NumberHere s b n range p stood (value_of_number s p n)
+      by : ((value_of_number s p n ≡ 0) × NoneOf (λ w. w.number ≡ n) range.values) ⊎ NumberHere s b n range p stood (value_of_number s p n)
           → NumberName range n (name_in s (value_of_number s p n))
       by (inl h) = inr (h.1, name_none s (value_of_number s p n) h.0)
       by (inr h) = inl (h.value, h.first, value_name_at b.tables s h.value (value_of_number s p n) h.stood)
@@ -279,7 +279,7 @@ module _ (s : List ℕ) (b : IsBook s) (o : Option Description) (dword : ℕ) wh
   one_is_range : (before other : List Range) → before ≡ other → (range : Range) → (x y : RangeAnswer) → IsRange b.tables o dword before range x
       → IsRange b.tables o dword other range y → x ≡ y
   one_is_range before other e range x y f g =
-      let same : f.description ≡ g.description = some-injective f.description g.description (sym f.description_is ∙ g.description_is) in
+      let same : f.description ≡ g.description = same_Some f.description g.description (sym f.description_is ∙ g.description_is) in
       let stands : RangeStands b.tables g.description other x.place.at =
       subst (λ d. RangeStands b.tables d other x.place.at) same (subst (λ l. RangeStands b.tables f.description l x.place.at) e f.stands) in
       let place : x.place.at ≡ y.place.at = one_range_stands s b g.description other x.place.at y.place.at stands g.stands in

@@ -5,7 +5,7 @@ use mathlib.Core.Path.{◌≡◌, refl, sym, ap, subst, ◌∙◌}
 use mathlib.Core.Bool.{Bool, true, false, cond, false≢true}
 use mathlib.Core.List.{List, [], ◌∷◌, ◌++◌, map}
 use mathlib.Core.Logic.{◌⊎◌, inl, inr}
-use mathlib.Core.Option.{some-ne-none}
+use Rattle.std.proofs.lemmas.Option.{none-some}
 use native.Mathlib.Omega.{arith}
 use borrow.Author.Tests.{leb-true, le-leb, ltb-true, lt-ltb}
 use lib.Dec.{leb, ltb}
@@ -18,7 +18,7 @@ use Rattle.book.specs.Finders.{control_table, uuid_table}
 use Rattle.packet.specs.Packet.{is_xdomain, zero_uuid}
 use Rattle.field.specs.declared.Source.TheVariants as S
 use Rattle.field.specs.Source.{stands_in, source_of}
-use Rattle.meaning.specs.First.{None, Else}
+use Rattle.meaning.specs.First.{NoneOf, Else}
 use Rattle.meaning.specs.Packet.{Description, Taken, TableOf, Each, Behind, StepOne, GoesOn, Stays, ProtocolTable, IsPacket}
 use Rattle.meaning.specs.Places.{Stands}
 use Rattle.meaning.specs.Questions.{IsSource}
@@ -95,7 +95,7 @@ module _ (s : List ℕ) (b : IsBook s) (d : Description) (q : ℕ) (f : Stands b
     in_own : d.owner ≡ t.owner → stands_in s (Some p) q ≡ true
     unfolding stands_in start
     in_own e =
-        let ours : None (λ u. u.owner ≡ d.owner) a.before =
+        let ours : NoneOf (λ u. u.owner ≡ d.owner) a.before =
         all_map (λ u h z. h (z ∙ e)) a.before
         (apart_before (λ u v. u.owner ≡ v.owner) a.before t a.behind (subst (Apart (λ u v. u.owner ≡ v.owner)) a.among b.tables_apart)) in
         let w = one_split (λ (u : Table). u.owner ≡ d.owner) f.before a.before f.table t f.behind a.behind (sym f.among ∙ a.among)
@@ -113,7 +113,7 @@ module _ (s : List ℕ) (b : IsBook s) (d : Description) (q : ℕ) (f : Stands b
   told_in w None (Some t) is a c e = absurd a
   told_in w None None is a true e = absurd (false≢true e)
   told_in w None None is a false e =
-      λ h. among_all (λ u. u.owner ≡ w → ⊥) f.before f.table f.behind (subst (None (λ u. u.owner ≡ w)) f.among is) (sym f.owner_is ∙ h)
+      λ h. among_all (λ u. u.owner ≡ w → ⊥) f.before f.table f.behind (subst (NoneOf (λ u. u.owner ≡ w)) f.among is) (sym f.owner_is ∙ h)
 
 -- ---- whose table a packet's description comes from
 
@@ -147,7 +147,7 @@ behind_owned : (k : ℕ) (tables : List Table) (ds : List ℕ) (before : ℕ →
     → (u : Option Uuid) (t : Option Table) → ProtocolTable tables u t → (i : ℕ) (o : Option Description) → Behind ds before t i o → Owned k o
 behind_owned k tables ds known f (Some u) (Some t) is i o h =
     else_owned k (f i) (else_owned k (taken_owned k _ t (inr (u, is.so))) (taken_owned k _ t (inr (u, is.so)))) o h.takes
-behind_owned k tables ds known f None (Some t) is i o h = absurd (some-ne-none t is)
+behind_owned k tables ds known f None (Some t) is i o h = absurd (none-some t (sym is))
 behind_owned k tables ds known f u None is i o h = f i o h
 
 pub packet_owned : (k : ℕ) (tables : List Table) (ds : List ℕ) (os : List (Option Description)) (u : Option Uuid) (n : Option ℕ) → IsPacket k tables ds os u n → All (Owned k) os

@@ -8,7 +8,7 @@ use Rattle.field.specs.declared.Field.{Field}
 use Rattle.field.specs.declared.Span.{Span}
 use Rattle.field.specs.declared.Range.{Range as RangeAnswer}
 use Rattle.field.specs.Ranges.{field_name, range_count, nth_range, range_named, range_name, value_place, value_name}
-use Rattle.meaning.specs.First.{None, First}
+use Rattle.meaning.specs.First.{NoneOf, First}
 use Rattle.meaning.specs.Packet.{Description, ranges_of, value_of, ValueNumbered}
 use Rattle.meaning.specs.Places.{RangeStands, ValueStands}
 
@@ -53,7 +53,7 @@ module _ (tables : List Table) (o : Option Description) (dword : ℕ) where
 
   abbrev pub RangeOfName : List ℕ → Told RangeAnswer → Type 0
   RangeOfName name (is r) = FirstNamed name r
-  RangeOfName name absent = None (λ q. q.name ≡ name) (ranges_of o)
+  RangeOfName name absent = NoneOf (λ q. q.name ≡ name) (ranges_of o)
   RangeOfName name (refused n) = ⊥
 
 -- the place of a number among the values of a range

@@ -5,8 +5,8 @@ use Rattle.tlv.specs.Grammar.{All}
 
 module _ {X : Type 0} (So : X → Type 0) where
   -- none of them is so
-  abbrev pub None : List X → Type 0
-  None = All (λ x. So x → ⊥)
+  abbrev pub NoneOf : List X → Type 0
+  NoneOf = All (λ x. So x → ⊥)
 
   -- the first of them that is so: none before it is
   pub record First (xs : List X) (x : X) : Type 0 where
@@ -14,12 +14,12 @@ module _ {X : Type 0} (So : X → Type 0) where
     pub behind : List X
     pub among : xs ≡ before ++ (x ∷ behind)
     pub so : So x
-    pub none_before : None before
+    pub none_before : NoneOf before
 
   -- the first that is so, or nothing where none is
   abbrev pub FirstOf : List X → Option X → Type 0
   FirstOf xs (Some x) = First xs x
-  FirstOf xs None = None xs
+  FirstOf xs None = NoneOf xs
 
 -- the one, else the other
 abbrev pub Else : {X : Type 0} → (Option X → Type 0) → (Option X → Type 0) → Option X → Type 0

@@ -7,7 +7,7 @@ use Rattle.bits.specs.Range.{range_of}
 use Rattle.book.specs.declared.Uuid.{Uuid}
 use Rattle.book.specs.Grammar.{Value, Range, Entry, Owner, kind, uuid, Table}
 use Rattle.packet.specs.Packet.{is_read_response_or_write_request, is_xdomain, zero_uuid}
-use Rattle.meaning.specs.First.{None, First, FirstOf, Else}
+use Rattle.meaning.specs.First.{NoneOf, First, FirstOf, Else}
 
 -- ---- descriptions
 
@@ -28,7 +28,7 @@ OfType i type e = (e.offset ≡ i) × (e.type ≡ type)
 -- what is taken from a table: the first of its entries that is so, or nothing where none is
 abbrev pub Taken : (Entry → Type 0) → Table → Option Description → Type 0
 Taken So t (Some d) = (d.owner ≡ t.owner) × First So t.entries d.entry
-Taken So t None = None So t.entries
+Taken So t None = NoneOf So t.entries
 
 -- the field is named so
 abbrev pub Named : List ℕ → Option Description → Type 0
@@ -170,7 +170,7 @@ pub record FoundAt (So : Option Description → Type 0) (os : List (Option Descr
 -- just after the first field that is so, else none
 abbrev pub JustAfter : (Option Description → Type 0) → List (Option Description) → Option ℕ → Type 0
 JustAfter So os (Some n) = (m : ℕ) × FoundAt So os m × (n ≡ suc m)
-JustAfter So os None = None So os
+JustAfter So os None = NoneOf So os
 
 -- where the view starts: for kinds 2 and 3 at n, the number of control entries; for kinds 8 and 9 just after the first field with
 -- `Properties Block Generation`, else none; for other kinds none

@@ -12,7 +12,7 @@ use Rattle.field.specs.declared.Field.{Field}
 use Rattle.questions.specs.declared.PacketType.{PacketType}
 use Rattle.text.specs.Told.{Told, is, absent, refused}
 use Rattle.questions.specs.Described.{is_read, is_write}
-use Rattle.meaning.specs.First.{First, None}
+use Rattle.meaning.specs.First.{First, NoneOf}
 use Rattle.meaning.specs.Packet.{Description, Named, RangeNamed, value_of, TypeNamed, IsUuid, Holds, FoundAt, IsPacket}
 use Rattle.meaning.specs.Places.{Stands, ValueStands}
 use Rattle.meaning.specs.Call.{IsNumber, NoNumber}
@@ -62,7 +62,7 @@ module _ (ds : List ℕ) (os : List (Option Description)) where
   -- what is told of it: cut to so many bits, or none
   abbrev pub Tells : ℕ → List ℕ → Told ℕ → Type 0
   Tells bits name (is v) = (w : ℕ) × Asked name w × (v ≡ w % 2 ^ bits)
-  Tells bits name absent = None (Holds name) os
+  Tells bits name absent = NoneOf (Holds name) os
   Tells bits name (refused n) = ⊥
 
   -- adapter to 8 bits
@@ -154,7 +154,7 @@ module _ (ds : List ℕ) (tables : List Table) (os : List (Option Description)) 
 
   abbrev pub FieldSo : (Option Description → Type 0) → Told Field → Type 0
   FieldSo So (is f) = FieldFirst So f
-  FieldSo So absent = None So os
+  FieldSo So absent = NoneOf So os
   FieldSo So (refused n) = ⊥
 
   -- by name, or by the name of a range
@@ -182,7 +182,7 @@ module _ (ds : List ℕ) (os : List (Option Description)) where
   -- the type's name
   abbrev pub TypeNameTold : Told (List ℕ) → Type 0
   TypeNameTold (is name) = TypeNameAsked name
-  TypeNameTold absent = None (Holds (bytes "Packet Type")) os
+  TypeNameTold absent = NoneOf (Holds (bytes "Packet Type")) os
   TypeNameTold (refused n) = (n ≡ 28) × Unnamed
 
 module _ (ds : List ℕ) (tables : List Table) (os : List (Option Description)) where
@@ -201,7 +201,7 @@ module _ (ds : List ℕ) (tables : List Table) (os : List (Option Description)) 
 
   abbrev pub TypeTold : Told PacketType → Type 0
   TypeTold (is t) = TypeAsked t
-  TypeTold absent = None (Holds (bytes "Packet Type")) os
+  TypeTold absent = NoneOf (Holds (bytes "Packet Type")) os
   TypeTold (refused n) = (n ≡ 28) × Unnamed ds os
 
 -- ---- 20 to 25 come first; then what is said of the packet

@@ -1,4 +1,3 @@
--- The laws of what is moved, of the sink and of sentences.
-pub mod Moves
+-- The laws of the sink and of sentences.
 pub mod Sinks
 pub mod Sentences

@@ -1,129 +1,69 @@
--- Rows counted byte by byte: those counted and those that end in the rest are all. A text that is said waits, or what waited was written before. Assumes nothing.
-use Prim.Native.Nat.{ℕ, ◌+◌, ◌-◌, ◌^◌, ◌≤◌, ◌<◌, min}
-use mathlib.Core.Path.{◌≡◌, refl, ap, ◌∙◌}
+-- A text that is said waits, or what waited was written before. Assumes nothing.
+use Prim.Native.Nat.{ℕ, ◌+◌, ◌-◌, ◌≤◌, ◌<◌}
+use mathlib.Core.Path.{◌≡◌, refl, sym, ap, ◌∙◌}
+use mathlib.Core.Bool.{Bool, true, false, cond}
 use mathlib.Core.List.{List}
-use native.Mathlib.Numerals.{add-one}
 use native.Mathlib.Omega.{arith}
-use lib.ListN.{length, get_or, drop, take, drop_of_length-le}
-use lib.Seq.{drop-cons, take-length}
+use lib.Dec.{eqb}
+use lib.ListN.{length, take}
+use lib.Seq.{take-length}
 use borrow.Author.Tests.{le-leb}
-use Rattle.print.specs.Put.{Placed, buffer_after, place_after}
+use Rattle.std.specs.Prelude.{Option, Some, None, is_some}
+use Rattle.std.specs.List.{count_by}
+use Rattle.std.proofs.lemmas.List.Recursion.{is_count_by}
+use Rattle.text.proofs.Places.{clash}
+use Rattle.print.specs.declared.page.Page.{Page}
+use Rattle.print.specs.Put.{buffer_after, place_after}
+use Rattle.print.specs.Page.{Puts}
 use Rattle.channel.specs.declared.sink.Sink.{Sink}
-use Rattle.channel.specs.declared.writing.Wrote.{Wrote}
-use Rattle.channel.specs.Moving.{Written}
-use Rattle.channel.specs.Sink.{row_end, rows_in, Passed, Flushed, Waits, Said}
+use Rattle.channel.specs.Sink.{row_end, rows_in, Waits, Flushed, Said}
 
--- the rows so far, each within a byte of its own, and those behind
-pub record Counted (text : List ℕ) (rows i : ℕ) : Type 0 where
-  pub within : i ≤ length text
-  pub few : rows ≤ i
-  pub all : rows + rows_in (drop i text) ≡ rows_in text
+-- rows are counted as newlines are
+pub rows_are : (text : List ℕ) → rows_in text ≡ count_by (λ b. eqb b 10) text
+unfolding rows_in row_end
+rows_are text = is_count_by rows_in (λ b. eqb b 10) refl (λ b s. go (eqb b 10) (rows_in s)) text
+  where
+    go : (t : Bool) (n : ℕ) → cond t 1 0 + n ≡ cond t (1 + n) n
+    go true n = refl
+    go false n = omega arith
 
-pub counted_starts : (text : List ℕ) → Counted text 0 0
-counted_starts text = record { within = omega arith; few = omega arith; all = omega arith }
+pub none_left : {A : Type 0} (o : Option A) → is_some o ≡ false → o ≡ None
+none_left None e = refl
+none_left (Some x) e = absurd (clash refl e)
 
-pub counted_steps : {text : List ℕ} {rows i n : ℕ} → Counted text rows i → i < length text → (n ≡ row_end (get_or text i 0)) × (n ≤ 1) → Counted text (rows + n) (i + 1)
-unfolding rows_in
-counted_steps {text} {rows} {i} {n} k h e =
-    let q : rows_in (drop i text) ≡ row_end (get_or text i 0) + rows_in (drop (i + 1) text) = rw (add-one, drop-cons text i 0) in
-    record {
-      within = omega arith;
-      few = omega (arith, k.few, e.1);
-      all = omega (arith, k.all, q, e.0);
-    }
-
-pub counted_ends : {text : List ℕ} {rows i : ℕ} → Counted text rows i → length text ≤ i → rows ≡ rows_in text
-unfolding rows_in
-counted_ends {text} {rows} {i} k h =
-    let q : rows_in (drop i text) ≡ 0 = ap rows_in (drop_of_length-le text h) in
-    omega (arith, k.all, q)
-
--- what fits waits
-pub waits_put : {out text exit : List ℕ} {at e whole : ℕ} → at + length text ≤ length out → Placed out at text exit e → Waits out at text exit whole (record { at = e; whole = whole; errno = 0 })
+waits_put : (s m : Sink) (text : List ℕ) {q : Page} → m.page.out.now ≡ s.page.out.now → m.fault ≡ None → m.page.at + length text ≤ length m.page.out.now → Puts m.page text q → Waits s m.page.at text m.whole (record { to = m.to; page = q; whole = m.whole; fault = m.fault })
 unfolding buffer_after place_after
-waits_put h p =
+waits_put s m text same sound h p =
     record {
-      buffer = p.buffer ∙ rw (le-leb _ _ h);
-      place = p.place ∙ rw (le-leb _ _ h);
+      buffer = p.placed.buffer ∙ rw (le-leb _ _ h, same) refl;
+      place = p.placed.place ∙ rw (le-leb _ _ h) refl;
       rows = refl;
-      sound = refl;
+      sound = sound;
     }
 
--- a text that was written, and the rows counted in what went out
-pub passed_on : {text : List ℕ} {whole n : ℕ} {w : Wrote} → Written (length text) w → n ≡ min (whole + rows_in (take w.bytes text)) (2 ^ 64 - 1) → Passed text whole (record { at = 0; whole = n; errno = w.errno })
-passed_on {w = w} k e =
-    record {
-      bytes = w.bytes;
-      within = k.within;
-      all = k.all;
-      cut = k.cut;
-      empty = refl;
-      rows = e;
-    }
-
-pub flushed_after_fault : (out : List ℕ) (sink : Sink) → 0 < sink.errno → Flushed out sink sink
-flushed_after_fault out sink h = record { after_fault = λ x. refl; passed = λ e. absurd (omega arith) }
-
-pub flushed_now : {out : List ℕ} {sink r : Sink} → sink.errno ≤ 0 → Passed (take (min sink.at (length out)) out) sink.whole r → Flushed out sink r
-flushed_now h p = record { after_fault = λ x. absurd (omega arith); passed = λ e. p }
-
-pub said_after_fault : (out : List ℕ) (sink : Sink) (text : List ℕ) → 0 < sink.errno → Said out sink text out sink
-said_after_fault out sink text h =
-    record {
-      after_fault = λ x. (refl, refl);
-      behind = λ e. absurd (omega arith);
-      alone = λ e. absurd (omega arith);
-      past = λ e. absurd (omega arith);
-      within = λ x. x;
-    }
-
-module _ {out : List ℕ} {sink : Sink} {text : List ℕ} {a : ℕ} (sound : sink.errno ≤ 0) (a-is : a ≡ min sink.at (length out)) where
-  pub said_behind : {exit : List ℕ} {r : Sink} → length text ≤ length out - a → Waits out a text exit sink.whole r → Said out sink text exit r
-  said_behind {exit} {r} room w =
+module _ (s : Sink) (text : List ℕ) (sound : is_some s.fault ≡ false) where
+  pub said_behind : {q : Page} → length text ≤ length s.page.out.now - s.page.at → Puts s.page text q → Said s text (record { to = s.to; page = q; whole = s.whole; fault = s.fault })
+  said_behind {q} h p =
       record {
-        after_fault = λ x. absurd (omega arith);
-        behind = λ e h. let q : a ≡ sink.at = omega arith in rw (← q) w;
-        alone = λ e h l. absurd (omega arith);
+        after_fault = λ x. absurd (clash x sound);
+        behind = λ e fits. waits_put s s text refl e fits p;
+        alone = λ e l. absurd (omega (arith, s.page.inside));
         past = λ e l. absurd (omega arith);
-        within = λ h. omega (arith, w.place);
+        same = p.same;
       }
 
-  module _ (no_room : length out - a < length text) where
-    -- what waited was not written
-    pub said_cut : {r : Sink} → Flushed out sink r → 0 < r.errno → Said out sink text out r
-    said_cut {r} f h =
-        record {
-          after_fault = λ x. absurd (omega arith);
-          behind = λ e k. absurd (omega arith);
-          alone = λ e k l m z. absurd (omega arith);
-          past = λ e l. (f.passed e).empty;
-          within = λ k. let q : sink.errno ≡ 0 = omega arith in omega (arith, (f.passed q).empty);
-        }
-
-    pub said_past : {r : Sink} → length out < length text → r.at ≡ 0 → Said out sink text out r
-    said_past {r} long z =
-        record {
-          after_fault = λ x. absurd (omega arith);
-          behind = λ e k. absurd (omega arith);
-          alone = λ e k l m q. absurd (omega arith);
-          past = λ e l. z;
-          within = λ k. omega arith;
-        }
-
-    pub said_alone : {exit : List ℕ} {clear r : Sink} → Flushed out sink clear → clear.errno ≤ 0 → length text ≤ length out → Waits out 0 text exit clear.whole r → Said out sink text exit r
-    said_alone {exit} {clear} {r} f h fits w =
-        record {
-          after_fault = λ x. absurd (omega arith);
-          behind = λ e k. absurd (omega arith);
-          alone = λ e k l m q. record { buffer = w.buffer; place = w.place; rows = w.rows ∙ whole_is e k; sound = w.sound };
-          past = λ e l. absurd (omega arith);
-          within = λ k. omega (arith, w.place);
-        }
-      where
-        whole_is : sink.errno ≡ 0 → sink.at ≤ length out → clear.whole ≡ min (sink.whole + rows_in (take sink.at out)) (2 ^ 64 - 1)
-        whole_is e k =
-            let p = f.passed e in
-            let n : min sink.at (length out) ≡ sink.at = omega arith in
-            let z : clear.errno ≡ 0 = omega arith in
-            let b : p.bytes ≡ length (take (min sink.at (length out)) out) = p.all z in
-            p.rows ∙ rw (b, take-length, n)
+  -- what waited was written, and the text waits alone
+  pub said_alone : {m : Sink} {q : Page} → length s.page.out.now - s.page.at < length text → Flushed s m → is_some m.fault ≡ false → length text ≤ length m.page.out.now → Puts m.page text q → Said s text (record { to = m.to; page = q; whole = m.whole; fault = m.fault })
+  said_alone {m} {q} no_room f h fits p =
+      let gone = f.passed (none_left s.fault sound) in
+      let none : gone.wrote.fault ≡ None = sym gone.passed.fault ∙ none_left m.fault h in
+      let all : gone.wrote.rows ≡ rows_in (take s.page.at s.page.out.now) = gone.written.rows ∙ rw (gone.written.all none, take-length (take s.page.at s.page.out.now)) refl in
+      record {
+        after_fault = λ x. absurd (clash x sound);
+        behind = λ e k. absurd (omega arith);
+        alone = λ e l k z.
+            let w = waits_put s m text gone.passed.buffer.bytes z (omega (arith, gone.passed.empty)) p in
+            record { buffer = rw gone.passed.empty at w.buffer; place = rw gone.passed.empty at w.place; rows = gone.passed.rows ∙ rw all refl; sound = w.sound };
+        past = λ e l. absurd (omega (arith, ap length gone.passed.buffer.bytes));
+        same = p.same ∙ gone.passed.buffer.same;
+      }

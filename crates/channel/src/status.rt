@@ -7,20 +7,18 @@ use std::process::ExitCode;
 
 // What kept a program from its work: a read or a write that failed (1), a call that is wrong in its arguments or its book (2), a record
 // among the lines (3).
-#[derive(Clone, Copy)]
+#[derive(Clone, Copy, Debug, PartialEq, Eq)]
 pub enum Status {
-    Fault,
-    BadCall,
-    Record,
+    Fault = 1,
+    BadCall = 2,
+    Record = 3,
 }
 
 // The status as `main` returns it.
-pub fn give_status(status: Status) -> ExitCode
-    ensures { exit_status result ≡ status_number status }
-{
-    match status {
-        Status::Fault => ExitCode::from(1),
-        Status::BadCall => ExitCode::from(2),
-        Status::Record => ExitCode::from(3),
+impl From<Status> for ExitCode {
+    ghost from_gives = { λ status code. exit_status code ≡ status_number status };
+
+    fn from(status: Status) -> ExitCode {
+        ExitCode::from(status as u8)
     }
 }

@@ -1,64 +1,42 @@
 // Writing: all of a text, or how much of it and why no more.
 ghost use Rattle.std.specs.Prelude.{length};
-ghost use Rattle.channel.specs.Moving.{Read, Written};
+ghost use Rattle.channel.specs.Moving.{Took, Written};
 
-use crate::fault::{NO_REASON, fault};
-use crate::reading::{Got, moved};
+use crate::fault::{Fault, NO_REASON, is_passing};
 use std::io;
 
-// How many bytes were written, and 0 or the errno of the write that failed.
-#[derive(Clone, Copy)]
-pub struct Wrote {
+// A write that failed, and how many bytes were written before.
+#[derive(Clone, Copy, Debug, PartialEq, Eq)]
+pub struct Cut {
     pub bytes: usize,
-    pub errno: u32,
+    pub fault: Fault,
 }
 
-// All of the buffer, from one write to the next.
-pub fn write_whole<W: io::Write>(to: &mut W, buf: &[u8]) -> Wrote
+// All of the buffer, from one write to the next; how many bytes that are.
+pub fn write_whole<W: io::Write>(to: &mut W, buf: &[u8]) -> Result<usize, Cut>
     ensures { Written (length buf.now) result }
 {
-    let mut done: usize = 0;
-    while done < buf.len() {
-        match write_some(to, &buf[done..]) {
-            Got::Bytes(n) => {
-                done += n;
-            }
-            Got::End => {
-                return Wrote {
-                    bytes: done,
-                    errno: NO_REASON,
-                };
-            }
-            Got::Failed(why) => {
-                return Wrote {
-                    bytes: done,
-                    errno: why,
-                };
-            }
+    let mut bytes = 0;
+    while bytes < buf.len() {
+        match write_some(to, &buf[bytes..]) {
+            Ok(n) => bytes += n,
+            Err(fault) => return Err(Cut { bytes, fault }),
         }
     }
-    Wrote {
-        bytes: done,
-        errno: 0,
-    }
+    Ok(bytes)
 }
 
-// Some of the buffer. A write that takes nothing is an end: made again, it might take nothing for ever.
-fn write_some<W: io::Write>(to: &mut W, buf: &[u8]) -> Got
-    ensures { Read (length buf.now) result }
+// Some of the buffer, at least a byte. A write that takes nothing is a failure: made again, it might take nothing for ever.
+fn write_some<W: io::Write>(to: &mut W, buf: &[u8]) -> Result<usize, Fault>
+    ensures { Took (length buf.now) result }
 {
-    let mut turns = u64::MAX;
-    while 0 < turns {
+    for _ in 0..u64::MAX {
         match to.write(buf) {
-            Ok(n) => return moved(n),
-            Err(error) => {
-                let why = fault(&error);
-                if 0 < why {
-                    return Got::Failed(why);
-                }
-            }
+            Ok(0) => return Err(NO_REASON),
+            Ok(n) => return Ok(n),
+            Err(error) if is_passing(&error) => {}
+            Err(error) => return Err(error.into()),
         }
-        turns -= 1;
     }
-    Got::Failed(NO_REASON)
+    Err(NO_REASON)
 }

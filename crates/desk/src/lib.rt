@@ -14,7 +14,6 @@ ghost use Rattle.desk.specs.Kept.{no_note, no_counts};
 ghost use Rattle.desk.specs.Turn.{Entered, Refusing, Turned};
 
 use crate::reports::{counted, noted, row_of};
-use channel::sink::sum;
 use entry::Entry;
 use scan::{Pieces, parse};
 use table::{Table, empty, step_held};
@@ -76,7 +75,7 @@ fn refuse(number: u8, desk: Desk) -> Turn
     ensures { Refusing number desk result }
 {
     let mut counts = desk.counts;
-    counts.lines = sum(counts.lines, 1);
+    counts.lines = counts.lines.saturating_add(1);
     let mut next = desk;
     next.counts = counts;
     Turn {
@@ -94,7 +93,7 @@ fn step_entry(e: Entry, desk: Desk) -> Turn
     let table = held.table;
     let report = held.report;
     let note = Note {
-        line: sum(counts.lines, 1),
+        line: counts.lines.saturating_add(1),
         seconds: e.seconds,
         microseconds: e.microseconds,
     };

@@ -3,7 +3,6 @@ ghost use Rattle.std.specs.Prelude.{◌≡◌, set};
 ghost use Rattle.desk.specs.Kept.{notes_after, counts_after, row_by, answer_row, moment_of};
 
 use crate::{Notes, note_at};
-use channel::sink::sum;
 use slots::decide::Report;
 use unanswered_rows::gap::{Gap, Moment, gap_of};
 use unanswered_rows::{Counts, Note, Row};
@@ -40,23 +39,23 @@ pub fn counted(counts: Counts, report: Report) -> Counts
     ensures { result ≡ counts_after counts report }
 {
     let mut next = counts;
-    next.lines = sum(counts.lines, 1);
-    next.entries = sum(counts.entries, 1);
+    next.lines = counts.lines.saturating_add(1);
+    next.entries = counts.entries.saturating_add(1);
     match report {
         Report::Taken(_) => {
-            next.taken = sum(counts.taken, 1);
+            next.taken = counts.taken.saturating_add(1);
             return next;
         }
         Report::Answered(_) => {
-            next.answered = sum(counts.answered, 1);
+            next.answered = counts.answered.saturating_add(1);
             return next;
         }
         Report::TurnedAway => {
-            next.away = sum(counts.away, 1);
+            next.away = counts.away.saturating_add(1);
             return next;
         }
         Report::Stray => {
-            next.stray = sum(counts.stray, 1);
+            next.stray = counts.stray.saturating_add(1);
             return next;
         }
         Report::Dropped => next,

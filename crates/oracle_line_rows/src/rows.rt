@@ -1,7 +1,7 @@
 // What a replaying program reads and writes: frames of standard input, and the rows that answer them, which wait on a page to be written.
 ghost use Rattle.std.specs.Prelude.{◌≡◌, ◌+◌, ◌≤◌, length};
 
-use channel::reading::{Filled, read_whole};
+use channel::reading::read_whole;
 use channel::streams::Streams;
 use channel::writing::write_whole;
 use print::page::Page;
@@ -37,7 +37,7 @@ impl<'a> Rows<'a> {
     // The buffer filled from the input; nothing where the input ends before, or a read fails.
     pub fn fill(&mut self, buffer: &mut [u8]) -> Option<()> {
         match read_whole(&mut self.streams.input, buffer) {
-            Filled::Bytes(n) if n == buffer.len() => Some(()),
+            Ok(n) if n == buffer.len() => Some(()),
             _ => None,
         }
     }
@@ -62,7 +62,7 @@ impl<'a> Rows<'a> {
     fn write(&mut self)
         ensures { self.new.page.at ≡ 0 }
     {
-        write_whole(&mut self.streams.output, self.page.text());
+        let _ = write_whole(&mut self.streams.output, self.page.text());
         self.page.at = 0;
     }
 }

@@ -1,51 +1,55 @@
 -- Texts that are said one behind the other are their concatenation said at once, since each waits where the one before it ended. Assumes nothing.
-use Prim.Native.Nat.{ℕ, ◌+◌, ◌-◌, ◌≤◌, ◌<◌}
+use Prim.Native.Nat.{ℕ, ◌+◌, ◌≤◌}
 use mathlib.Core.Path.{◌≡◌, refl, sym, ap, ◌∙◌}
-use mathlib.Core.List.{List, [], ◌∷◌, ◌++◌}
+use mathlib.Core.Bool.{true}
+use mathlib.Core.List.{List, [], ◌∷◌, ◌++◌, append-nil, append_assoc}
 use native.Mathlib.Omega.{arith}
 use lib.ListN.{length, take, drop, length-append}
-use lib.Seq.{sets-eq, length-sets, take_at, take-add, take-length}
+use lib.Seq.{sets-eq, length-sets, take_at}
+use Rattle.std.proofs.lemmas.List.{take-append-drop}
+use Rattle.std.specs.Prelude.{Option, Some, None, is_some}
+use Rattle.entry.specs.declared.events.Event.{Event}
+use Rattle.print.specs.declared.page.Page.{Page}
+use Rattle.print.specs.Page.{Puts}
 use Rattle.channel.specs.declared.sink.Sink.{Sink}
 use Rattle.channel.specs.Sink.{Waits, Said}
-use Rattle.listing_rows.specs.Rows.{Put}
-use Rattle.listing_rows.proofs.Putting.{put_then}
+use Rattle.listing_rows.specs.Rows.{Put, PutOn}
+use Rattle.listing_rows.proofs.Putting.{put_whole, put_then}
 use Rattle.escape.specs.Escape.{escaped}
-use Rattle.saying.specs.Telling.{Told, name_text}
+use Rattle.saying.specs.Telling.{Told, name_text, event_text}
 use Rattle.escape.proofs.Escaping.{escaped_append}
 
 -- what `say` says
-pub said_told : {out text exit : List ℕ} {sink r : Sink} → Said out sink text exit r → Told out sink text exit r
-said_told s = record { after_fault = s.after_fault; waits = s.behind }
+pub said_told : {s r : Sink} {text : List ℕ} → Said s text r → Told s text r
+said_told x = record { after_fault = x.after_fault; waits = x.behind; same = x.same }
 
-pub nothing_told : {out : List ℕ} {sink : Sink} → Told out sink [] out sink
-nothing_told {out} {sink} =
+pub nothing_told : {s : Sink} → Told s [] s
+nothing_told {s} =
     record {
-      after_fault = λ h. (refl, refl);
+      after_fault = λ h. refl;
       waits = λ e h. record { buffer = refl; place = omega arith; rows = refl; sound = e };
+      same = refl;
     }
 
-pub told_same : {out s t exit : List ℕ} {sink r : Sink} → s ≡ t → Told out sink s exit r → Told out sink t exit r
+pub told_same : {s r : Sink} {a b : List ℕ} → a ≡ b → Told s a r → Told s b r
 told_same e p = rw (← e) p
 
-waits_put : {out text exit : List ℕ} {at whole : ℕ} {r : Sink} → at + length text ≤ length out → Waits out at text exit whole r → Put out at text exit r.at
+waits_put : {s r : Sink} {at whole : ℕ} {text : List ℕ} → at + length text ≤ length s.page.out.now → Waits s at text whole r → Put s.page.out.now at text r.page.out.now r.page.at
 waits_put h w = record { fits = h; buffer = w.buffer; place = w.place }
 
 -- one text behind another
-pub told_then : {out a b mid exit : List ℕ} {sink m r : Sink} → Told out sink a mid m → Told mid m b exit r → Told out sink (a ++ b) exit r
-told_then {out} {a} {b} {mid} {exit} {sink} {m} {r} x y = record { after_fault = fault; waits = both }
+pub told_then : {s m r : Sink} {a b : List ℕ} → Told s a m → Told m b r → Told s (a ++ b) r
+told_then {s} {m} {r} {a} {b} x y = record { after_fault = fault; waits = both; same = y.same ∙ x.same }
   where
-    fault : 0 < sink.errno → (r ≡ sink) × (exit ≡ out)
-    fault h =
-        let p = x.after_fault h in
-        let q = y.after_fault (rw p.0 h) in
-        (q.0 ∙ p.0, q.1 ∙ p.1)
+    fault : is_some s.fault ≡ true → r ≡ s
+    fault h = let p = x.after_fault h in y.after_fault (rw p h) ∙ p
 
-    both : sink.errno ≡ 0 → sink.at + length (a ++ b) ≤ length out → Waits out sink.at (a ++ b) exit sink.whole r
+    both : s.fault ≡ None → s.page.at + length (a ++ b) ≤ length s.page.out.now → Waits s s.page.at (a ++ b) s.whole r
     both e h =
-        let fits : sink.at + length a ≤ length out = omega (arith, length-append a b) in
+        let fits : s.page.at + length a ≤ length s.page.out.now = omega (arith, length-append a b) in
         let w = x.waits e fits in
-        let size : length mid ≡ length out = ap length w.buffer ∙ length-sets out sink.at a in
-        let more : m.at + length b ≤ length mid = omega (arith, length-append a b, w.place) in
+        let size : length m.page.out.now ≡ length s.page.out.now = ap length w.buffer ∙ length-sets s.page.out.now s.page.at a in
+        let more : m.page.at + length b ≤ length m.page.out.now = omega (arith, length-append a b, w.place) in
         let v = y.waits w.sound more in
         let p = put_then (waits_put fits w) (waits_put more v) in
         record { buffer = p.buffer; place = p.place; rows = v.rows ∙ w.rows; sound = v.sound }
@@ -56,41 +60,56 @@ put_front {out} {s} {exit} {r} p =
     let e : r ≡ length s = omega (arith, p.place) in
     ap (take r) (p.buffer ∙ sets-eq s out 0 p.fits) ∙ take_at s (drop (0 + length s) out) r (sym e)
 
+-- a text that was put on an empty page is what the page has
+pub page_front : {p q : Page} {s : List ℕ} → p.at ≡ 0 → PutOn p s q → take q.at q.out.now ≡ s
+page_front e x = put_front (rw e at x.put)
+
+pub put_front_on : {p q : Page} {s : List ℕ} → p.at ≡ 0 → length s ≤ length p.out.now → Puts p s q → take q.at q.out.now ≡ s
+put_front_on {p} {q} e h x = page_front {p = p} {q = q} e (record { put = put_whole (omega arith) x.placed; same = x.same })
+
 pub no_name : (word name : List ℕ) → length name ≡ 0 → [] ≡ name_text word name
 unfolding name_text
 no_name word [] e = refl
 no_name word (b ∷ s) e = absurd (omega arith)
 
 -- so where there is no name, nothing said is all that is to be said
-pub no_name_said : (word name out : List ℕ) (sink : Sink) → length name ≡ 0 → Told out sink (name_text word name) out sink
-no_name_said word name out sink e = told_same (no_name word name e) nothing_told
+pub no_name_said : (word name : List ℕ) (s : Sink) → length name ≡ 0 → Told s (name_text word name) s
+no_name_said word name s e = told_same (no_name word name e) nothing_told
 
 some_name : (word name : List ℕ) → (length name ≡ 0 → ⊥) → word ++ escaped name ≡ name_text word name
 unfolding name_text
 some_name word [] h = absurd (h refl)
 some_name word (b ∷ s) h = refl
 
-escaped_piece : (name : List ℕ) (from end : ℕ) → from ≤ end → escaped (take from name) ++ escaped (take (end - from) (drop from name)) ≡ escaped (take end name)
-escaped_piece name from end h =
-    let e : from + (end - from) ≡ end = omega arith in
-    sym (escaped_append (take from name) (take (end - from) (drop from name))) ∙ ap escaped (sym (take-add from (end - from) name) ∙ ap (λ (n : ℕ). take n name) e)
+-- a name is said piece after piece: of what was said since the word, the bytes in front of the rest
+pub record Pieces (s : Sink) (name : List ℕ) (r : Sink) (rest : List ℕ) : Type 0 where
+  pub front : List ℕ
+  pub is : front ++ rest ≡ name
+  pub told : Told s (escaped front) r
 
--- a name is said piece after piece: of what was said since the word, its first bytes
-pub record Pieces (out₀ : List ℕ) (to₀ : Sink) (name out room : List ℕ) (to : Sink) (from : ℕ) : Type 0 where
-  pub within : from ≤ length name
-  pub size : length out ≡ length out₀
-  pub room_size : length room ≡ 256
-  pub told : Told out₀ to₀ (escaped (take from name)) out to
-
-module _ (out : List ℕ) (sink : Sink) (name : List ℕ) where
-  pub pieces_start : Told out sink (escaped (take 0 name)) out sink
+module _ (s : Sink) (name : List ℕ) where
+  pub pieces_start : Pieces s name s name
   unfolding escaped
-  pieces_start = nothing_told
+  pieces_start = record { front = []; is = refl; told = nothing_told }
 
-  pub pieces_step : (from end : ℕ) {mid exit room text : List ℕ} {m r : Sink} {n : ℕ} → Told out sink (escaped (take from name)) mid m → from ≤ end → Put room 0 (escaped (take (end - from) (drop from name))) text n → Said mid m (take n text) exit r → Told out sink (escaped (take end name)) exit r
-  pieces_step from end x h p y = told_same (escaped_piece name from end h) (told_then x (told_same (put_front p) (said_told y)))
+  pub pieces_step : {m r : Sink} {rest : List ℕ} (n : ℕ) → Pieces s name m rest → Told m (escaped (take n rest)) r → Pieces s name r (drop n rest)
+  pieces_step {m} {r} {rest} n x y =
+      record {
+        front = x.front ++ take n rest;
+        is = append_assoc x.front (take n rest) (drop n rest) ∙ ap (λ (l : List ℕ). x.front ++ l) (take-append-drop n rest) ∙ x.is;
+        told = told_same (sym (escaped_append x.front (take n rest))) (told_then x.told y);
+      }
 
-pub pieces_end : (name : List ℕ) (from : ℕ) {out word mid exit : List ℕ} {sink m r : Sink} → (length name ≡ 0 → ⊥) → Said out sink word mid m → Told mid m (escaped (take from name)) exit r → from ≡ length name → Told out sink (name_text word name) exit r
-pieces_end name from some x y e =
-    let whole : take from name ≡ name = rw e (take-length name) in
-    told_same (some_name _ name some) (told_then (said_told x) (rw whole at y))
+nil : (l : List ℕ) → length l ≡ 0 → l ≡ []
+nil [] e = refl
+nil (x ∷ l) e = absurd (omega arith)
+
+pub pieces_end : (s : Sink) (name : List ℕ) {word rest : List ℕ} {m r : Sink} → (length name ≡ 0 → ⊥) → Said s word m → Pieces m name r rest → length rest ≡ 0 → Told s (name_text word name) r
+pieces_end s name {word} {rest} some x y e =
+    let whole : y.front ≡ name = sym (append-nil y.front) ∙ ap (λ (l : List ℕ). y.front ++ l) (sym (nil rest e)) ∙ y.is in
+    told_same (some_name word name some) (told_then (said_told x) (told_same (ap escaped whole) y.told))
+
+pub no_event : (word : List ℕ) (o : Option Event) (s : Sink) → ((e : Event) → o ≡ Some e → ⊥) → Told s (event_text word o) s
+unfolding event_text
+no_event word None s h = nothing_told
+no_event word (Some e) s h = absurd (h e refl)

@@ -1,6 +1,5 @@
 // Words through a sink: names, numbers, events and hex digits, one behind the other.
 //
-//     say_if       a text where something holds
 //     say_name     a book's name as it is shown
 //     say_number   a number in decimal
 //     say_event    the name that an event prints
@@ -8,120 +7,87 @@
 //     say_hex      hex digits, at least eight
 #![tactic(auto)]
 
-ghost use Rattle.std.specs.Prelude.{◌+◌, ◌≤◌, ◌<◌, length};
+ghost use Rattle.std.specs.Prelude.{◌≡◌, ◌≤◌, length};
 ghost use Rattle.print.specs.Hex.{dword_text};
 ghost use Rattle.listing_rows.specs.Rows.{word_and_number};
+ghost use Rattle.escape.specs.Escape.{escaped};
 ghost use Rattle.saying.specs.Telling.{Told, name_text, event_text};
 
-use channel::sink::{Sink, say};
+use channel::sink::Sink;
 use entry::events::Event;
-use escape::at::put_escaped;
-use print::hex::put_dword;
-use print::put::put_decimal;
-use std::io::Stdout;
+use escape::put_escaped;
+use print::page::Page;
 
 // How many bytes of a name are escaped at a time, and how many bytes that can be.
 const PIECE: usize = 64;
 
 const ROOM: usize = 256;
 
-pub fn say_if(output: Stdout, out: &mut [u8], sink: Sink, holds: bool, text: &[u8]) -> Sink {
-    if holds {
-        return say(output, out, sink, text);
-    }
-    sink
-}
-
 // A word and then a name, escaped; nothing for no name.
-#[tactic(auto, using(crate::proofs::Telling::no_name_said))]
-pub fn say_name(output: Stdout, out: &mut [u8], sink: Sink, word: &[u8], name: &[u8]) -> Sink
-    ensures { Told out.old sink (name_text word.now name.now) out.new result }
+pub fn say_name(sink: &mut Sink, word: &[u8], name: &[u8])
+    ensures { Told sink.old (name_text word.now name.now) sink.new }
 {
-    if name.len() == 0 {
-        return sink;
+    if name.is_empty() {
+        return;
     }
-    let mut room = [0u8; ROOM];
-    let mut to = say(output, out, sink, word);
-    let mut from: usize = 0;
-    while from < name.len() {
-        let end = next_end(from, name.len());
-        let n = put_escaped(&mut room, 0, &name[from..end]);
-        to = say(output, out, to, &room[..n]);
-        from = end;
+    sink.say(word);
+    let mut rest = name;
+    while !rest.is_empty() {
+        let (piece, behind) = rest.split_at(rest.len().min(PIECE));
+        say_piece(sink, piece);
+        rest = behind;
     }
-    to
 }
 
-// Where the piece that starts at a place ends.
-fn next_end(from: usize, end: usize) -> usize
-    requires { from < end }
-    ensures { (from < result) × (result ≤ end) × (result ≤ from + 64) }
+// A piece of a name, escaped.
+fn say_piece(sink: &mut Sink, piece: &[u8])
+    requires { length piece.now ≤ 64 }
+    ensures { Told sink.old (escaped piece.now) sink.new }
 {
-    if end - from < PIECE {
-        return end;
-    }
-    from + PIECE
+    let mut room = [0u8; ROOM];
+    let mut page = Page::new(&mut room);
+    put_escaped(&mut page, piece);
+    sink.say(page.text());
 }
 
 // A word and then a number.
-pub fn say_number(output: Stdout, out: &mut [u8], sink: Sink, word: &[u8], n: u64) -> Sink
-    ensures { Told out.old sink (word_and_number word.now n) out.new result }
+pub fn say_number(sink: &mut Sink, word: &[u8], n: u64)
+    ensures { Told sink.old (word_and_number word.now n) sink.new }
 {
     let mut room = [0u8; 20];
-    let end = put_decimal(&mut room, 0, n);
-    let worded = say(output, out, sink, word);
-    say(output, out, worded, &room[..end])
+    let mut page = Page::new(&mut room);
+    page.put_decimal(n);
+    sink.say(word);
+    sink.say(page.text());
 }
 
 // A word and then the name that an event prints; nothing for no event.
-pub fn say_event(
-    output: Stdout,
-    out: &mut [u8],
-    sink: Sink,
-    word: &[u8],
-    what: Option<Event>,
-) -> Sink
-    ensures { Told out.old sink (event_text word.now what) out.new result }
+pub fn say_event(sink: &mut Sink, word: &[u8], what: Option<Event>)
+    ensures { Told sink.old (event_text word.now what) sink.new }
 {
-    match what {
-        Some(e) => {
-            let name = e.name();
-            let worded = say(output, out, sink, word);
-            say(output, out, worded, name.as_bytes())
-        }
-        None => sink,
+    if let Some(event) = what {
+        sink.say(word);
+        sink.say(event.name().as_bytes());
     }
 }
 
 // Eight hex digits.
-pub fn say_dword(output: Stdout, out: &mut [u8], sink: Sink, d: u32) -> Sink
-    ensures { Told out.old sink (dword_text d) out.new result }
+pub fn say_dword(sink: &mut Sink, d: u32)
+    ensures { Told sink.old (dword_text d) sink.new }
 {
     let mut room = [0u8; 8];
-    let end = put_dword(&mut room, 0, d);
-    say(output, out, sink, &room[..end])
+    let mut page = Page::new(&mut room);
+    page.put_dword(d);
+    sink.say(page.text());
 }
 
 // Hex digits, at least eight.
-pub fn say_hex(output: Stdout, out: &mut [u8], sink: Sink, n: u64) -> Sink {
+pub fn say_hex(sink: &mut Sink, n: u64) {
     let mut room = [0u8; 16];
-    put_dword(&mut room, 0, (n / 0x1_0000_0000) as u32);
-    put_dword(&mut room, 8, (n % 0x1_0000_0000) as u32);
-    let from = zeros_end(&room, 8);
-    say(output, out, sink, &room[from..])
-}
-
-// Where the zeros in front end, of which so many may go.
-fn zeros_end(digits: &[u8], most: usize) -> usize
-    requires { most ≤ length digits.now }
-    ensures { result ≤ most }
-{
-    let mut i: usize = 0;
-    while i < most {
-        if digits[i] != b'0' {
-            return i;
-        }
-        i += 1;
-    }
-    i
+    let mut page = Page::new(&mut room);
+    page.put_dword((n >> 32) as u32);
+    page.put_dword((n & 0xffff_ffff) as u32);
+    let digits = page.text();
+    let zeros = digits.iter().take(8).take_while(|d| **d == b'0').count();
+    sink.say(&digits[zeros..]);
 }

@@ -1,106 +1,63 @@
 // What is shown of a packet: its dwords, their bit ranges, and where the data starts.
-use crate::words::{say_refusal, say_source};
-use channel::sink::{Sink, say};
+use crate::words::{say_refusal, source_words};
+use channel::sink::Sink;
 use field::{Field, Range, count_ranges, field_name, field_of, nth_range, range_name, value_name};
 use packet::seek::dword_at;
-use saying::{say_dword, say_if, say_name, say_number};
-use std::io::Stdout;
+use saying::{say_dword, say_name, say_number};
 
-pub fn show_packet(
-    output: Stdout,
-    book: &[u8],
-    kind: u8,
-    dwords: &[u32],
-    out: &mut [u8],
-    sink: Sink,
-) -> Sink {
+pub fn show_packet(sink: &mut Sink, book: &[u8], kind: u8, dwords: &[u32]) {
     let mut places = [0u32; 256];
-    let parsed = packet::parse_over(kind, book, dwords, &mut places[..256]);
-    match parsed {
-        Ok(p) => {
-            let start = p.start;
-            show_dwords(
-                output,
-                book,
-                kind,
-                dwords,
-                &places,
-                start_or_none(start),
-                out,
-                sink,
-            )
+    match packet::parse_over(kind, book, dwords, &mut places) {
+        Ok(packet) => {
+            let start = packet.start.map(usize::from);
+            show_dwords(sink, book, kind, dwords, &places, start);
         }
-        Err(number) => say_refusal(output, out, sink, b"  no packet, ", number),
-    }
-}
-
-// Where the data view starts; a packet has fewer dwords than what stands for none.
-fn start_or_none(start: Option<u16>) -> usize {
-    match start {
-        Some(n) => n as usize,
-        None => 65_536,
+        Err(refusal) => say_refusal(sink, b"  no packet, ", refusal),
     }
 }
 
 // Each dword, and behind the last that is described where the data view starts. A view may be there and be empty.
 fn show_dwords(
-    output: Stdout,
+    sink: &mut Sink,
     book: &[u8],
     kind: u8,
     dwords: &[u32],
     places: &[u32],
-    start: usize,
-    out: &mut [u8],
-    sink: Sink,
-) -> Sink {
-    let mut to = sink;
-    let mut i: usize = 0;
-    while i < dwords.len() {
-        let begun = say_if(output, out, to, i == start, b"  data\n");
+    start: Option<usize>,
+) {
+    for (i, dword) in dwords.iter().enumerate() {
+        if start == Some(i) {
+            sink.say(b"  data\n");
+        }
         let entry = dword_at(places, i) as usize;
         let offset = (i % 65_536) as u16;
-        let field = field_of(kind, book, offset, dword_at(dwords, i), entry);
-        to = show_field(output, book, field, out, begun);
-        i += 1;
+        show_field(sink, book, field_of(kind, book, offset, *dword, entry));
     }
-    say_if(output, out, to, i == start, b"  data, empty\n")
-}
-
-fn show_field(output: Stdout, book: &[u8], field: Field, out: &mut [u8], sink: Sink) -> Sink {
-    let source = field.source;
-    let a = say_number(output, out, sink, b"  ", field.offset as u64);
-    let b = say(output, out, a, b"  ");
-    let c = say_dword(output, out, b, field.value);
-    let d = say_name(output, out, c, b"  ", field_name(book, field));
-    let e = say_source(output, out, d, source);
-    let f = say(output, out, e, b"\n");
-    show_ranges(output, book, field, out, f)
-}
-
-fn show_ranges(output: Stdout, book: &[u8], field: Field, out: &mut [u8], sink: Sink) -> Sink {
-    let n = count_ranges(book, field);
-    let mut to = sink;
-    let mut k: usize = 0;
-    while k < n {
-        to = show_maybe(output, book, nth_range(book, field, k), out, to);
-        k += 1;
+    if start == Some(dwords.len()) {
+        sink.say(b"  data, empty\n");
     }
-    to
 }
 
-fn show_maybe(output: Stdout, book: &[u8], range: Option<Range>, out: &mut [u8], sink: Sink) -> Sink {
-    match range {
-        Some(g) => show_range(output, book, g, out, sink),
-        None => sink,
+fn show_field(sink: &mut Sink, book: &[u8], field: Field) {
+    say_number(sink, b"  ", field.offset as u64);
+    sink.say(b"  ");
+    say_dword(sink, field.value);
+    say_name(sink, b"  ", field_name(book, field));
+    sink.say(source_words(field.source));
+    sink.say(b"\n");
+    for k in 0..count_ranges(book, field) {
+        if let Some(range) = nth_range(book, field, k) {
+            show_range(sink, book, range);
+        }
     }
 }
 
 // Its bits, name and value, and the value's name.
-fn show_range(output: Stdout, book: &[u8], range: Range, out: &mut [u8], sink: Sink) -> Sink {
-    let a = say_number(output, out, sink, b"     ", range.low as u64);
-    let b = say_number(output, out, a, b"-", range.high as u64);
-    let c = say_name(output, out, b, b"  ", range_name(book, range));
-    let d = say_number(output, out, c, b" ", range.value as u64);
-    let e = say_name(output, out, d, b" ", value_name(book, range));
-    say(output, out, e, b"\n")
+fn show_range(sink: &mut Sink, book: &[u8], range: Range) {
+    say_number(sink, b"     ", range.low as u64);
+    say_number(sink, b"-", range.high as u64);
+    say_name(sink, b"  ", range_name(book, range));
+    say_number(sink, b" ", range.value as u64);
+    say_name(sink, b" ", value_name(book, range));
+    sink.say(b"\n");
 }

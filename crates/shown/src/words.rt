@@ -1,182 +1,78 @@
 // A kind, a description's source, and what document 01's numbers mean, in words.
-use channel::sink::{Sink, say};
+use channel::sink::Sink;
+use entry::kind::Kind;
 use field::Source;
+use refusal::Refusal;
 use saying::say_number;
-use std::io::Stdout;
 
-pub fn say_kind(output: Stdout, out: &mut [u8], sink: Sink, kind: u8) -> Sink {
-    match kind {
-        1 => say(output, out, sink, b"read request"),
-        2 => say(output, out, sink, b"read response"),
-        3 => say(output, out, sink, b"write request"),
-        4 => say(output, out, sink, b"write response"),
-        5 => say(output, out, sink, b"error"),
-        6 => say(output, out, sink, b"notification acknowledged"),
-        7 => say(output, out, sink, b"hot plug event"),
-        8 => say(output, out, sink, b"inter-domain request"),
-        9 => say(output, out, sink, b"inter-domain response"),
-        10 => say(output, out, sink, b"ICM event"),
-        11 => say(output, out, sink, b"ICM command"),
-        12 => say(output, out, sink, b"ICM response"),
-        _ => say(output, out, sink, b"unknown kind"),
+pub fn kind_words(kind: u8) -> &'static [u8] {
+    match Kind::try_from(kind) {
+        Ok(Kind::ReadRequest) => b"read request",
+        Ok(Kind::ReadResponse) => b"read response",
+        Ok(Kind::WriteRequest) => b"write request",
+        Ok(Kind::WriteResponse) => b"write response",
+        Ok(Kind::Error) => b"error",
+        Ok(Kind::NotifyAck) => b"notification acknowledged",
+        Ok(Kind::Event) => b"hot plug event",
+        Ok(Kind::XDomainRequest) => b"inter-domain request",
+        Ok(Kind::XDomainResponse) => b"inter-domain response",
+        Ok(Kind::IcmEvent) => b"ICM event",
+        Ok(Kind::IcmCommand) => b"ICM command",
+        Ok(Kind::IcmResponse) => b"ICM response",
+        _ => b"unknown kind",
     }
 }
 
 // The table that describes a dword, where it is not the kind's own.
-pub fn say_source(output: Stdout, out: &mut [u8], sink: Sink, source: Source) -> Sink {
+pub fn source_words(source: Source) -> &'static [u8] {
     match source {
-        Source::Control(_) => sink,
-        Source::Header(_) => say(output, out, sink, b"  (header)"),
-        Source::Protocol(_) => say(output, out, sink, b"  (protocol)"),
-        Source::Bare => say(output, out, sink, b"  -"),
+        Source::Control(_) => b"",
+        Source::Header(_) => b"  (header)",
+        Source::Protocol(_) => b"  (protocol)",
+        Source::Bare => b"  -",
     }
 }
 
-// A number that refuses a line, a packet or a record, and its sentence.
-pub fn say_refusal(output: Stdout, out: &mut [u8], sink: Sink, word: &[u8], number: u8) -> Sink {
-    let numbered = say_number(output, out, sink, word, number as u64);
-    let begun = say(output, out, numbered, b": ");
-    let told = say_reason(output, out, begun, number);
-    say(output, out, told, b"\n")
+// What refuses a line, a packet or a record: its number and its sentence.
+pub fn say_refusal(sink: &mut Sink, word: &[u8], refusal: Refusal) {
+    say_number(sink, word, refusal.number() as u64);
+    sink.say(b": ");
+    sink.say(refusal_words(refusal));
+    sink.say(b"\n");
 }
 
-fn say_reason(output: Stdout, out: &mut [u8], sink: Sink, number: u8) -> Sink {
-    if number < 20 {
-        return say_of_line(output, out, sink, number);
-    }
-    if number < 30 {
-        return say_of_packet(output, out, sink, number);
-    }
-    say_of_record(output, out, sink, number)
-}
-
-fn say_of_line(output: Stdout, out: &mut [u8], sink: Sink, number: u8) -> Sink {
-    match number {
-        1 => say(
-            output,
-            out,
-            sink,
-            b"the line is empty, a newline alone, or a comment",
-        ),
-        2 => say(output, out, sink, b"the line has more than 4,096 bytes"),
-        3 => say(output, out, sink, b"the line has a byte of 128 or more"),
-        4 => say(output, out, sink, b"no colon parts header from payload"),
-        5 => say(output, out, sink, b"the header has no task"),
-        6 => say(
-            output,
-            out,
-            sink,
-            b"the header has no pid, or one past 32 bits",
-        ),
-        7 => say(output, out, sink, b"the header has no CPU in brackets"),
-        8 => say(
-            output,
-            out,
-            sink,
-            b"the header has no timestamp, or one with a part past 63 bits",
-        ),
-        9 => say(
-            output,
-            out,
-            sink,
-            b"the header does not end with a function",
-        ),
-        11 => say(output, out, sink, b"the payload has no `type`"),
-        12 => say(
-            output,
-            out,
-            sink,
-            b"`size` is missing or no decimal of 16 bits",
-        ),
-        13 => say(
-            output,
-            out,
-            sink,
-            b"`domain` is missing or no decimal of 32 bits",
-        ),
-        14 => say(
-            output,
-            out,
-            sink,
-            b"`route` is missing or no hex number of 64 bits",
-        ),
-        15 => say(output, out, sink, b"`data` is missing or not in brackets"),
-        16 => say(output, out, sink, b"the line has more than 256 dwords"),
-        18 => say(
-            output,
-            out,
-            sink,
-            b"a piece of `data` is no hex number of 32 bits",
-        ),
-        _ => say(output, out, sink, b"refused"),
-    }
-}
-
-fn say_of_packet(output: Stdout, out: &mut [u8], sink: Sink, number: u8) -> Sink {
-    match number {
-        20 => say(output, out, sink, b"the book breaks its grammar"),
-        21 => say(output, out, sink, b"the packet is of no known kind"),
-        22 => say(
-            output,
-            out,
-            sink,
-            b"the book has no control table for the kind",
-        ),
-        23 => say(
-            output,
-            out,
-            sink,
-            b"the book has no header table for kind 8 or 9",
-        ),
-        24 => say(output, out, sink, b"the packet has more than 256 dwords"),
-        25 => say(
-            output,
-            out,
-            sink,
+fn refusal_words(refusal: Refusal) -> &'static [u8] {
+    match refusal {
+        Refusal::Idle => b"the line is empty, a newline alone, or a comment",
+        Refusal::LongLine => b"the line has more than 4,096 bytes",
+        Refusal::NotAscii => b"the line has a byte of 128 or more",
+        Refusal::NoColon => b"no colon parts header from payload",
+        Refusal::NoTask => b"the header has no task",
+        Refusal::NoPid => b"the header has no pid, or one past 32 bits",
+        Refusal::NoCpu => b"the header has no CPU in brackets",
+        Refusal::NoTimestamp => b"the header has no timestamp, or one with a part past 63 bits",
+        Refusal::NoFunction => b"the header does not end with a function",
+        Refusal::NoType => b"the payload has no `type`",
+        Refusal::NoSize => b"`size` is missing or no decimal of 16 bits",
+        Refusal::NoDomain => b"`domain` is missing or no decimal of 32 bits",
+        Refusal::NoRoute => b"`route` is missing or no hex number of 64 bits",
+        Refusal::NoData => b"`data` is missing or not in brackets",
+        Refusal::ManyDwords => b"the line has more than 256 dwords",
+        Refusal::BadPiece => b"a piece of `data` is no hex number of 32 bits",
+        Refusal::BadBook => b"the book breaks its grammar",
+        Refusal::NoKind => b"the packet is of no known kind",
+        Refusal::NoTable => b"the book has no control table for the kind",
+        Refusal::NoHeaderTable => b"the book has no header table for kind 8 or 9",
+        Refusal::LongPacket => b"the packet has more than 256 dwords",
+        Refusal::ShortPacket =>
             b"a packet of kind 2 or 3 has fewer dwords than its table has entries",
-        ),
-        _ => say(output, out, sink, b"refused"),
-    }
-}
-
-fn say_of_record(output: Stdout, out: &mut [u8], sink: Sink, number: u8) -> Sink {
-    match number {
-        31 => say(
-            output,
-            out,
-            sink,
-            b"a field of the record runs past the end",
-        ),
-        32 => say(
-            output,
-            out,
-            sink,
-            b"a tag of the record is unknown, repeated or not ascending",
-        ),
-        33 => say(
-            output,
-            out,
-            sink,
-            b"a required tag of the record is missing",
-        ),
-        34 => say(
-            output,
-            out,
-            sink,
-            b"the body of a record's field breaks its rule",
-        ),
-        54 => say(
-            output,
-            out,
-            sink,
+        Refusal::Overrun => b"a field of the record runs past the end",
+        Refusal::BadTag => b"a tag of the record is unknown, repeated or not ascending",
+        Refusal::MissingTag => b"a required tag of the record is missing",
+        Refusal::BadBody => b"the body of a record's field breaks its rule",
+        Refusal::CutRecord =>
             b"the stream ends inside a record (one that says more than 5,227 bytes is 55)",
-        ),
-        55 => say(
-            output,
-            out,
-            sink,
-            b"the record says that it has more than 5,227 bytes",
-        ),
-        _ => say(output, out, sink, b"refused"),
+        Refusal::LongRecord => b"the record says that it has more than 5,227 bytes",
+        _ => b"refused",
     }
 }

@@ -1,30 +1,18 @@
--- `words::say_name` meets its contract: a piece of 64 bytes is shown in 256, and what was said are the pieces so far (`Pieces`). Assumes nothing.
-use Rattle.escape.proofs.Escaping.{put_within}
-use Rattle.listing_rows.proofs.Putting.{put_size}
-use Rattle.saying.proofs.Telling.{pieces_start, pieces_step, pieces_end}
-use borrow.Author.Rules.{rules}
-use lib.Seq.{length-take-le}
-use mathlib.Core.Path.{refl, sym, ◌∙◌}
+-- `say_name` meets its contract: what was said since the word are the pieces in front of the rest (`Pieces`). Assumes nothing.
+use Rattle.saying.proofs.Telling.{no_name_said, pieces_start, pieces_step, pieces_end}
 use native.Mathlib.Omega.{arith}
+use Rattle.std.proofs.lemmas.Grind.{common_steps}
 use Rattle.saying.proofs.say_name.Goals as goal
 
-pub loop-from-init : goal.loop-from-init
-loop-from-init c = record { within = search rules; size = refl; room_size = search rules; told = pieces_start _ _ c.args.name.now }
+pub returns-then-is_empty : goal.returns-then-is_empty
+returns-then-is_empty c = no_name_said _ _ _ (grind (arith, common_steps))
 
-pub slice_bounds-room-end : goal.slice_bounds-room-end
-slice_bounds-room-end c = omega (arith, put_within c.put_escaped-n.ensures, put_size c.put_escaped-n.ensures)
+pub loop-rest-init : goal.loop-rest-init
+loop-rest-init c = pieces_start _ _
 
-pub slice_bounds-say-end : goal.slice_bounds-say-end
-slice_bounds-say-end c = sym (length-take-le _ _ (put_within c.put_escaped-n.ensures))
-
-pub loop-from-preserved : goal.loop-from-preserved
-loop-from-preserved c =
-    record {
-      within = omega (arith, c.next_end-end.ensures);
-      size = search rules;
-      room_size = put_size c.put_escaped-n.ensures ∙ c.loop-from.invariant.room_size;
-      told = pieces_step _ _ c.args.name.now c.loop-from.from c.next_end-end.result c.loop-from.invariant.told (omega (arith, c.next_end-end.ensures)) c.put_escaped-n.ensures c.say-to-in-loop-from.ensures;
-    }
+pub loop-rest-preserved : goal.loop-rest-preserved
+loop-rest-preserved c =
+    rw c.split_at.ensures.back (pieces_step c.say.new.self c.args.name.now c.min.result c.loop-rest.invariant (rw (← c.split_at.ensures.front) c.say_piece.ensures))
 
 pub returns : goal.returns
-returns c = pieces_end c.args.name.now c.loop-from.from c.if-name-eq0.false c.say-to.ensures c.loop-from.invariant.told (omega (arith, c.loop-from.invariant.within, c.loop-from-test.false))
+returns c = pieces_end c.args.sink.now c.args.name.now (λ e. grind (arith, common_steps)) c.say.ensures c.loop-rest.invariant (grind (arith, common_steps))

@@ -1,11 +1,10 @@
--- `words::say_name` meets its contract: a piece of 64 bytes is shown in 256, and what was said are the pieces so far (`Pieces`). Assumes nothing.
-use Prim.Native.Nat.{◌-◌}
+-- `say_name` meets its contract: what was said since the word are the pieces in front of the rest (`Pieces`). Assumes nothing.
 use Rattle.saying.proofs.Telling.{Pieces}
 use lib.ListN.{length}
 use Rattle.saying.proofs.say_name.Given as goal
 
-abbrev pub invariant-loop-from : goal.invariant-loop-from
-invariant-loop-from l = Pieces l.initial.out l.initial.to l.name l.out l.room l.to l.from
+abbrev pub invariant-loop-rest : goal.invariant-loop-rest
+invariant-loop-rest l = Pieces l.initial.sink l.name l.sink l.rest
 
-abbrev pub decreases-loop-from : goal.decreases-loop-from
-decreases-loop-from l = length l.name - l.from
+abbrev pub decreases-loop-rest : goal.decreases-loop-rest
+decreases-loop-rest l = length l.rest

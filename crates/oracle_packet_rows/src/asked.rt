@@ -1,5 +1,5 @@
 // The questions by name: for each name the UUID, the field of that name, and the field with a bit range of that name.
-ghost use Rattle.std.specs.Prelude.{◌<◌, length, ForSome};
+ghost use Rattle.std.specs.Prelude.{◌<◌, length, IfSome};
 
 use crate::Packet;
 use crate::told::{put_number, put_uuid};
@@ -30,14 +30,19 @@ pub fn put_all(page: &mut Page, packet: Packet, names: &[u8]) {
 
 // The first of the names, which stands behind its length in one byte, and what is behind it.
 fn split_name(names: &[u8]) -> Option<(&[u8], &[u8])>
-    ensures { ForSome result (λ p. length p.1.now < length names.now) }
+    ensures { IfSome result (λ p. length p.1.now < length names.now) }
 {
     let (length, rest) = names.split_first()?;
     rest.split_at_checked(*length as usize)
 }
 
 fn put_whole(page: &mut Page, packet: Packet, name: &[u8]) {
-    let Packet { kind, book, dwords, .. } = packet;
+    let Packet {
+        kind,
+        book,
+        dwords,
+        ..
+    } = packet;
     put_uuid(page, b"", uuid_by_name(kind, book, dwords, name));
     put_index(page, field_by_name(kind, book, dwords, name));
     put_index(page, field_by_bitfield_name(kind, book, dwords, name));
@@ -45,13 +50,28 @@ fn put_whole(page: &mut Page, packet: Packet, name: &[u8]) {
 
 // The same by the places.
 fn put_described(page: &mut Page, packet: Packet, name: &[u8]) {
-    let Packet { kind, book, dwords, places } = packet;
+    let Packet {
+        kind,
+        book,
+        dwords,
+        places,
+    } = packet;
     put_uuid(page, b"", uuid_in(book, name, dwords, places));
-    put_index(page, field_with(Ask::Named, kind, book, name, dwords, places));
-    put_index(page, field_with(Ask::Holds, kind, book, name, dwords, places));
+    put_index(
+        page,
+        field_with(Ask::Named, kind, book, name, dwords, places),
+    );
+    put_index(
+        page,
+        field_with(Ask::Holds, kind, book, name, dwords, places),
+    );
 }
 
 // The index of the dword that a field is of.
 fn put_index(page: &mut Page, told: Result<Option<Field>, Refusal>) {
-    put_number(page, b":", told.map(|found| found.map(|field| field.offset)));
+    put_number(
+        page,
+        b":",
+        told.map(|found| found.map(|field| field.offset)),
+    );
 }

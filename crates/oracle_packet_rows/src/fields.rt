@@ -13,13 +13,11 @@ use questions::field_by_offset;
 use refusal::Refusal;
 
 // How many entries the control table of a kind has, none without a table.
+#[tactic(auto, unfolding(crate::specs::Count::control_count))]
 pub fn count_control(kind: u8, book: &[u8]) -> usize
     ensures { result ≡ control_count book.now kind }
 {
-    match find::control_table(book, kind) {
-        Some(table) => find::count_entries(book, table),
-        None => 0,
-    }
+    find::control_table(book, kind).map_or(0, |table| find::count_entries(book, table))
 }
 
 impl Packet<'_> {
@@ -61,7 +59,12 @@ impl Packet<'_> {
 
     // The field of a dword: that of the first nine as a caller asks who has no places, the others by the places.
     fn field(self, i: usize) -> Result<Option<Field>, Refusal> {
-        let Packet { kind, book, dwords, places } = self;
+        let Packet {
+            kind,
+            book,
+            dwords,
+            places,
+        } = self;
         let offset = (i % 65_536) as u16;
         if i < 9 {
             field_by_offset(kind, book, dwords, offset)

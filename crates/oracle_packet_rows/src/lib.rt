@@ -66,15 +66,28 @@ impl Packet<'_> {
 
     // What the dwords are described by.
     fn put_head(self, page: &mut Page) {
-        put_count(page, b"packet n=", count_control(self.kind, self.book) as u64);
+        put_count(
+            page,
+            b"packet n=",
+            count_control(self.kind, self.book) as u64,
+        );
         page.put(b" places=");
-        put_list(page, self.places, |page, place| page.put_decimal(place as u64));
+        put_list(
+            page,
+            self.places,
+            |page, place| page.put_decimal(place as u64),
+        );
         page.put(b" sources=");
         self.put_sources(page);
     }
 
     fn put_route(self, page: &mut Page) {
-        let Packet { kind, book, dwords, .. } = self;
+        let Packet {
+            kind,
+            book,
+            dwords,
+            ..
+        } = self;
         put_uuid(page, b" uuid=", ask::uuid(kind, book, dwords));
         put_number(page, b" route=", ask::route(kind, book, dwords).map(Some));
         put_number(page, b" cm=", ask::cm(kind, book, dwords).map(Some));
@@ -82,7 +95,12 @@ impl Packet<'_> {
 
     // The view is said by the index of its first dword, and how many it has.
     fn put_data(self, page: &mut Page) {
-        let Packet { kind, book, dwords, .. } = self;
+        let Packet {
+            kind,
+            book,
+            dwords,
+            ..
+        } = self;
         let start = ask::data_start(kind, book, dwords);
         put_number(page, b" adapter=", ask::adapter_num(kind, book, dwords));
         put_number(page, b" address=", ask::data_address(kind, book, dwords));
@@ -95,18 +113,41 @@ impl Packet<'_> {
     }
 
     fn put_kind(self, page: &mut Page) {
-        let Packet { kind, book, dwords, .. } = self;
+        let Packet {
+            kind,
+            book,
+            dwords,
+            ..
+        } = self;
         put_number(page, b" read=", ask::is_read(kind, book, dwords).map(Some));
-        put_number(page, b" write=", ask::is_write(kind, book, dwords).map(Some));
-        put_number(page, b" xdomain=", ask::is_xdomain(kind, book, dwords).map(Some));
+        put_number(
+            page,
+            b" write=",
+            ask::is_write(kind, book, dwords).map(Some),
+        );
+        put_number(
+            page,
+            b" xdomain=",
+            ask::is_xdomain(kind, book, dwords).map(Some),
+        );
     }
 
     // The packet type's value and its name.
     fn put_type(self, page: &mut Page) {
-        let Packet { kind, book, dwords, .. } = self;
-        put_told(page, b" type=", ask::packet_type(kind, book, dwords), |page, found| {
-            page.put_decimal(found.value as u64);
-            put_name(page, b":", ask::packet_type_name(kind, book, dwords));
-        });
+        let Packet {
+            kind,
+            book,
+            dwords,
+            ..
+        } = self;
+        put_told(
+            page,
+            b" type=",
+            ask::packet_type(kind, book, dwords),
+            |page, found| {
+                page.put_decimal(found.value as u64);
+                put_name(page, b":", ask::packet_type_name(kind, book, dwords));
+            },
+        );
     }
 }

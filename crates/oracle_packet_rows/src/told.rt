@@ -21,7 +21,11 @@ pub fn put_told<T: Drop, F: FnOnce(&mut Page, T)>(
     }
 }
 
-pub fn put_number<T: Into<u64> + Drop>(page: &mut Page, name: &[u8], told: Result<Option<T>, Refusal>) {
+pub fn put_number<T: Into<u64> + Drop>(
+    page: &mut Page,
+    name: &[u8],
+    told: Result<Option<T>, Refusal>,
+) {
     put_told(page, name, told, |page, n| page.put_decimal(n.into()));
 }
 

@@ -4,6 +4,8 @@
 // byte first. For each packet it writes a row with every answer, or the number that refuses it.
 #![tactic(auto)]
 
+ghost use Rattle.std.specs.Prelude.{◌≤◌, length};
+
 use channel::streams::streams_of;
 use oracle_line_rows::rows::Rows;
 use oracle_packet_rows::put_answer;
@@ -13,8 +15,9 @@ fn main(rt: HostRuntime) {
     let mut book = [0u8; 65536];
     let mut names = [0u8; 65536];
     let mut out = [0u8; 65536];
-    Rows::new(streams_of(&rt), &mut out)
-        .answer_all(|rows| answer_group(rows, &mut book, &mut names));
+    Rows::new(streams_of(&rt), &mut out).answer_all(|rows| answer_group(
+        rows, &mut book, &mut names,
+    ));
 }
 
 // What is longer than its buffer, or cut short, ends the run.

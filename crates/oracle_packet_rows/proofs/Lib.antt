@@ -1,2 +1,0 @@
--- The laws of the number n of a row.
-pub mod Counting

@@ -7,7 +7,8 @@ use Rattle.scan.specs.declared.Pieces.{Pieces}
 use Rattle.scan.specs.Parse.{parse_of, line_dwords, slots_by}
 use Rattle.writer.specs.Writing.{bytes_of, write_of, buffer_by}
 use Rattle.intake.specs.Intake.{taken_of, taken_dwords}
-use Rattle.intake.specs.What.{Grammar, record_grammar, line_grammar}
+use Rattle.intake.specs.declared.What.{What}
+use Rattle.intake.specs.declared.What.TheVariants as W
 use Rattle.c_entry.specs.declared.Flat.{Flat}
 use Rattle.c_entry.specs.Flat.{absent, flat_of, raise_of}
 use Rattle.capi.specs.declared.EntryAnswer.{EntryAnswer}
@@ -62,14 +63,14 @@ abbrev pub EitherRead : Pieces → List ℕ → List ℕ → List ℕ → EntryA
 EitherRead pieces t out exit r = Read (taken_of pieces t (length out)) (taken_dwords t) out exit r
 
 -- what a text is, as a number: 0 neither, 1 a line, 2 a record
-abbrev pub case_of : T.Told Grammar → ℕ
-case_of (T.is record_grammar) = 2
-case_of (T.is line_grammar) = 1
+abbrev pub case_of : T.Told What → ℕ
+case_of (T.is W.Record) = 2
+case_of (T.is W.Line) = 1
 case_of T.absent = 0
 case_of (T.refused k) = 0
 
 -- that, and the number that refuses the text, 0 where nothing is refused
-unfoldable pub what_by : T.Told Grammar → WhatAnswer
+unfoldable pub what_by : T.Told What → WhatAnswer
 what_by told = record { number = T.number_in told; what = case_of told }
 
 -- what the writer tells: number 0 and how many bytes, or the number and no byte

@@ -139,10 +139,10 @@ fn tell_what(text: &[u8], pieces: Pieces) -> WhatAnswer
     ensures { result ≡ what_by (what_of pieces text.now) }
 {
     match what_is(text, pieces) {
-        What::Record => WhatAnswer { number: 0, what: 2 },
-        What::Line => WhatAnswer { number: 0, what: 1 },
-        What::Neither(number) => WhatAnswer {
-            number: number,
+        Ok(What::Record) => WhatAnswer { number: 0, what: 2 },
+        Ok(What::Line) => WhatAnswer { number: 0, what: 1 },
+        Err(refusal) => WhatAnswer {
+            number: refusal.number(),
             what: 0,
         },
     }

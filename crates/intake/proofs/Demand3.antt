@@ -1,7 +1,7 @@
 -- Demand 3 for lines and records: what a line says keeps the record's ranges, so there is a record of it; the writer writes that record, and the record's
 -- own round trips do the rest. The ground for a text that is a record already is the same. Assumes nothing.
 use Rattle.refusal.proofs.Told.{one_told}
-use Rattle.std.specs.Prelude.{Err, Ok, Result}
+use Rattle.std.specs.Prelude.{Ok, Result}
 use Rattle.refusal.specs.declared.Refusal.{Refusal}
 use Prim.Native.Nat.{ℕ, ◌+◌, ◌≤◌, ◌<◌}
 use mathlib.Core.Path.{◌≡◌, refl, sym, ap, ◌∙◌}

@@ -1,7 +1,7 @@
 -- Demand 3 for packets: a packet is asked for kind and dwords alone, and these are what the text says; a line and its record say one thing. However often a
 -- text is written and read again it says the same, so nothing is ever cut but what it says. Assumes nothing.
 use Rattle.refusal.specs.Told as answers
-use Rattle.std.specs.Prelude.{Err, None, Ok, Result, Some}
+use Rattle.std.specs.Prelude.{Ok, Result, Some}
 use Rattle.refusal.specs.declared.Refusal.{Refusal}
 use Prim.Native.Nat.{ℕ, zero, suc, ◌≤◌, ◌%◌}
 use mathlib.Core.Path.{◌≡◌, refl, sym, ap, ap₂, subst, ◌∙◌}

@@ -22,15 +22,11 @@ use Rattle.record.specs.Reading.{read_of}
 use Rattle.record.proofs.Judging.{not_framed}
 use Rattle.record.proofs.Sound.{framed_is}
 use Rattle.intake.specs.Intake.{starts_a1, taken_of}
-use Rattle.intake.specs.What.{Grammar, what_of}
+use Rattle.intake.specs.What.{what_of}
 
 -- the number of a text that is longer than any record, by its first byte: 30 behind A1, 1 behind `#`, else 2
 abbrev pub long_number : ℕ → ℕ
 long_number b = cond (eqb b 0xA1) 30 (cond (eqb b 35) 1 2)
-
--- a text that is neither, with its number
-abbrev neither : ℕ → T.Told Grammar
-neither k = T.refused k
 
 -- a text of more than 4,096 bytes is no line, and its number goes by its first byte, whatever is lent
 pub overlong_line : (pieces : Pieces) (t : List ℕ) (room : ℕ) → 4096 < length t → parse_of pieces t room ≡ T.refused (cond (eqb (get_or t 0 0) 35) 1 2)
@@ -83,6 +79,6 @@ first_bytes_tell pieces t bytes n h =
           let size : length (take n t) ≡ n = length-take-le n t (omega arith) in
           let first : get_or (take n t) 0 0 ≡ get_or t 0 0 = get_or-take n t 0 0 (omega arith) in
           long_is_neither pieces (take n t) (bytes_take t n bytes) (omega (arith, size, h))
-          ∙ ap (λ (b : ℕ). neither (long_number b)) first
+          ∙ ap (λ (b : ℕ). T.refused (long_number b)) first
           ∙ sym (long_is_neither pieces t bytes (omega arith))
     ]

@@ -2,6 +2,7 @@
 use Rattle.refusal.specs.Told.{told}
 use Rattle.std.specs.Prelude.{Err, Ok, Result}
 use Rattle.refusal.specs.declared.Refusal.{Refusal}
+use Rattle.refusal.specs.Number.{number_of as number_in}
 use Rattle.packet.specs.declared.Packet.{Packet}
 use Prim.Native.Nat.{ℕ, zero, suc}
 use mathlib.Core.Path.{◌≡◌, refl, sym, ap, ◌∙◌}
@@ -28,7 +29,7 @@ module _ (kind : ℕ) (s ds slots places : List ℕ) {places' : List ℕ} {r : R
   handed_packet e x = record { answer = ap told (sym e) ∙ parsed.answer; slots_left = x; places_left = parsed.places ∙ rw e }
 
   -- a number, and the slots as found
-  pub handed_refused : {k : ℕ} → r ≡ Err k → Handed kind s ds slots slots places places' (Err k)
+  pub handed_refused : {k : Refusal} → r ≡ Err k → Handed kind s ds slots slots places places' (Err k)
   unfolding list_by
   handed_refused e = record { answer = ap told (sym e) ∙ parsed.answer; slots_left = refl; places_left = parsed.places ∙ rw e }
 
@@ -71,14 +72,14 @@ module _ (pieces : Pieces) (t s slots places : List ℕ) where
       }
 
   -- the text is refused, and nothing is touched
-  pub taken_refused : {k : ℕ} → taken_of pieces t (length slots) ≡ T.refused k → PacketTaken pieces t s slots slots places places (Err k)
+  pub taken_refused : {k : Refusal} → taken_of pieces t (length slots) ≡ T.refused (number_in k) → PacketTaken pieces t s slots slots places places (Err k)
   unfolding packet_taken packet_by list_by
   taken_refused a = record { answer = rw a; slots_left = refl; places_left = refl }
 
 -- ---- the promises
 
 -- a refusal leaves slots and places as found
-pub refused_packet_changes_nothing : (pieces : Pieces) (t s slots places : List ℕ) {slots' places' : List ℕ} {k : ℕ} → PacketTaken pieces t s slots slots' places places' (Err k)
+pub refused_packet_changes_nothing : (pieces : Pieces) (t s slots places : List ℕ) {slots' places' : List ℕ} {k : Refusal} → PacketTaken pieces t s slots slots' places places' (Err k)
     → (slots' ≡ slots) × (places' ≡ places)
 unfolding list_by
 refused_packet_changes_nothing pieces t s slots places p = (p.slots_left, p.places_left)

@@ -5,7 +5,7 @@ use Prim.Native.Nat.{ℕ, zero, suc, ◌/◌, ◌%◌, ◌≤◌, ◌<◌}
 use mathlib.Core.Path.{◌≡◌, refl}
 use mathlib.Core.Bool.{Bool, true, false, ◌||◌}
 use mathlib.Core.List.{List, [], ◌∷◌, ◌++◌}
-use mathlib.Core.Option.{map}
+use Rattle.std.specs.Option.{option_map}
 use native.Mathlib.Omega.{arith}
 use lib.Dec.{leb, eqb}
 use lib.ListN.{length}
@@ -87,7 +87,7 @@ rows_bytes (r ∷ rs) h = go r.body h.0.1 (rows_bytes rs h.1)
 number_body : (k n : ℕ) → k < 65536 → Body (Some (number_bytes k n))
 number_body k n h = (omega (arith, h, number_bytes_length k n), number_bytes_bytes k n)
 
-optional_body : (k : ℕ) (o : Option ℕ) → k < 65536 → Body (map (number_bytes k) o)
+optional_body : (k : ℕ) (o : Option ℕ) → k < 65536 → Body (option_map (number_bytes k) o)
 optional_body k None h = tt
 optional_body k (Some n) h = number_body k n h
 

@@ -2,6 +2,7 @@
 -- be read into an array of 256 as well. Assumes nothing.
 use Rattle.std.specs.Prelude.{Err, None, Ok, Option, Result, Some}
 use Rattle.refusal.specs.declared.Refusal.{Refusal}
+use Rattle.refusal.specs.Number.{number_of}
 use Prim.Native.Nat.{ℕ, zero, suc, ◌≤◌, min}
 use mathlib.Core.Path.{◌≡◌, refl, sym, ap, ◌∙◌}
 use mathlib.Core.Bool.{Bool, true, false, cond}
@@ -170,5 +171,5 @@ module _ (pieces : Pieces) (t slots out : List ℕ) (bytes : Bytes t) {exit : Li
         fits = omega (arith, fits, room, ap length front);
       }
 
-  pub waits_not : {k : ℕ} → r ≡ Err k → taken_of pieces t (length slots) ≡ T.refused k
+  pub waits_not : {k : Refusal} → r ≡ Err k → taken_of pieces t (length slots) ≡ T.refused (number_of k)
   waits_not n = answer_is ∙ ap told n

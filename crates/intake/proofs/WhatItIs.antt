@@ -1,6 +1,6 @@
 -- What a text is, both ways: the answer is so of every text, since either reader is sound and complete for its grammar and its numbers; no two answers are
 -- so of one text; hence whatever is so is the answer. Assumes nothing.
-use Rattle.std.specs.Prelude.{Err, Ok, Result}
+use Rattle.std.specs.Prelude.{Ok, Result}
 use Rattle.refusal.specs.declared.Refusal.{Refusal}
 use Prim.Native.Nat.{ℕ, zero, suc, ◌≤◌}
 use mathlib.Core.Path.{◌≡◌, refl, sym, ap, subst, ◌∙◌}
@@ -14,7 +14,7 @@ use lib.Dec.{leb}
 use lib.ListN.{length, replicate}
 use Rattle.refusal.specs.Told.{told}
 use Rattle.text.specs.Told as T
-use Rattle.text.proofs.Told.{by_cases, fixed_by_told}
+use Rattle.refusal.proofs.Told.{one_told}
 use Rattle.tlv.specs.Number.{Bytes}
 use Rattle.entry.specs.declared.Entry.{Entry}
 use Rattle.entry.specs.Entry.{EntryValue}
@@ -38,7 +38,7 @@ use Rattle.intake.specs.declared.What.TheVariants as W
 use Rattle.intake.specs.Intake.{Belongs, starts_a1, taken_of, taken_dwords}
 use Rattle.intake.specs.Demand3.{ReadCall, WriteCall, Wrote, HasRecord}
 use Rattle.intake.specs.Demand3Packets.{Round, Comes}
-use Rattle.intake.specs.What.{Grammar, record_grammar, line_grammar, what_told, grammar_of, what_of, Number, Is, WhatCall, WhatATextIs}
+use Rattle.intake.specs.What.{grammar_of, what_of, Number, Is, WhatCall, WhatATextIs}
 use Rattle.intake.proofs.Theorems.{record_starts, line_starts, no_text_is_both, accepted_exactly_when_it_belongs}
 use Rattle.intake.proofs.Demand3.{record_is_the_writers}
 use Rattle.intake.proofs.Demand3Packets.{comes_says}
@@ -132,23 +132,10 @@ number_applies pieces t bytes k n = go (starts_a1 t) refl n
     go true f q = Number.of_a_record f (refused_record t bytes k q)
     go false f q = Number.of_a_line f ((line_number_exactly pieces t 256 k).0 q)
 
--- two answers that tell the same are the same
-pub one_what_answer : (a b : What) → what_told a ≡ what_told b → a ≡ b
-one_what_answer = fixed_by_told what_told (by_cases back W.Record W.Neither) same
-  where
-    back : Grammar → What
-    back record_grammar = W.Record
-    back line_grammar = W.Line
-
-    same : (a : What) → by_cases back W.Record W.Neither (what_told a) ≡ a
-    same W.Record = refl
-    same W.Line = refl
-    same (W.Neither k) = refl
-
 -- an answer that tells what is told of the text, and is so
 pub record Tells (pieces : Pieces) (t : List ℕ) : Type 0 where
-  pub answer : What
-  pub told : what_told answer ≡ what_of pieces t
+  pub answer : T.Told What
+  pub told : answer ≡ what_of pieces t
   pub so : Is pieces t answer
 
 pub what_is : (pieces : Pieces) (t : List ℕ) → Bytes t → Tells pieces t
@@ -156,8 +143,8 @@ unfolding what_of grammar_of
 what_is pieces t bytes = go (taken_of pieces t 256) refl
   where
     accepted : (e : Entry) → taken_of pieces t 256 ≡ T.is e → (v : EntryValue) → Belongs pieces t v → Tells pieces t
-    accepted e n v (Belongs.a_record r) = record { answer = W.Record; told = rw (n, a1_first t v r); so = (v, r) }
-    accepted e n v (Belongs.line a) = record { answer = W.Line; told = rw (n, no_a1_first pieces t v a); so = (v, a) }
+    accepted e n v (Belongs.a_record r) = record { answer = T.is W.Record; told = rw (n, a1_first t v r); so = (v, r) }
+    accepted e n v (Belongs.line a) = record { answer = T.is W.Line; told = rw (n, no_a1_first pieces t v a); so = (v, a) }
 
     belongs_not : (k : ℕ) → taken_of pieces t 256 ≡ T.refused k → (v : EntryValue) → Belongs pieces t v → ⊥
     belongs_not k n v b =
@@ -170,7 +157,7 @@ what_is pieces t bytes = go (taken_of pieces t 256) refl
     go (T.is e) n = let w = (accepted_exactly_when_it_belongs pieces t bytes).0 (e, n) in accepted e n w.0 w.1
     go (T.refused k) n =
         record {
-          answer = W.Neither k;
+          answer = T.refused k;
           told = rw n;
           so =
               record {
@@ -194,32 +181,30 @@ one_number pieces t bytes j k (Number.of_a_line f a) (Number.of_a_line g b) =
     cc
 
 -- a text is one thing
-pub one_what : (pieces : Pieces) (t : List ℕ) → Bytes t → (q r : What) → Is pieces t q → Is pieces t r → q ≡ r
-one_what pieces t bytes W.Record W.Record a b = refl
-one_what pieces t bytes W.Record W.Line a b = absurd (no_text_is_both pieces t b.0 a.0 b.1 a.1)
-one_what pieces t bytes W.Record (W.Neither k) a b = absurd (b.no_record a.0 a.1)
-one_what pieces t bytes W.Line W.Record a b = absurd (no_text_is_both pieces t a.0 b.0 a.1 b.1)
-one_what pieces t bytes W.Line W.Line a b = refl
-one_what pieces t bytes W.Line (W.Neither k) a b = absurd (b.no_line a.0 a.1)
-one_what pieces t bytes (W.Neither j) W.Record a b = absurd (a.no_record b.0 b.1)
-one_what pieces t bytes (W.Neither j) W.Line a b = absurd (a.no_line b.0 b.1)
-one_what pieces t bytes (W.Neither j) (W.Neither k) a b = ap W.Neither (one_number pieces t bytes j k a.number b.number)
+pub one_what : (pieces : Pieces) (t : List ℕ) → Bytes t → (q r : T.Told What) → Is pieces t q → Is pieces t r → q ≡ r
+one_what pieces t bytes (T.is W.Record) (T.is W.Record) a b = refl
+one_what pieces t bytes (T.is W.Record) (T.is W.Line) a b = absurd (no_text_is_both pieces t b.0 a.0 b.1 a.1)
+one_what pieces t bytes (T.is W.Record) (T.refused k) a b = absurd (b.no_record a.0 a.1)
+one_what pieces t bytes (T.is W.Line) (T.is W.Record) a b = absurd (no_text_is_both pieces t a.0 b.0 a.1 b.1)
+one_what pieces t bytes (T.is W.Line) (T.is W.Line) a b = refl
+one_what pieces t bytes (T.is W.Line) (T.refused k) a b = absurd (b.no_line a.0 a.1)
+one_what pieces t bytes (T.refused j) (T.is W.Record) a b = absurd (a.no_record b.0 b.1)
+one_what pieces t bytes (T.refused j) (T.is W.Line) a b = absurd (a.no_line b.0 b.1)
+one_what pieces t bytes (T.refused j) (T.refused k) a b = ap T.refused (one_number pieces t bytes j k a.number b.number)
+one_what pieces t bytes T.absent r a b = absurd a
+one_what pieces t bytes (T.is w) T.absent a b = absurd b
+one_what pieces t bytes (T.refused k) T.absent a b = absurd b
 
--- what is so is answered
-pub what_all : (pieces : Pieces) (t : List ℕ) → Bytes t → (r : What) → Is pieces t r → what_told r ≡ what_of pieces t
-what_all pieces t bytes r a =
-    let w = what_is pieces t bytes in
-    ap what_told (one_what pieces t bytes r w.answer a w.so) ∙ w.told
+-- what is so is told
+pub what_all : (pieces : Pieces) (t : List ℕ) → Bytes t → (r : T.Told What) → Is pieces t r → r ≡ what_of pieces t
+what_all pieces t bytes r a = let w = what_is pieces t bytes in one_what pieces t bytes r w.answer a w.so ∙ w.told
 
 -- both ways
-pub what_exactly : (pieces : Pieces) (t : List ℕ) → Bytes t → (r : What) → (what_told r ≡ what_of pieces t) ↔ Is pieces t r
+pub what_exactly : (pieces : Pieces) (t : List ℕ) → Bytes t → (r : T.Told What) → (r ≡ what_of pieces t) ↔ Is pieces t r
 what_exactly pieces t bytes r = (is, what_all pieces t bytes r)
   where
-    is : what_told r ≡ what_of pieces t → Is pieces t r
-    is e =
-        let w = what_is pieces t bytes in
-        let same : w.answer ≡ r = one_what_answer w.answer r (w.told ∙ sym e) in
-        subst (λ (q : What). Is pieces t q) same w.so
+    is : r ≡ what_of pieces t → Is pieces t r
+    is e = let w = what_is pieces t bytes in subst (λ (q : T.Told What). Is pieces t q) (w.told ∙ sym e) w.so
 
 -- ---- already decoded
 
@@ -254,7 +239,7 @@ record_comes pieces t bytes v r = Comes.once round
     wrote : Wrote (record_bytes says.0) buffer answer.0 written
     wrote = says.2.written buffer answer.0 written (record { enough = omega arith; contract = record { answer = answer.1; buffer = refl } })
 
-    write : WriteCall t accepted.0 left buffer (Written.Bytes (length (record_bytes says.0))) written
+    write : WriteCall t accepted.0 left buffer (Ok (length (record_bytes says.0))) written
     write =
         record {
           enough = omega arith;
@@ -282,28 +267,36 @@ record_comes pieces t bytes v r = Comes.once round
 -- ---- the promises
 
 -- an answer of the call, by what the text is
-call_exactly : (pieces : Pieces) (text : List ℕ) (answer : What) → WhatCall pieces text answer → (r : What) → (answer ≡ r) ↔ Is pieces text r
+call_exactly : (pieces : Pieces) (text : List ℕ) (answer : Result What Refusal) → WhatCall pieces text answer → (r : T.Told What)
+    → (told answer ≡ r) ↔ Is pieces text r
 call_exactly pieces text answer c r =
     let w = what_exactly pieces text c.bytes r in
-    (λ e. w.0 (ap what_told (sym e) ∙ c.contract), λ a. one_what_answer answer r (c.contract ∙ sym (w.1 a)))
+    (λ e. w.0 (sym e ∙ c.contract), λ a. c.contract ∙ sym (w.1 a))
+
+-- the same of an answer that is a grammar
+call_says : (pieces : Pieces) (text : List ℕ) (answer : Result What Refusal) → WhatCall pieces text answer → (what : What)
+    → (answer ≡ Ok what) ↔ Is pieces text (T.is what)
+call_says pieces text answer c what =
+    let w = call_exactly pieces text answer c (T.is what) in
+    (λ e. w.0 (ap told e), λ a. one_told answer (Ok what) (w.1 a))
 
 -- no second answer satisfies the contract of `what_is`
-pub no_second_what : (pieces : Pieces) (text : List ℕ) (a b : What) → WhatCall pieces text a → WhatCall pieces text b → a ≡ b
-no_second_what pieces text a b c d = one_what_answer a b (c.contract ∙ sym d.contract)
+pub no_second_what : (pieces : Pieces) (text : List ℕ) (a b : Result What Refusal) → WhatCall pieces text a → WhatCall pieces text b → a ≡ b
+no_second_what pieces text a b c d = one_told a b (c.contract ∙ sym d.contract)
 
 -- what the call tells of every text
 pub what_a_text_is : (pieces : Pieces) → WhatATextIs pieces
 what_a_text_is pieces =
     record {
-      says_record = λ text answer c. call_exactly pieces text answer c W.Record;
-      says_line = λ text answer c. call_exactly pieces text answer c W.Line;
-      says_neither = λ text answer c k. call_exactly pieces text answer c (W.Neither k);
+      says_record = λ text answer c. call_says pieces text answer c W.Record;
+      says_line = λ text answer c. call_says pieces text answer c W.Line;
+      says_neither = λ text answer c k. call_exactly pieces text answer c (T.refused k);
       one_holds = λ text bytes. ((what_is pieces text bytes).answer, (what_is pieces text bytes).so);
       no_two_hold = one_what pieces;
       already_decoded =
           λ text answer c. (
-            λ e. let r = (call_exactly pieces text answer c W.Record).0 e in (text, record_comes pieces text c.bytes r.0 r.1),
-            λ y. let h = comes_says pieces y.0 text y.1 in (call_exactly pieces text answer c W.Record).1 (h.0, h.2),
+            λ e. let r = (call_says pieces text answer c W.Record).0 e in (text, record_comes pieces text c.bytes r.0 r.1),
+            λ y. let h = comes_says pieces y.0 text y.1 in (call_says pieces text answer c W.Record).1 (h.0, h.2),
           );
       record_numbers = λ text k o first. number_a1 text k o.number first;
       line_numbers = λ text k o first. number_no_a1 text k o.number first;

@@ -2,7 +2,7 @@
 -- `packet` of crate `intake`, `write` of crate `writer`, and `data` of crate `questions`, and over the choice, as Demand3 is.
 use Rattle.refusal.specs.Told.{told}
 use Rattle.refusal.specs.declared.Refusal.{Refusal}
-use Rattle.std.specs.Prelude.{ℕ, ◌≤◌, ◌≡◌, true, List, length, take, drop, Err, None, Ok, Result, Some}
+use Rattle.std.specs.Prelude.{ℕ, ◌≤◌, ◌≡◌, true, List, length, take, drop, Ok, Result, Some}
 use Rattle.text.specs.Part.{Slice, OwnDwords}
 use Rattle.text.specs.Told.{Told}
 use Rattle.tlv.specs.Number.{Bytes}

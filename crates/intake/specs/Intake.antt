@@ -32,8 +32,3 @@ taken_dwords t = cond (starts_a1 t) (dwords_of t) (line_dwords t)
 pub record Taken (pieces : Pieces) (t out exit : List ℕ) (r : Result Entry Refusal) : Type 0 where
   pub answer : told r ≡ taken_of pieces t (length out)
   pub slots : exit ≡ slots_by (told r) (taken_dwords t) out
-
--- the same of a text that is taken as a record
-pub record RecordTaken (t out exit : List ℕ) (r : Result Entry Refusal) : Type 0 where
-  pub answer : told r ≡ read_of t (length out)
-  pub slots : exit ≡ slots_by (told r) (dwords_of t) out

@@ -1,8 +1,10 @@
--- What a text is: a record, a line, or neither. The auditor's question, and what the call `what_is` answers to it.
+-- What a text is: a record, a line, or neither, which a number tells. The auditor's question, and what the call `what_is` answers to it.
 -- It is stated over the choice: a line is one of the choice's grammar. How to read it: as Demand3. `W.` before a name tells the call's answer.
-use Rattle.std.specs.Prelude.{ℕ, ◌≤◌, ◌≡◌, true, false, cond, List, ◌↔◌, take}
+use Rattle.std.specs.Prelude.{ℕ, ◌≤◌, ◌≡◌, true, false, cond, List, ◌↔◌, take, Ok, Result}
 use Rattle.tlv.specs.Number.{Bytes}
-use Rattle.text.specs.Told.{Told, is, refused, and_then}
+use Rattle.refusal.specs.declared.Refusal.{Refusal}
+use Rattle.refusal.specs.Told.{told}
+use Rattle.text.specs.Told.{Told, is, absent, refused, and_then}
 use Rattle.entry.specs.Entry.{EntryValue}
 use Rattle.scan.specs.declared.Pieces.{Pieces}
 use Rattle.scan.specs.Line.{Line, Applies}
@@ -15,23 +17,12 @@ use Rattle.intake.specs.Demand3Packets.{Comes}
 
 -- ---- the answer
 
--- the two grammars
-pub data Grammar : Type 0 where
-  record_grammar : Grammar
-  line_grammar : Grammar
-
--- what each case of the answer tells: the grammar that the text belongs to, or the number of document 01 or 02
-abbrev pub what_told : What → Told Grammar
-what_told W.Record = is record_grammar
-what_told W.Line = is line_grammar
-what_told (W.Neither k) = refused k
-
 -- the grammar of a text that is accepted: a record starts with A1, a line does not
-unfoldable pub grammar_of : List ℕ → Grammar
-grammar_of t = cond (starts_a1 t) record_grammar line_grammar
+unfoldable pub grammar_of : List ℕ → What
+grammar_of t = cond (starts_a1 t) W.Record W.Line
 
--- what is told of a text's grammar, by what is told of its entry with 256 slots
-unfoldable pub what_of : Pieces → List ℕ → Told Grammar
+-- what is told of a text's grammar, by what is told of its entry with 256 slots: the grammar that it belongs to, or the number of document 01 or 02
+unfoldable pub what_of : Pieces → List ℕ → Told What
 what_of pieces t = and_then (taken_of pieces t 256) (λ e. is (grammar_of t))
 
 -- ---- what it means
@@ -48,34 +39,35 @@ pub record Outside (pieces : Pieces) (t : List ℕ) (k : ℕ) : Type 0 where
   pub number : Number pieces t k
 
 -- what a text is, by the grammars and the numbers of documents 01 and 02
-abbrev pub Is : Pieces → List ℕ → What → Type 0
-Is pieces t W.Record = (v : EntryValue) × IsRecord t v
-Is pieces t W.Line = (v : EntryValue) × Line pieces t v
-Is pieces t (W.Neither k) = Outside pieces t k
+abbrev pub Is : Pieces → List ℕ → Told What → Type 0
+Is pieces t (is W.Record) = (v : EntryValue) × IsRecord t v
+Is pieces t (is W.Line) = (v : EntryValue) × Line pieces t v
+Is pieces t absent = ⊥
+Is pieces t (refused k) = Outside pieces t k
 
 -- ---- what is promised
 
 -- A call of `what_is`: it was lent a text and told the choice, and gave this answer.
-pub record WhatCall (pieces : Pieces) (text : List ℕ) (answer : What) : Type 0 where
+pub record WhatCall (pieces : Pieces) (text : List ℕ) (answer : Result What Refusal) : Type 0 where
   -- The text is bytes, as every lent text is.
   pub bytes : Bytes text
   -- The call keeps its contract.
-  pub contract : what_told answer ≡ what_of pieces text
+  pub contract : told answer ≡ what_of pieces text
 
 -- What the call tells of every text.
 pub record WhatATextIs (pieces : Pieces) : Type 0 where
   -- It says "record" exactly when the text belongs to the record grammar.
-  pub says_record : (text : List ℕ) (answer : What) → WhatCall pieces text answer → (answer ≡ W.Record) ↔ ((v : EntryValue) × IsRecord text v)
+  pub says_record : (text : List ℕ) (answer : Result What Refusal) → WhatCall pieces text answer → (answer ≡ Ok W.Record) ↔ ((v : EntryValue) × IsRecord text v)
   -- It says "line" exactly when the text belongs to the choice's line grammar.
-  pub says_line : (text : List ℕ) (answer : What) → WhatCall pieces text answer → (answer ≡ W.Line) ↔ ((v : EntryValue) × Line pieces text v)
-  -- It says "neither" with number k exactly when the text belongs to neither grammar and k is the number that applies.
-  pub says_neither : (text : List ℕ) (answer : What) → WhatCall pieces text answer → (k : ℕ) → (answer ≡ W.Neither k) ↔ Outside pieces text k
+  pub says_line : (text : List ℕ) (answer : Result What Refusal) → WhatCall pieces text answer → (answer ≡ Ok W.Line) ↔ ((v : EntryValue) × Line pieces text v)
+  -- It refuses it with number k exactly when the text belongs to neither grammar and k is the number that applies.
+  pub says_neither : (text : List ℕ) (answer : Result What Refusal) → WhatCall pieces text answer → (k : ℕ) → (told answer ≡ refused k) ↔ Outside pieces text k
   -- One of the three holds of every text.
-  pub one_holds : (text : List ℕ) → Bytes text → (r : What) × Is pieces text r
+  pub one_holds : (text : List ℕ) → Bytes text → (r : Told What) × Is pieces text r
   -- No two of them hold of one text, nor two numbers.
-  pub no_two_hold : (text : List ℕ) → Bytes text → (q r : What) → Is pieces text q → Is pieces text r → q ≡ r
+  pub no_two_hold : (text : List ℕ) → Bytes text → (q r : Told What) → Is pieces text q → Is pieces text r → q ≡ r
   -- Already decoded: it says "record" exactly when the text is what reading some text and writing its entry gives, once or more often.
-  pub already_decoded : (text : List ℕ) (answer : What) → WhatCall pieces text answer → (answer ≡ W.Record) ↔ ((first : List ℕ) × Comes pieces first text)
+  pub already_decoded : (text : List ℕ) (answer : Result What Refusal) → WhatCall pieces text answer → (answer ≡ Ok W.Record) ↔ ((first : List ℕ) × Comes pieces first text)
   -- The number of a text that starts with A1 is 30 to 34.
   pub record_numbers : (text : List ℕ) (k : ℕ) → Outside pieces text k → starts_a1 text ≡ true → (30 ≤ k) × (k ≤ 34)
   -- The number of any other text is 1 to 16 or 18: 256 slots are enough, so it is never 17.

@@ -43,7 +43,7 @@ use Rattle.writer.specs.Writing.{bytes_of, write_of}
 use Rattle.writer.specs.Ranges.{writable}
 use Rattle.intake.specs.Intake.{starts_a1, taken_of, taken_dwords}
 use Rattle.intake.specs.Packets.{packet_by, packet_taken}
-use Rattle.intake.specs.What.{Grammar, what_told, grammar_of, what_of}
+use Rattle.intake.specs.What.{grammar_of, what_of}
 use Rattle.intake.proofs.WhatItIs.{record_number_range}
 use Rattle.filters.specs.declared.row.Seen.TheVariants as S
 use Rattle.scan.specs.declared.Pieces.TheVariants.{Lenient}
@@ -325,7 +325,7 @@ calls_never =
       write = λ t f dwords buffer left r c e. write_never t f dwords (length buffer) (sym c.answer ∙ ap told e);
       read = λ pieces t b slots left r c e. taken_never pieces t b (length slots) (sym c.answer ∙ ap Line.answer_told e);
       packet = λ pieces t b s d slots slots_left places places_left r c e. text_packet_never pieces t b s d (length slots) (length places) (sym c.answer ∙ ap Packets.answer_told e);
-      what_is = λ pieces t b r c e. what_never pieces t b (sym c ∙ ap what_told e);
+      what_is = λ pieces t b r c e. what_never pieces t b (sym c ∙ e);
       stream_feed = fed_never;
       stream_finish = ended_never;
     }

@@ -21,7 +21,7 @@ use Rattle.intake.specs.declared.What.{What}
 use Rattle.intake.specs.declared.What.TheVariants as Is
 use Rattle.intake.specs.Intake.{Taken}
 use Rattle.intake.specs.Packets.{PacketTaken}
-use Rattle.intake.specs.What.{what_told, what_of}
+use Rattle.intake.specs.What.{what_of}
 use Rattle.filters.specs.declared.row.Seen.{Seen}
 use Rattle.filters.specs.declared.row.Seen.TheVariants as S
 use Rattle.filters.specs.declared.Filter.{Filter}
@@ -70,7 +70,7 @@ pub record CallsNever : Type 0 where
   pub packet : (pieces : Pieces) (text : List ℕ) → Bytes text → (book : List ℕ) → Bytes book → (slots slots_left places places_left : List ℕ) (answer : Result Packet Refusal)
       → PacketTaken pieces text book slots slots_left places places_left answer → answer ≡ Err 10 → ⊥
   -- `what_is` of `intake`, strict and lenient.
-  pub what_is : (pieces : Pieces) (text : List ℕ) → Bytes text → (answer : What) → what_told answer ≡ what_of pieces text → answer ≡ Is.Neither 10 → ⊥
+  pub what_is : (pieces : Pieces) (text : List ℕ) → Bytes text → (answer : Result What Refusal) → told answer ≡ what_of pieces text → told answer ≡ refused 10 → ⊥
   -- `feed` of `stream`, whatever is kept; part and buffer are bytes, as all that is lent.
   pub stream_feed : (pieces : Pieces) (part rest : List ℕ) → Bytes part → Bytes rest → (slots : List ℕ) (state : State) (rest_left slots_left : List ℕ) (answer : Fed)
       → FeedDone pieces part rest slots state rest_left slots_left answer → answer.answer ≡ Err 10 → ⊥

@@ -1,17 +1,17 @@
 -- `tell_what` meets its contract, by cases. Assumes nothing.
+use Rattle.refusal.specs.Told.{told}
 use Rattle.capi.specs.Calls.{what_by}
-use Rattle.intake.specs.What.{what_told}
 use mathlib.Core.Path.{sym, ap, ◌∙◌}
 use Rattle.capi.proofs.tell_what.Goals as goal
 
-pub returns-in-Record : goal.returns-in-Record
+pub returns-in-Ok-Record : goal.returns-in-Ok-Record
 unfolding what_by
-returns-in-Record c = rw (sym c.what_is.ensures ∙ ap what_told c.in-Record.is)
+returns-in-Ok-Record c = rw (sym c.what_is.ensures ∙ ap told c.in-Ok-Record.is)
 
-pub returns-in-Line : goal.returns-in-Line
+pub returns-in-Ok-Line : goal.returns-in-Ok-Line
 unfolding what_by
-returns-in-Line c = rw (sym c.what_is.ensures ∙ ap what_told c.in-Line.is)
+returns-in-Ok-Line c = rw (sym c.what_is.ensures ∙ ap told c.in-Ok-Line.is)
 
-pub returns-in-Neither : goal.returns-in-Neither
+pub returns-in-Err : goal.returns-in-Err
 unfolding what_by
-returns-in-Neither c = rw (sym c.what_is.ensures ∙ ap what_told c.in-Neither.is)
+returns-in-Err c = rw (sym c.what_is.ensures ∙ ap told c.in-Err.is)

@@ -4,7 +4,7 @@ use mathlib.Core.Path.{sym, ◌∙◌}
 use Rattle.intake.proofs.read.Goals as goal
 
 pub returns-then-starts_a1 : goal.returns-then-starts_a1
-returns-then-starts_a1 c = taken_record _ _ _ (sym c.starts_a1.ensures ∙ c.if-starts_a1.true) c.read_record.ensures
+returns-then-starts_a1 c = taken_record _ _ _ (sym c.starts_a1.ensures ∙ c.if-starts_a1.true) c.read.ensures
 
 pub returns : goal.returns
 returns c = taken_line _ _ _ (sym c.starts_a1.ensures ∙ c.if-starts_a1.false) c.parse.ensures

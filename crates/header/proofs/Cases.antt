@@ -1,5 +1,5 @@
 -- Cases P2 and P3 of document 01, by computation. Assumes nothing.
-use Rattle.std.specs.Prelude.{None, Some}
+use Rattle.std.specs.Prelude.{Some}
 use mathlib.Core.Path.{◌≡◌, refl}
 use Rattle.text.specs.Class.{between, is_blank, is_digit, is_letter, is_word, in_class}
 use Rattle.text.specs.Number.{digit_of, value, all_digits, number_of}

@@ -7,7 +7,7 @@ use mathlib.Core.List.{List}
 use native.Mathlib.Omega.{arith}
 use lib.Dec.{eqb}
 use lib.ListN.{length, get_or, take, drop}
-use borrow.Author.Tests.{eq-eqb, ne_eqb, eqb-true}
+use borrow.Author.Tests.{eqb-true}
 use Rattle.text.specs.Class.{is_digit}
 use Rattle.text.specs.Number.{number_of}
 use Rattle.text.specs.Place.{First, first_place, is_at, first_byte}
@@ -17,27 +17,6 @@ use Rattle.text.proofs.Numbers.{number_is, number_all}
 use Rattle.header.specs.Cpu.{cpu_at, Cpu, digits_within, cpu_of}
 
 module _ (h : List ℕ) (k : ℕ) where
-  pub no_open : (get_or h k 0 ≡ 91 → ⊥) → cpu_at h k ≡ false
-  unfolding cpu_at
-  no_open n = rw (ne_eqb _ _ n)
-
-  module _ (bracket : get_or h k 0 ≡ 91) where
-    pub no_first : is_digit (get_or h (k + 1) 0) ≡ false → cpu_at h k ≡ false
-    unfolding cpu_at
-    no_first a = rw (eq-eqb _ _ bracket, a)
-
-    pub no_second : is_digit (get_or h (k + 1) 0) ≡ true → is_digit (get_or h (k + 2) 0) ≡ false → cpu_at h k ≡ false
-    unfolding cpu_at
-    no_second a b = rw (eq-eqb _ _ bracket, a, b)
-
-    pub no_third : is_digit (get_or h (k + 1) 0) ≡ true → is_digit (get_or h (k + 2) 0) ≡ true → is_digit (get_or h (k + 3) 0) ≡ false → cpu_at h k ≡ false
-    unfolding cpu_at
-    no_third a b c = rw (eq-eqb _ _ bracket, a, b, c)
-
-    pub all_three : is_digit (get_or h (k + 1) 0) ≡ true → is_digit (get_or h (k + 2) 0) ≡ true → is_digit (get_or h (k + 3) 0) ≡ true → cpu_at h k ≡ eqb (get_or h (k + 4) 0) 93
-    unfolding cpu_at
-    all_three a b c = rw (eq-eqb _ _ bracket, a, b, c)
-
   -- the closing bracket is a byte of the header
   pub cpu_within : cpu_at h k ≡ true → k + 4 < length h
   unfolding cpu_at

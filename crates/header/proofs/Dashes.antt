@@ -4,19 +4,20 @@ use Prim.Native.Nat.{ℕ, zero, suc, ◌+◌, ◌-◌, ◌^◌, ◌≤◌, ◌<�
 use mathlib.Core.Path.{◌≡◌, refl, sym, ap, ◌∙◌}
 use mathlib.Core.Bool.{Bool, true, false, ◌&&◌}
 use mathlib.Core.List.{List}
-use native.Mathlib.Numerals.{add-one}
 use native.Mathlib.Omega.{arith}
-use lib.Dec.{eqb, ltb}
+use lib.Dec.{ltb}
 use lib.ListN.{length, get_or, take, drop}
-use borrow.Author.Tests.{lt-ltb, eq-eqb, ne_eqb, eqb-true, eqb-false}
+use borrow.Author.Tests.{lt-ltb, eq-eqb, ne_eqb, eqb-true}
+use Rattle.std.specs.Bool.{then_some}
+use lib.Seq.{get_or-take, length-take-le}
 use Rattle.text.specs.declared.class.Class.TheVariants.{NotSpace}
-use Rattle.text.specs.Class.{is_digit, in_class}
+use Rattle.text.specs.Class.{is_digit, in_class, other_than}
 use Rattle.text.specs.Number.{number_of}
-use Rattle.text.specs.Place.{last_place, is_at}
+use Rattle.text.specs.Place.{last_place, last_byte, is_at}
 use Rattle.text.specs.Run.{Run, run_end}
 use Rattle.text.proofs.Blocks.{last_skip_to}
-use Rattle.text.proofs.Places.{clash, last_zero, last_hit, last_miss, last_is, last_all}
-use Rattle.text.proofs.Runs.{run_over, run_stop, run_step, run_is, run_all, run_within}
+use Rattle.text.proofs.Places.{clash, last_is, last_all, last_none, last_free}
+use Rattle.text.proofs.Runs.{run_is, run_all, run_within}
 use Rattle.text.proofs.Numbers.{number_is, number_all}
 use Rattle.header.specs.Dash.{dash_at, Task, Pid, first_run, task_of, digits_behind, pid_of}
 
@@ -34,10 +35,6 @@ module _ (numbered : Bool) (h : List ℕ) (k : ℕ) where
       go false t = rw t
 
 module _ (h : List ℕ) (k : ℕ) where
-  pub dash_numbered : 0 < k → get_or h k 0 ≡ 45 → dash_at true h k ≡ is_digit (get_or h (k + 1) 0)
-  unfolding dash_at
-  dash_numbered p e = rw (lt-ltb 0 k p, eq-eqb _ _ e)
-
   dash_plain : 0 < k → get_or h k 0 ≡ 45 → dash_at false h k ≡ true
   unfolding dash_at
   dash_plain p e = rw (lt-ltb 0 k p, eq-eqb _ _ e)
@@ -55,71 +52,53 @@ first_run_all : (h : List ℕ) {run : ℕ} → Run (in_class NotSpace) h 0 run �
 unfolding first_run
 first_run_all h r = run_all (in_class NotSpace) h r
 
--- the place of a dash that has a byte before it, as a number: 0 stands for none
-unfoldable pub dash_named : ℕ → Option ℕ
-dash_named zero = None
-dash_named (suc k) = Some (suc k)
+-- the last dash of the first run, as code finds it there
+module _ (h : List ℕ) {run : ℕ} (run-is : run ≡ run_end (other_than 32) h 0) where
+  -- a dash of the run is one of the part before its end
+  run_same : run ≡ first_run h
+  unfolding first_run in_class
+  run_same = run-is
 
--- what a walk along the first run holds at place i: the run goes on from there, and `dash` names the last dash before it
-pub record Walked (h : List ℕ) (dash i : ℕ) : Type 0 where
-  pub within : i ≤ length h
-  pub goes_on : first_run h ≡ run_end (in_class NotSpace) h i
-  pub last : last_place (dash_at false h) i ≡ dash_named dash
+  run_length : length (take run h) ≡ run
+  run_length = length-take-le run h (omega (arith, run_same, first_run_within h))
 
-module _ (h : List ℕ) where
-  pub walked_none : Walked h 0 0
-  unfolding first_run dash_named
-  walked_none = record { within = omega arith; goes_on = refl; last = last_zero (dash_at false h) }
+  in_run : (k : ℕ) → k < run → get_or (take run h) k 0 ≡ get_or h k 0
+  in_run k l = get_or-take run h k 0 l
 
-  module _ {dash i : ℕ} (r : Walked h dash i) where
-    -- the walk's step past a byte of the run
-    module _ (inside : i < length h) (no-space : get_or h i 0 ≡ 32 → ⊥) where
-      step : {d : ℕ} → last_place (dash_at false h) (suc i) ≡ dash_named d → Walked h d (i + 1)
-      unfolding in_class
-      step e =
-          record {
-            within = omega arith;
-            goes_on = r.goes_on ∙ run_step (in_class NotSpace) h inside (rw (ne_eqb _ _ no-space));
-            last = rw add-one e;
-          }
+  no_dash : (k : ℕ) → is_at 45 h k ≡ false → dash_at false h k ≡ false
+  no_dash k e = dash_other false h k (λ q. clash (eq-eqb _ _ q) e)
 
-      pub walked-dash : get_or h i 0 ≡ 45 → Walked h i (i + 1)
-      unfolding dash_named
-      walked-dash e = step (go i refl)
+  -- where no dash stands there is no task
+  pub task_missing : last_byte 45 (take run h) ≡ None → None ≡ task_of h
+  unfolding task_of last_byte
+  task_missing e =
+      rw (← run_same)
+      (sym (last_none (dash_at false h) run (λ k a l. no_dash k (rw (in_run k l) at (last_free (is_at 45 (take run h)) e k a (omega (arith, run_length)))))))
+
+  -- the last dash is the task's where a byte stands before it; at place 0 it is none, and no other dash stands
+  pub task_kept : {dash : ℕ} → last_byte 45 (take run h) ≡ Some dash → then_some (ltb 0 dash) dash ≡ task_of h
+  unfolding task_of last_byte
+  task_kept {dash} e =
+      let r = last_is (is_at 45 (take run h)) e in
+      let inside : dash < run = omega (arith, r.within, run_length) in
+      let none_after : (k : ℕ) → suc dash ≤ k → k < run → dash_at false h k ≡ false = λ k a l. no_dash k (rw (in_run k l) at (r.after k a (omega (arith, run_length)))) in
+      rw (← run_same) (go dash refl inside none_after)
+    where
+      go : (d : ℕ) → dash ≡ d → d < run → ((k : ℕ) → suc d ≤ k → k < run → dash_at false h k ≡ false) → then_some (ltb 0 d) d ≡ last_place (dash_at false h) run
+      go zero q l f = sym (last_none (dash_at false h) run (λ k a m. first k f m))
         where
-          go : (k : ℕ) → i ≡ k → last_place (dash_at false h) (suc k) ≡ dash_named k
-          go zero q = last_miss (dash_at false h) 0 (dash_first false h 0 refl) ∙ last_zero (dash_at false h)
-          go (suc k) q = last_hit (dash_at false h) (suc k) (dash_plain h (suc k) (omega arith) (rw q at e))
-
-      pub walked-other : (get_or h i 0 ≡ 45 → ⊥) → Walked h dash (i + 1)
-      walked-other n = step (last_miss (dash_at false h) i (dash_other false h i n) ∙ r.last)
-
-      -- either way, by what the walk then names
-      pub walked_on : (d : ℕ) → (get_or h i 0 ≡ 45 → d ≡ i) → ((get_or h i 0 ≡ 45 → ⊥) → d ≡ dash) → Walked h d (i + 1)
-      walked_on d a b = go (eqb (get_or h i 0) 45) refl
-        where
-          go : (t : Bool) → eqb (get_or h i 0) 45 ≡ t → Walked h d (i + 1)
-          go true q = let e : get_or h i 0 ≡ 45 = eqb-true _ _ q in rw (a e) (walked-dash e)
-          go false q = let n : get_or h i 0 ≡ 45 → ⊥ = eqb-false _ _ q in rw (b n) (walked-other n)
-
-    -- the walk's two ends: at a byte 32, and at the header's end
-    pub walked_space : i < length h → get_or h i 0 ≡ 32 → task_of h ≡ dash_named dash
-    unfolding task_of in_class
-    walked_space l e = ap (last_place (dash_at false h)) (r.goes_on ∙ run_stop (in_class NotSpace) h l (rw e)) ∙ r.last
-
-    pub walked_whole : length h ≤ i → task_of h ≡ dash_named dash
-    unfolding task_of
-    walked_whole l = ap (last_place (dash_at false h)) (r.goes_on ∙ run_over (in_class NotSpace) h l) ∙ r.last
-
-  -- what the walk names is the task's dash
-  pub task_none : {dash : ℕ} → task_of h ≡ dash_named dash → dash ≡ 0 → None ≡ task_of h
-  unfolding dash_named
-  task_none e z = sym (e ∙ ap dash_named z)
-
-  pub task_some : (dash : ℕ) → task_of h ≡ dash_named dash → (dash ≡ 0 → ⊥) → Some dash ≡ task_of h
-  unfolding dash_named
-  task_some zero e n = absurd (n refl)
-  task_some (suc k) e n = sym e
+          first : (k : ℕ) → ((k : ℕ) → 1 ≤ k → k < run → dash_at false h k ≡ false) → k < run → dash_at false h k ≡ false
+          first zero f m = dash_first false h 0 refl
+          first (suc k) f m = f (suc k) (omega arith) m
+      go (suc d) q l f =
+          rw (lt-ltb 0 (suc d) (omega arith))
+          (sym
+          (last_all (dash_at false h) run
+          (record {
+            within = l;
+            here = dash_plain h (suc d) (omega arith) (let t : get_or (take run h) (suc d) 0 ≡ 45 = rw (← q) (eqb-true _ _ (last_is (is_at 45 (take run h)) e).here) in sym (in_run (suc d) l) ∙ t);
+            after = f;
+          })))
 
 -- the task is what the sentence says, and nothing else is
 pub task_is : (h : List ℕ) {m : ℕ} → task_of h ≡ Some m → Task h (take m h)

@@ -1,13 +1,13 @@
 -- The function is a run that ends the header, before it a run that ends what is left: one of each. Assumes nothing.
 use Rattle.std.specs.Prelude.{None, Some}
-use Prim.Native.Nat.{ℕ, ◌≤◌, ◌<◌}
+use Prim.Native.Nat.{ℕ, ◌<◌}
 use mathlib.Core.Path.{◌≡◌, refl, sym, ap, ◌∙◌}
 use mathlib.Core.Bool.{Bool, true, false, ◌&&◌}
 use mathlib.Core.List.{List}
 use native.Mathlib.Omega.{arith}
 use lib.Dec.{ltb, eqb}
 use lib.ListN.{length, take, drop}
-use borrow.Author.Tests.{lt-ltb, le-ltb, eq-eqb, ne_eqb, ltb-true, eqb-true}
+use borrow.Author.Tests.{lt-ltb, eq-eqb, ltb-true, eqb-true}
 use Rattle.text.specs.Class.{is_word, is_blank}
 use Rattle.text.specs.Place.{byte_before}
 use Rattle.text.specs.Run.{run_start}
@@ -15,24 +15,10 @@ use Rattle.text.proofs.Texts.{both_left, both_right}
 use Rattle.text.proofs.Runs.{back_is, back_all}
 use Rattle.header.specs.Function.{Function, function_of}
 
--- the ways of the search, with the two places as code has them
-module _ (h : List ℕ) (word blank : ℕ) (word-is : word ≡ run_start is_word h) where
-  pub no_word_lem : length h ≤ word → function_of h ≡ None
-  unfolding function_of
-  no_word_lem l = rw (← word-is, le-ltb word (length h) l)
-
-  module _ (some_word : word < length h) (blank-is : blank ≡ run_start is_blank (take word h)) where
-    pub no_blank : word ≤ blank → function_of h ≡ None
-    unfolding function_of
-    no_blank l = rw (← word-is, ← blank-is, lt-ltb word (length h) some_word, le-ltb blank word l)
-
-    pub no_colon : blank < word → (byte_before h blank ≡ 58 → ⊥) → function_of h ≡ None
-    unfolding function_of
-    no_colon l n = rw (← word-is, ← blank-is, lt-ltb word (length h) some_word, lt-ltb blank word l, ne_eqb _ _ n)
-
-    pub all_there : blank < word → byte_before h blank ≡ 58 → function_of h ≡ Some word
-    unfolding function_of
-    all_there l e = rw (← word-is, ← blank-is, lt-ltb word (length h) some_word, lt-ltb blank word l, eq-eqb _ _ e)
+-- all that is asked is there
+all_there : (h : List ℕ) (word blank : ℕ) → word ≡ run_start is_word h → word < length h → blank ≡ run_start is_blank (take word h) → blank < word → byte_before h blank ≡ 58 → function_of h ≡ Some word
+unfolding function_of
+all_there h word blank word-is some_word blank-is l e = rw (← word-is, ← blank-is, lt-ltb word (length h) some_word, lt-ltb blank word l, eq-eqb _ _ e)
 
 pub function_all : (h : List ℕ) {f : List ℕ} (r : Function h f) → function_of h ≡ Some r.word
 function_all h r =

@@ -12,38 +12,23 @@ pub fn parse_cpu(h: &[u8]) -> Option<u64>
     ensures { result ≡ cpu_of h.now }
 {
     let mut i = 0;
-    loop {
-        match first(h, b'[', i) {
-            Some(k) => {
-                if is_cpu(h, k) {
-                    let from = k + 1;
-                    let end = k + 4;
-                    return decimal(&h[from..end], 999);
-                }
-                i = k + 1;
-            }
-            None => {
-                return None;
-            }
+    while let Some(k) = first(h, b'[', i) {
+        if is_cpu(h, k) {
+            return decimal(&h[k + 1..k + 4], 999);
         }
+        i = k + 1;
     }
+    None
 }
 
+#[tactic(auto, unfolding(crate::specs::Cpu::cpu_at))]
 fn is_cpu(h: &[u8], i: usize) -> bool
     requires { i < length h.now }
     ensures { result ≡ cpu_at h.now i }
 {
-    if byte_at(h, i) != b'[' {
-        return false;
-    }
-    if !is_digit(byte_at(h, i + 1)) {
-        return false;
-    }
-    if !is_digit(byte_at(h, i + 2)) {
-        return false;
-    }
-    if !is_digit(byte_at(h, i + 3)) {
-        return false;
-    }
-    byte_at(h, i + 4) == b']'
+    byte_at(h, i) == b'['
+        && is_digit(byte_at(h, i + 1))
+        && is_digit(byte_at(h, i + 2))
+        && is_digit(byte_at(h, i + 3))
+        && byte_at(h, i + 4) == b']'
 }

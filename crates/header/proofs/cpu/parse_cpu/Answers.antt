@@ -10,11 +10,11 @@ loop-k-init c = seeking_starts _
 pub is_cpu-requires : goal.is_cpu-requires
 is_cpu-requires c = (next_bracket c.args.h.now (sym c.first.ensures ∙ c.in-Some.is)).within
 
-pub overflow_add-from : goal.overflow_add-from
-overflow_add-from c = omega (arith, (next_bracket c.args.h.now (sym c.first.ensures ∙ c.in-Some.is)).within)
+pub overflow_add-k : goal.overflow_add-k
+overflow_add-k c = omega (arith, (next_bracket c.args.h.now (sym c.first.ensures ∙ c.in-Some.is)).within)
 
-pub overflow_add-end : goal.overflow_add-end
-overflow_add-end c = omega (arith, cpu_within _ _ (sym c.is_cpu.ensures ∙ c.if-is_cpu.true))
+pub overflow_add-k-then-is_cpu : goal.overflow_add-k-then-is_cpu
+overflow_add-k-then-is_cpu c = omega (arith, cpu_within _ _ (sym c.is_cpu.ensures ∙ c.if-is_cpu.true))
 
 pub slice_bounds-decimal-count : goal.slice_bounds-decimal-count
 slice_bounds-decimal-count c = omega arith
@@ -37,5 +37,5 @@ loop-k-smaller c = omega (arith, (next_bracket c.args.h.now (sym c.first.ensures
 pub loop-k-preserved : goal.loop-k-preserved
 loop-k-preserved c = seeking_steps _ c.loop-k.invariant (sym c.first.ensures ∙ c.in-Some.is) (sym c.is_cpu.ensures ∙ c.if-is_cpu.false)
 
-pub returns-in-None : goal.returns-in-None
-returns-in-None c = cpu_none _ (seeking_ends _ c.loop-k.invariant (sym c.first.ensures ∙ c.in-None.is))
+pub returns : goal.returns
+returns c = cpu_none _ (seeking_ends _ c.loop-k.invariant (sym c.first.ensures ∙ c.in_default.is))

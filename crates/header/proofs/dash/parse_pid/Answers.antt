@@ -13,14 +13,14 @@ overflow_add-task c = omega (arith, task_within c.args.h.now c.requires)
 pub last_dash-requires : goal.last_dash-requires
 last_dash-requires c = omega (arith, task_within c.args.h.now c.requires)
 
-pub overflow_add-k : goal.overflow_add-k
-overflow_add-k c = omega (arith, (last_is (dash_at true c.args.h.now) (sym c.last_dash.ensures ∙ c.in-Some.is)).within, task_within c.args.h.now c.requires)
+pub overflow_add-dash : goal.overflow_add-dash
+overflow_add-dash c = omega (arith, (last_is (dash_at true c.args.h.now) (sym c.last_dash.ensures ∙ c.in_ok-dash.was)).within, task_within c.args.h.now c.requires)
 
 pub leading-requires : goal.leading-requires
-leading-requires c = omega (arith, (last_is (dash_at true c.args.h.now) (sym c.last_dash.ensures ∙ c.in-Some.is)).within, task_within c.args.h.now c.requires)
+leading-requires c = omega (arith, (last_is (dash_at true c.args.h.now) (sym c.last_dash.ensures ∙ c.in_ok-dash.was)).within, task_within c.args.h.now c.requires)
 
-pub returns-in-Some : goal.returns-in-Some
-returns-in-Some c = c.leading.ensures ∙ pid_some _ (pid_before_task c.args.h.now c.requires ∙ sym c.last_dash.ensures ∙ c.in-Some.is)
+pub returns : goal.returns
+returns c = c.leading.ensures ∙ pid_some _ (pid_before_task c.args.h.now c.requires ∙ sym c.last_dash.ensures ∙ c.in_ok-dash.was)
 
-pub returns-in-None : goal.returns-in-None
-returns-in-None c = pid_none _ (pid_before_task c.args.h.now c.requires ∙ sym c.last_dash.ensures ∙ c.in-None.is)
+pub returns-in_err-dash : goal.returns-in_err-dash
+returns-in_err-dash c = rw c.from_residual.ensures (pid_none _ (pid_before_task c.args.h.now c.requires ∙ sym c.last_dash.ensures ∙ c.in_err-dash.was))

@@ -6,6 +6,8 @@ use Rattle.text.specs.declared.number.BadNumber.TheVariants as BadNumber
 use Prim.Native.Nat.{ℕ, ◌≤◌, ◌<◌}
 use mathlib.Core.Path.{◌≡◌, refl, sym, ap, ◌∙◌}
 use mathlib.Core.Bool.{Bool, true, false, cond, ◌&&◌}
+use Rattle.std.proofs.Math.Bool.{and-true, and-false}
+use Rattle.std.proofs.lemmas.Cmp.{nat_eq_equiv}
 use mathlib.Core.List.{List, [], ◌∷◌}
 use mathlib.Core.Logic.{◌↔◌}
 use native.Mathlib.Omega.{arith}
@@ -15,6 +17,8 @@ use Rattle.text.specs.Class.{between, is_digit}
 use Rattle.text.specs.Place.{is_at}
 use Rattle.text.specs.Number.{digit_of, value, Reads, HexNumber, DigitsFrom, EmptyHex, Means, digits_from, hex_of, hex_number_of}
 use Rattle.std.specs.Result.{result_ok}
+use Rattle.std.specs.List.{starts_with as has_prefix}
+use lib.Dec.{eqb}
 use Rattle.text.proofs.Texts.{both_left, both_right}
 use Rattle.text.proofs.Numbers.{Judged, judged, judged_all, judged_reads, reads_judged, value_read}
 
@@ -36,6 +40,20 @@ module _ (s : List ℕ) where
   pub from_both : get_or s 0 0 ≡ 48 → get_or s 1 0 ≡ 120 → 2 ≡ digits_from s
   unfolding digits_from
   from_both a b = rw (eq-eqb _ _ a, eq-eqb _ _ b)
+
+  -- as the test of a prefix says it
+  prefix_is : has_prefix eqb s (48 ∷ 120 ∷ []) ≡ (is_at 48 s 0 && is_at 120 s 1)
+  prefix_is = go s
+    where
+      go : (l : List ℕ) → has_prefix eqb l (48 ∷ 120 ∷ []) ≡ (is_at 48 l 0 && is_at 120 l 1)
+      go [] = refl
+      go (a ∷ []) = and-false _ ∙ sym (and-false _)
+      go (a ∷ b ∷ l) = rw and-true (rw (nat_eq_equiv.symm 48 a, nat_eq_equiv.symm 120 b))
+
+  pub from_prefix : (n : ℕ) (x : Bool) → x ≡ has_prefix eqb s (48 ∷ 120 ∷ []) → n ≡ cond x 2 0 → n ≡ digits_from s
+  unfolding digits_from
+  from_prefix n x e h = h ∙ rw (e, prefix_is)
+
 
 starts_with : (s : List ℕ) → get_or s 0 0 ≡ 48 → get_or s 1 0 ≡ 120 → s ≡ 48 ∷ 120 ∷ drop 2 s
 starts_with [] a b = absurd (omega arith)

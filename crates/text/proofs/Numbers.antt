@@ -5,7 +5,7 @@ use Rattle.text.specs.declared.number.BadNumber.{BadNumber}
 use Rattle.text.specs.declared.number.BadNumber.TheVariants as BadNumber
 use Prim.Native.Nat.{ℕ, zero, suc, ◌+◌, ◌-◌, ◌*◌, ◌/◌, ◌≤◌, ◌<◌}
 use mathlib.Core.Path.{◌≡◌, refl, sym, ◌∙◌}
-use mathlib.Core.Bool.{Bool, true, false, cond, ◌&&◌}
+use mathlib.Core.Bool.{Bool, true, false, cond, not, ◌&&◌, true≢false}
 use mathlib.Core.List.{List, [], ◌∷◌}
 use native.Mathlib.Numerals.{add-one}
 use native.Mathlib.Omega.{arith}
@@ -16,8 +16,9 @@ use lib.Seq.{drop-cons, get_or-drop}
 use borrow.Author.Tests.{lt-ltb, le-ltb, le-leb, lt-leb, ltb-true, ltb-false, leb-true, leb-false}
 use Rattle.text.specs.Class.{between}
 use Rattle.text.specs.Place.{Free, First, first_place}
-use Rattle.text.specs.Number.{digit_of, value, Reads, all_digits, number_of, bad_at, bad_first, reason_of, value_within, reading_of}
+use Rattle.text.specs.Number.{digit_of, digit_in, value, Reads, all_digits, number_of, bad_at, bad_first, reason_of, value_within, reading_of}
 use Rattle.std.specs.Result.{result_ok}
+use Rattle.std.specs.Option.{is_some}
 use Rattle.text.proofs.Places.{first_is, first_all, first_none, first_free, place_hit, place_miss, place_end}
 use Rattle.text.proofs.Texts.{both_left, both_right}
 
@@ -32,6 +33,38 @@ value_grows base h v (b ∷ s) =
 pub at_least : (low high : ℕ) {b : ℕ} → between low high b ≡ true → low ≤ b
 unfolding between
 at_least low high {b} e = leb-true low b (both_left _ _ e)
+
+-- a digit of the base, or a byte that is none
+module _ (base b : ℕ) where
+  pub digit_there : {d : ℕ} → digit_in base b ≡ Some d → (d ≡ digit_of b) × (d < base)
+  unfolding digit_in
+  digit_there {d} = go (ltb (digit_of b) base) refl
+    where
+      go : (x : Bool) → ltb (digit_of b) base ≡ x → cond x (Some (digit_of b)) None ≡ Some d → (d ≡ digit_of b) × (d < base)
+      go true t e = let same : digit_of b ≡ d = cc in (sym same, omega (arith, same, ltb-true _ _ t))
+      go false t e = absurd (let z : ◌≡◌ {A = ℕ} 0 1 = cc in omega arith)
+
+  pub digit_missing : digit_in base b ≡ None → base ≤ digit_of b
+  unfolding digit_in
+  digit_missing = go (ltb (digit_of b) base) refl
+    where
+      go : (x : Bool) → ltb (digit_of b) base ≡ x → cond x (Some (digit_of b)) None ≡ None → base ≤ digit_of b
+      go true t e = absurd (let z : ◌≡◌ {A = ℕ} 0 1 = cc in omega arith)
+      go false t e = ltb-false _ _ t
+
+  pub digit_shown : {r : Bool} → is_some (digit_in base b) ≡ not r → r ≡ false → digit_of b < base
+  digit_shown {r} h e = go (digit_in base b) refl (h ∙ rw e)
+    where
+      go : (o : Option ℕ) → digit_in base b ≡ o → is_some o ≡ true → digit_of b < base
+      go (Some d) q t = let f = digit_there q in omega (arith, f.0, f.1)
+      go None q t = absurd (true≢false (sym t))
+
+  pub digit_hidden : {r : Bool} → is_some (digit_in base b) ≡ not r → r ≡ true → base ≤ digit_of b
+  digit_hidden {r} h e = go (digit_in base b) refl (h ∙ rw e)
+    where
+      go : (o : Option ℕ) → digit_in base b ≡ o → is_some o ≡ false → base ≤ digit_of b
+      go (Some d) q t = absurd (true≢false t)
+      go None q t = digit_missing q
 
 -- ---- the reader's loop
 

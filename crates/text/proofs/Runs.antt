@@ -1,9 +1,11 @@
 -- Longest runs: a run ends at the first place that does not pass, and one that ends the text starts behind the last such place, so every
 -- law of runs is one of places. Assumes nothing.
 use Rattle.std.specs.Prelude.{None, Option, Some}
+use Rattle.std.specs.Bool.{then_some}
+use Rattle.std.specs.Option.{SomeIff}
 use Prim.Native.Nat.{ℕ, zero, suc, ◌+◌, ◌-◌, ◌≤◌, ◌<◌}
 use mathlib.Core.Path.{◌≡◌, refl, sym, ap, ◌∙◌}
-use mathlib.Core.Bool.{Bool, true, false, not}
+use mathlib.Core.Bool.{Bool, true, false, cond, not}
 use mathlib.Core.List.{List}
 use native.Mathlib.Omega.{arith}
 use lib.Dec.{ltb}
@@ -166,29 +168,23 @@ module _ (b : ℕ) (s : List ℕ) where
   behind_byte = ap behind (last_same other_fails_at (length s))
 
   -- so the run tells where the byte stands
-  pub first_there : {i k : ℕ} → EndsAt (other_than b) s i k → k < length s → Some k ≡ first_byte b s i
+  pub first_found : {i k : ℕ} → EndsAt (other_than b) s i k → then_some (ltb k (length s)) k ≡ first_byte b s i
   unfolding first_byte first_place found_below
-  first_there {i} {k} r h = rw (← until_first i, ← r.is, lt-ltb k (length s) h)
-
-  pub first_nowhere : {i k : ℕ} → EndsAt (other_than b) s i k → length s ≤ k → None ≡ first_byte b s i
-  unfolding first_byte first_place found_below
-  first_nowhere {i} {k} r h = rw (← until_first i, ← r.is, le-ltb k (length s) h)
-
-  pub last_there : {k : ℕ} → StartsAt (other_than b) s k → 0 < k → Some (k - 1) ≡ last_byte b s
-  unfolding last_byte behind
-  last_there {k} r h = go (last_place (is_at b s) (length s)) (r.is ∙ behind_byte)
+  first_found {i} {k} r = rw (← until_first i, ← r.is) (go (ltb k (length s)))
     where
-      go : (f : Option ℕ) → k ≡ behind f → Some (k - 1) ≡ f
-      go (Some j) q = ap Some (omega arith)
-      go None q = absurd (omega arith)
+      go : (x : Bool) → then_some x k ≡ cond x (Some k) None
+      go true = refl
+      go false = refl
 
-  pub last_nowhere : {k : ℕ} → StartsAt (other_than b) s k → k ≡ 0 → None ≡ last_byte b s
+  pub last_found : {k : ℕ} {r : Option ℕ} → StartsAt (other_than b) s k → SomeIff r (1 ≤ k) (k - 1) → r ≡ last_byte b s
   unfolding last_byte behind
-  last_nowhere {k} r h = go (last_place (is_at b s) (length s)) (r.is ∙ behind_byte)
+  last_found {k} {r} at = go (last_place (is_at b s) (length s)) (at.is ∙ behind_byte) r
     where
-      go : (f : Option ℕ) → k ≡ behind f → None ≡ f
-      go (Some j) q = absurd (omega arith)
-      go None q = refl
+      go : (f : Option ℕ) → k ≡ behind f → (r : Option ℕ) → SomeIff r (1 ≤ k) (k - 1) → r ≡ f
+      go (Some j) q (Some i) h = ap Some (omega (arith, h))
+      go (Some j) q None h = absurd (h (omega arith))
+      go None q (Some i) h = absurd (omega (arith, h))
+      go None q None h = refl
 
   -- by blocks of d bytes: the run ends where the first block that has the byte says, or the last block of all
   pub until_block : (d : ℕ) {from i e : ℕ} → from ≤ i → i + d ≤ length s → Free (is_at b s) from i → ltb (first_of (is_at b s) d i) (i + d) ≡ true →

@@ -11,6 +11,10 @@ use Rattle.text.specs.Run.{run_end}
 unfoldable pub digit_of : ℕ → ℕ
 digit_of b = cond (is_digit b) (b - 48) (cond (between 97 102 b) (b - 87) (cond (between 65 70 b) (b - 55) 16))
 
+-- the value of a digit of the base, none for a byte that is none
+unfoldable pub digit_in : ℕ → ℕ → Option ℕ
+digit_in base b = cond (ltb (digit_of b) base) (Some (digit_of b)) None
+
 -- v followed by the digits of s
 unfoldable pub value : ℕ → ℕ → List ℕ → ℕ
 value base v [] = v
@@ -116,4 +120,3 @@ hex_of limit s = reading_of 16 limit (digits_from s) s
 -- the hex number that s is
 abbrev pub hex_number_of : ℕ → List ℕ → Option ℕ
 hex_number_of limit s = result_ok (hex_of limit s)
-

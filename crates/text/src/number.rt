@@ -1,23 +1,22 @@
 // Decimal and hex numbers within a width: one reader over base and limit, with a loop for up to sixteen digits and one for more. `leading` reads a digit
 // run while its end is sought: right because digits that no digit follows are the whole run, and sixteen of them stay within 64 bits.
-ghost use Rattle.std.specs.Prelude.{◌≡◌, cond, ◌≤◌, ◌<◌, ◌+◌, leb, length};
-ghost use Rattle.text.specs.Number.{digit_of, number_of, leading_of, reading_of, reason_of, digits_from, hex_of};
+ghost use Rattle.std.specs.Prelude.{◌≡◌, cond, ◌≤◌, ◌<◌, ◌+◌, leb, length, Err};
+ghost use Rattle.text.specs.Number.{digit_in, number_of, leading_of, reading_of, reason_of, digits_from, hex_of};
 ghost use Rattle.std.specs.Result.{result_ok};
 
-use crate::class::{Class, is_digit, lies_between};
-use crate::place::byte_at;
+use crate::class::Class;
 use crate::run::run_end;
 
 // The largest value of each width.
-pub const MAX_8: u64 = 0xff;
+pub const MAX_8: u64 = u8::MAX as u64;
 
-pub const MAX_16: u64 = 0xffff;
+pub const MAX_16: u64 = u16::MAX as u64;
 
-pub const MAX_32: u64 = 0xffff_ffff;
+pub const MAX_32: u64 = u32::MAX as u64;
 
-pub const MAX_63: u64 = 0x7fff_ffff_ffff_ffff;
+pub const MAX_63: u64 = i64::MAX as u64;
 
-pub const MAX_64: u64 = 0xffff_ffff_ffff_ffff;
+pub const MAX_64: u64 = u64::MAX;
 
 // The base of a decimal number.
 const TEN: u64 = 10;
@@ -41,7 +40,7 @@ pub fn decimal(s: &[u8], limit: u64) -> Option<u64>
 }
 
 // The whole digit run from a place on, read as decimal. One of more than sixteen digits is read again from its start. Asked for: a place in the text,
-// which `parse_pid` has of the dash that it found.
+// which `parse_pid` has of the dash that it found. The index is counted by hand, as it is asked for behind the loop.
 pub fn leading(s: &[u8], from: usize, limit: u64) -> Option<u64>
     requires { from ≤ length s.now }
     ensures { result ≡ leading_of limit s.now from }
@@ -49,10 +48,7 @@ pub fn leading(s: &[u8], from: usize, limit: u64) -> Option<u64>
     let mut v: u64 = 0;
     let mut i = from;
     while i < s.len() {
-        let d = digit_in(s[i], TEN);
-        if TEN <= d {
-            break;
-        }
+        let Some(d) = digit_in(s[i], TEN) else { break };
         if SHORT <= i - from {
             let end = run_end(s, Class::Digit, from);
             return decimal(&s[from..end], limit);
@@ -60,10 +56,7 @@ pub fn leading(s: &[u8], from: usize, limit: u64) -> Option<u64>
         v = v * TEN + d;
         i += 1;
     }
-    if i == from {
-        return None;
-    }
-    within(v, limit)
+    if i == from { None } else { within(v, limit) }
 }
 
 // `0x` at most once, then one or more digits of either case, of value at most the limit. A bad digit's place counts the `0x`.
@@ -73,22 +66,15 @@ pub fn hex(s: &[u8], limit: u64) -> Result<u64, BadNumber>
     let from = digits_from(s);
     match read(s, from, 16, limit) {
         Some(v) => Ok(v),
-        None => reason(s, from, 16),
+        None => Err(reason(s, from, 16)),
     }
 }
 
 // Behind a leading `0x`, else the start.
-#[tactic(auto, using(crate::proofs::Hexes::from_second))]
 pub fn digits_from(s: &[u8]) -> usize
     ensures { result ≡ digits_from s.now }
 {
-    if byte_at(s, 0) != b'0' {
-        return 0;
-    }
-    if byte_at(s, 1) != b'x' {
-        return 0;
-    }
-    2
+    if s.starts_with(b"0x") { 2 } else { 0 }
 }
 
 // The digits from a place on: as many as always stay within 64 bits are read with no look at the limit until the end.
@@ -97,12 +83,12 @@ fn read(s: &[u8], from: usize, base: u64, limit: u64) -> Option<u64>
     ensures { result ≡ result_ok (reading_of base limit from s.now) }
 {
     if s.len() <= from {
-        return None;
+        None
+    } else if s.len() - from <= SHORT {
+        read_short(s, from, base, limit)
+    } else {
+        read_long(s, from, base, limit)
     }
-    if s.len() - from <= SHORT {
-        return read_short(s, from, base, limit);
-    }
-    read_long(s, from, base, limit)
 }
 
 // At most sixteen digits: no value passes 16^16, so no sum wraps, and the limit is looked at once.
@@ -111,96 +97,63 @@ fn read_short(s: &[u8], from: usize, base: u64, limit: u64) -> Option<u64>
     ensures { result ≡ result_ok (reading_of base limit from s.now) }
 {
     let mut v: u64 = 0;
-    let mut i = from;
-    while i < s.len() {
-        let d = digit_in(s[i], base);
-        if base <= d {
-            return None;
-        }
-        v = v * base + d;
-        i += 1;
+    for i in from..s.len() {
+        v = v * base + digit_in(s[i], base)?;
     }
     within(v, limit)
 }
 
+// However many digits there are, a value that passes the limit or 64 bits is given up at once, as any further digit only raises it; why, `reason` says.
+fn read_long(s: &[u8], from: usize, base: u64, limit: u64) -> Option<u64>
+    requires { (0 < base) × (base ≤ 16) × (from < length s.now) }
+    ensures { result ≡ result_ok (reading_of base limit from s.now) }
+{
+    let mut v: u64 = 0;
+    for i in from..s.len() {
+        let d = digit_in(s[i], base)?;
+        v = v.checked_mul(base)?.checked_add(d)?;
+        if limit < v {
+            return None;
+        }
+    }
+    Some(v)
+}
+
 // A value, unless it is past the limit.
+#[tactic(auto, unfolding(crate::specs::Number::value_within))]
 pub fn within(v: u64, limit: u64) -> Option<u64>
     ensures { result ≡ cond (leb v limit) (Some v) None }
 {
-    if limit < v {
-        return None;
-    }
-    Some(v)
-}
-
-// The limit is divided once: a value above the quotient has no room for any further digit, and for one that is not, the product stays within the
-// limit, so no sum wraps however many digits there are. What is no number is given up at once; why, `reason` says.
-fn read_long(s: &[u8], from: usize, base: u64, limit: u64) -> Option<u64>
-    requires { (0 < base) × (from < length s.now) }
-    ensures { result ≡ result_ok (reading_of base limit from s.now) }
-{
-    let most = limit / base;
-    let mut v: u64 = 0;
-    let mut i = from;
-    while i < s.len() {
-        let d = digit(s[i]);
-        if base <= d {
-            return None;
-        }
-        if most < v {
-            return None;
-        }
-        if limit - v * base < d {
-            return None;
-        }
-        v = v * base + d;
-        i += 1;
-    }
-    Some(v)
+    (v <= limit).then_some(v)
 }
 
 // Why the digits from a place on are no number: there are none; or the first bad one, which goes before width however late it stands; or else width.
-fn reason(s: &[u8], from: usize, base: u64) -> Result<u64, BadNumber>
-    ensures { result ≡ reason_of base from s.now }
+fn reason(s: &[u8], from: usize, base: u64) -> BadNumber
+    requires { base ≤ 16 }
+    ensures { Err result ≡ reason_of base from s.now }
 {
     if s.len() <= from {
-        return Err(BadNumber::Empty);
+        return BadNumber::Empty;
     }
-    let mut i = from;
-    while i < s.len() {
-        if base <= digit(s[i]) {
-            return Err(BadNumber::BadDigit(i));
+    for i in from..s.len() {
+        if digit_in(s[i], base).is_none() {
+            return BadNumber::BadDigit(i);
         }
-        i += 1;
     }
-    Err(BadNumber::TooWide)
+    BadNumber::TooWide
 }
 
-// The value of a digit of the base; some number that is not below the base for any other byte. No letter is looked for in a base up to 10.
-fn digit_in(b: u8, base: u64) -> u64
-    ensures { (result < base → result ≡ digit_of b) × (base ≤ result → base ≤ digit_of b) }
+// The value of a digit of the base, of either case.
+#[tactic(auto, unfolding(crate::specs::Number::digit_in, crate::specs::Number::digit_of, crate::specs::Class::is_digit, crate::specs::Class::between))]
+fn digit_in(b: u8, base: u64) -> Option<u64>
+    requires { base ≤ 16 }
+    ensures { result ≡ digit_in base b }
 {
-    if is_digit(b) {
-        return (b as u64) - 48;
-    }
-    if base <= 10 {
-        return 16;
-    }
-    digit(b)
-}
-
-// The value of a digit of either case, 16 for any other byte.
-fn digit(b: u8) -> u64
-    ensures { result ≡ digit_of b }
-{
-    if is_digit(b) {
-        return (b as u64) - 48;
-    }
-    if lies_between(b'a', b'f', b) {
-        return (b as u64) - 87;
-    }
-    if lies_between(b'A', b'F', b) {
-        return (b as u64) - 55;
-    }
-    16
+    let d = u64::from(match b {
+        b'0'..=b'9' => b - b'0',
+        b'a'..=b'f' => b - b'a' + 10,
+        b'A'..=b'F' => b - b'A' + 10,
+        _ => return None,
+    });
+    (d < base).then_some(d)
 }

@@ -9,39 +9,26 @@ pub fn first(s: &[u8], b: u8, from: usize) -> Option<usize>
     ensures { result ≡ first_byte b s.now from }
 {
     let k = until(s, b, from);
-    if s.len() <= k {
-        return None;
-    }
-    Some(k)
+    (k < s.len()).then_some(k)
 }
 
 // The last place of the byte: before the run of other bytes that ends the text.
 pub fn last(s: &[u8], b: u8) -> Option<usize>
     ensures { result ≡ last_byte b s.now }
 {
-    let k = behind_last(s, b);
-    if k == 0 {
-        return None;
-    }
-    Some(k - 1)
+    behind_last(s, b).checked_sub(1)
 }
 
 // The byte at a place, 0 past the end.
 pub fn byte_at(s: &[u8], i: usize) -> u8
     ensures { result ≡ get_or s.now i 0 }
 {
-    if i < s.len() {
-        return s[i];
-    }
-    0
+    s.get(i).copied().unwrap_or(0)
 }
 
 // The byte before a place, 0 where there is none.
 pub fn byte_before(s: &[u8], i: usize) -> u8
     ensures { result ≡ byte_before s.now i }
 {
-    if i == 0 {
-        return 0;
-    }
-    byte_at(s, i - 1)
+    if i == 0 { 0 } else { byte_at(s, i - 1) }
 }

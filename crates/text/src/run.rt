@@ -6,7 +6,7 @@ ghost use Rattle.text.specs.Run.{EndsAt, StartsAt, run_end, stripped};
 ghost use Rattle.text.specs.Part.{OwnBytes};
 
 use crate::block::{BLOCK, first_of, holds, last_of};
-use crate::class::{Class, has};
+use crate::class::Class;
 
 // Where the longest run of the class from a place ends: the place itself where no byte of the class stands there.
 pub fn run_end(s: &[u8], c: Class, from: usize) -> usize
@@ -14,7 +14,7 @@ pub fn run_end(s: &[u8], c: Class, from: usize) -> usize
 {
     let mut i = from;
     while i < s.len() {
-        if !has(c, s[i]) {
+        if !c.has(s[i]) {
             return i;
         }
         i += 1;
@@ -28,7 +28,7 @@ pub fn run_start(s: &[u8], c: Class) -> usize
 {
     let mut i = s.len();
     while 0 < i {
-        if !has(c, s[i - 1]) {
+        if !c.has(s[i - 1]) {
             return i;
         }
         i -= 1;

@@ -1,9 +1,10 @@
--- `number::digits_from` meets its contract: the two bytes of `0x`, each by its own test. Assumes nothing.
-use Rattle.text.proofs.Hexes.{from_first, from_both}
+-- `number::digits_from` meets its contract: the prefix says where the digits start. Assumes nothing.
+use Rattle.text.proofs.Hexes.{from_prefix}
+use mathlib.Core.Path.{sym, ◌∙◌}
 use Rattle.text.proofs.number.digits_from.Goals as goal
 
-pub returns-then-byte_at-ne48 : goal.returns-then-byte_at-ne48
-returns-then-byte_at-ne48 c = from_first _ (rw (← c.byte_at.ensures) c.if-byte_at-ne48.true)
+pub returns-then-starts_with : goal.returns-then-starts_with
+returns-then-starts_with c = from_prefix _ 2 _ c.starts_with.ensures.value (rw c.if-starts_with.true)
 
-pub returns : goal.returns
-returns c = from_both _ (rw (← c.byte_at.ensures) c.if-byte_at-ne48.false) (rw (← c.byte_at-2.ensures) c.if-byte_at-ne120.false)
+pub returns-else-starts_with : goal.returns-else-starts_with
+returns-else-starts_with c = from_prefix _ 0 _ c.starts_with.ensures.value (rw c.if-starts_with.false)

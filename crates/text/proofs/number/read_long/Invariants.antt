@@ -1,11 +1,6 @@
 -- `number::read_long` meets its contract: what is read so far is a `SoFar`, and each way out is one of its laws. Assumes nothing.
-use Prim.Native.Nat.{◌-◌}
 use Rattle.text.proofs.Numbers.{SoFar}
-use lib.ListN.{length}
 use Rattle.text.proofs.number.read_long.Given as goal
 
 abbrev pub invariant-loop-i : goal.invariant-loop-i
 invariant-loop-i l = SoFar l.base l.limit l.from l.s l.v l.i
-
-abbrev pub decreases-loop-i : goal.decreases-loop-i
-decreases-loop-i l = length l.s - l.i

@@ -54,7 +54,6 @@ module _ (s : List ℕ) where
   unfolding digits_from
   from_prefix n x e h = h ∙ rw (e, prefix_is)
 
-
 starts_with : (s : List ℕ) → get_or s 0 0 ≡ 48 → get_or s 1 0 ≡ 120 → s ≡ 48 ∷ 120 ∷ drop 2 s
 starts_with [] a b = absurd (omega arith)
 starts_with (x ∷ []) a b = absurd (omega arith)

@@ -53,6 +53,10 @@ stripped s =
     let rest : List ℕ = drop (run_end is_blank s 0) s in
     take (run_start is_blank rest) rest
 
+-- what code tests of a byte, by what its calls can return, is p
+abbrev pub Tests : (ℕ → Bool → Type 0) → (ℕ → Bool) → Type 0
+Tests post p = (b : ℕ) (r : Bool) → b < 256 → post b r → r ≡ p b
+
 -- an answer is the run's end; it lies between the start and the text's end, which spares callers the argument
 pub record EndsAt (p : ℕ → Bool) (s : List ℕ) (i e : ℕ) : Type 0 where
   pub is : e ≡ run_end p s i

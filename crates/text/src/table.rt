@@ -6,6 +6,8 @@ ghost use Rattle.text.specs.Class.{is_word, no_word};
 ghost use Rattle.text.specs.Run.{EndsAt};
 ghost use Rattle.text.specs.Table.{table};
 
+use crate::run::end_of;
+
 // A word byte's entry is at most this.
 const WORD: u8 = 128;
 
@@ -14,15 +16,7 @@ pub fn word_end(s: &[u8], t: &[u8; 256], from: usize) -> usize
     requires { t.now ≡ table }
     ensures { EndsAt is_word s.now from result }
 {
-    let mut i = from;
-    while i < s.len() {
-        let k = wide(s[i]);
-        if WORD < t[k] {
-            return i;
-        }
-        i += 1;
-    }
-    i
+    end_of(s, from, |b| is_word(t, b))
 }
 
 // Does a word byte stand at the place?
@@ -30,11 +24,7 @@ pub fn is_word_at(s: &[u8], t: &[u8; 256], i: usize) -> bool
     requires { t.now ≡ table }
     ensures { result ≡ is_word (get_or s.now i 0) }
 {
-    if s.len() <= i {
-        return false;
-    }
-    let k = wide(s[i]);
-    t[k] <= WORD
+    i < s.len() && is_word(t, s[i])
 }
 
 // The first place of a word byte from a place on, else the text's end: where the longest run of other bytes ends.
@@ -42,15 +32,16 @@ pub fn word_from(s: &[u8], t: &[u8; 256], from: usize) -> usize
     requires { t.now ≡ table }
     ensures { EndsAt no_word s.now from result }
 {
-    let mut i = from;
-    while i < s.len() {
-        let k = wide(s[i]);
-        if t[k] <= WORD {
-            return i;
-        }
-        i += 1;
-    }
-    i
+    end_of(s, from, |b| !is_word(t, b))
+}
+
+// Is the byte a word byte?
+#[inline]
+fn is_word(t: &[u8; 256], b: u8) -> bool
+    requires { t.now ≡ table }
+    ensures { result ≡ is_word b }
+{
+    t[b as usize] <= WORD
 }
 
 // A byte as a place in the table.

@@ -4,10 +4,11 @@ use Rattle.text.proofs.Blocks.{behind_up_to}
 use Rattle.text.proofs.Runs.{behind_byte, behind_block, behind_front, behind_down}
 use mathlib.Core.Path.{sym, ◌∙◌}
 use native.Mathlib.Omega.{arith}
+use borrow.Author.Rules.{rules}
 use Rattle.text.proofs.run.behind_last.Goals as goal
 
 pub returns-then-i-lt-BLOCK : goal.returns-then-i-lt-BLOCK
-returns-then-i-lt-BLOCK c = c.behind_plain.ensures
+returns-then-i-lt-BLOCK c = c.start_of.ensures _ (λ b r h e. search rules)
 
 pub loop-i-init : goal.loop-i-init
 loop-i-init c = (omega arith, omega arith, behind_byte _ _)

@@ -4,13 +4,11 @@ use Rattle.text.proofs.Blocks.{free_on, free_block, first_up_to}
 use Rattle.text.proofs.Runs.{until_block, until_end}
 use mathlib.Core.Path.{sym, ◌∙◌}
 use native.Mathlib.Omega.{arith}
+use borrow.Author.Rules.{rules}
 use Rattle.text.proofs.run.until.Goals as goal
 
 pub returns-then-n-lt-BLOCK : goal.returns-then-n-lt-BLOCK
-returns-then-n-lt-BLOCK c = c.until_plain.ensures
-
-pub returns-then-last-from : goal.returns-then-last-from
-returns-then-last-from c = c.until_plain-then-last-from.ensures
+returns-then-n-lt-BLOCK c = c.end_of.ensures _ (λ b r h e. search rules)
 
 pub loop-i-init : goal.loop-i-init
 loop-i-init c = (omega arith, omega arith, λ k a l. absurd (omega arith))

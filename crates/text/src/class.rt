@@ -49,5 +49,5 @@ pub fn is_digit(b: u8) -> bool
 pub fn is_word(b: u8) -> bool
     ensures { result ≡ is_word b }
 {
-    b.is_ascii_alphabetic() || b.is_ascii_digit() || b == b'_'
+    b.is_ascii_alphanumeric() || b == b'_'
 }

@@ -78,6 +78,7 @@ pub fn digits_from(s: &[u8]) -> usize
 }
 
 // The digits from a place on: as many as always stay within 64 bits are read with no look at the limit until the end.
+#[inline(always)]
 fn read(s: &[u8], from: usize, base: u64, limit: u64) -> Option<u64>
     requires { (0 < base) × (base ≤ 16) }
     ensures { result ≡ result_ok (reading_of base limit from s.now) }
@@ -92,6 +93,7 @@ fn read(s: &[u8], from: usize, base: u64, limit: u64) -> Option<u64>
 }
 
 // At most sixteen digits: no value passes 16^16, so no sum wraps, and the limit is looked at once.
+#[inline(always)]
 fn read_short(s: &[u8], from: usize, base: u64, limit: u64) -> Option<u64>
     requires { (0 < base) × (base ≤ 16) × (from < length s.now) × (length s.now ≤ from + 16) }
     ensures { result ≡ result_ok (reading_of base limit from s.now) }
@@ -149,11 +151,14 @@ fn digit_in(b: u8, base: u64) -> Option<u64>
     requires { base ≤ 16 }
     ensures { result ≡ digit_in base b }
 {
-    let d = u64::from(match b {
-        b'0'..=b'9' => b - b'0',
-        b'a'..=b'f' => b - b'a' + 10,
-        b'A'..=b'F' => b - b'A' + 10,
-        _ => return None,
+    let d = u64::from(if b.is_ascii_digit() {
+        b - b'0'
+    } else if (b'a'..=b'f').contains(&b) {
+        b - b'a' + 10
+    } else if (b'A'..=b'F').contains(&b) {
+        b - b'A' + 10
+    } else {
+        return None;
     });
     (d < base).then_some(d)
 }

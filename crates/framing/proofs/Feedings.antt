@@ -1,20 +1,21 @@
 -- One call of `feed` is the walk over the bytes that it took: what fits of them is put behind what is held, and the unit is ended by the
 -- last of them, or stays open. Assumes nothing.
 use Prim.Native.Nat.{ℕ, min, ◌+◌, ◌-◌, ◌≤◌, ◌<◌}
-use mathlib.Core.Path.{◌≡◌, sym, ap, ◌∙◌}
-use mathlib.Core.Bool.{true, false}
+use mathlib.Core.Path.{◌≡◌, refl, sym, ap, ◌∙◌}
+use mathlib.Core.Bool.{Bool, true, false}
 use mathlib.Core.List.{List, [], ◌∷◌, ◌++◌}
 use native.Mathlib.Omega.{arith}
 use lib.ListN.{length, get_or, take, drop, length-take, length-drop, length-append, take-append-drop, drop_of_length-le}
-use lib.Seq.{drop-drop, take-take, take_all, take_at, take-append-add, sets-eq, length-sets, length-take-le}
-use borrow.Author.Tests.{le-leb}
+use lib.Seq.{drop-drop, take-take, take_all, take_at, take-append-add, take-length, sets, sets-eq, length-sets, length-take-le}
 use Rattle.text.proofs.Places.{by_order}
-use Rattle.print.specs.Put.{Placed, buffer_after, place_after}
+use borrow.Rule.Slice.PartMut.{put_mid}
+use Rattle.std.specs.Prelude.{Option, Some, None, is_some}
+use Rattle.std.specs.Option.{unwrap_or}
+use Rattle.std.proofs.lemmas.Slice.{put_mid-paste}
 use Rattle.framing.specs.declared.Framing.{Framing}
 use Rattle.framing.specs.declared.Fed as FedModule
-use Rattle.framing.specs.declared.UnitEnd.{UnitEnd}
 use Rattle.framing.specs.Units.{is_whole}
-use Rattle.framing.specs.Feeding.{ended, left, units_in, between, Ends, Fed}
+use Rattle.framing.specs.Feeding.{UnitEnd, end_of, ended, left, units_in, between, Ends, Fed}
 use Rattle.framing.proofs.Parts.{open_part, whole_part, ended_append}
 use Rattle.framing.proofs.Endings.{between_byte}
 
@@ -71,22 +72,32 @@ module _ (f : Framing) (s : List ℕ) (from : ℕ) (h : List ℕ) (r : UnitEnd) 
         let z = open_part f cap enough h (between s from (from + (r.at - from))) (open_before (r.at - from) (omega (arith, x.within)) none) in
         (rw (kept_held, e) at z.0, rw (kept_held, e) at z.1)
 
+end_is : (s : List ℕ) (o : Option ℕ) {at : ℕ} {whole : Bool} → at ≡ unwrap_or o (length s) → whole ≡ is_some o → end_of s o ≡ record { at = at; whole = whole }
+end_is s None a w = rw (a, w) refl
+end_is s (Some k) a w = rw (a, w) refl
+
+-- k is the length of the part that was copied to, and now what stands in it
+copied : (out : List ℕ) (at : ℕ) (s : List ℕ) (k : ℕ) (now : List ℕ) → at + length s ≤ length out → now ≡ s → length s ≡ k → put_mid at k out now ≡ sets out at s
+copied out at s k now fits e n =
+    put_mid-paste at k out now s (length s) e n refl ∙ rw (take-length s) (sym (sets-eq s out at fits))
+
 module _ (f : Framing) (s : List ℕ) (from : ℕ) (unit : List ℕ) (held : ℕ) (room : held ≤ length unit) where
-  pub fed : (e : UnitEnd) (count n : ℕ) (exit : List ℕ) → Ends f s from (take held unit) e → count ≡ min (e.at - from) (length unit - held) → Placed unit held (take (from + count - from) (drop from s)) exit n → Fed f s from unit held exit (record { at = e.at; held = n; whole = e.whole })
-  unfolding buffer_after place_after between
-  fed e count n exit ends c p =
-      let same : take (from + count - from) (drop from s) ≡ take (length unit - held) (take (e.at - from) (drop from s)) =
-      let d : from + count - from ≡ min (e.at - from) (length unit - held) = omega arith in
-      rw d (sym (take_least (length unit - held) (e.at - from) (drop from s))) in
-      let fits : held + length (take (length unit - held) (take (e.at - from) (drop from s))) ≤ length unit =
-      omega (arith, length-take (length unit - held) (take (e.at - from) (drop from s))) in
-      let q : Placed unit held (take (length unit - held) (take (e.at - from) (drop from s))) exit n = rw same at p in
-      let n-is : n ≡ held + length (take (length unit - held) (take (e.at - from) (drop from s))) = q.place ∙ rw (le-leb _ _ fits) in
+  -- what was copied into the unit buffer, up to where the unit ends or the part does
+  pub fed : (o : Option ℕ) (at count : ℕ) (whole : Bool) (now : List ℕ) → Ends f s from (take held unit) (end_of s o) → at ≡ unwrap_or o (length s) → whole ≡ is_some o → count ≡ min (at - from) (length unit - held) → now ≡ take (from + count - from) (drop from s) → Fed f s from unit held (put_mid held (held + count - held) unit now) (record { at = at; held = held + count; whole = whole })
+  unfolding between
+  fed o at count whole now ends a w c n =
+      let e : UnitEnd = record { at = at; whole = whole } in
+      let x : Ends f s from (take held unit) e = rw (end_is s o a w) at ends in
+      let same : take (from + count - from) (drop from s) ≡ take (length unit - held) (take (at - from) (drop from s)) =
+      let d : from + count - from ≡ min (at - from) (length unit - held) = omega arith in
+      rw d (sym (take_least (length unit - held) (at - from) (drop from s))) in
+      let size : length (take (length unit - held) (take (at - from) (drop from s))) ≡ count =
+      omega (arith, length-take (length unit - held) (take (at - from) (drop from s)), length-take (at - from) (drop from s), length-drop from s, x.on, x.within) in
       record {
-        ends = ends;
-        unit_is = q.buffer ∙ rw (le-leb _ _ fits);
-        held_is = n-is;
-        held_within = rw n-is fits;
+        ends = x;
+        unit_is = copied unit held (take (length unit - held) (take (at - from) (drop from s))) (held + count - held) now (omega arith) (n ∙ same) (omega arith);
+        held_is = ap (λ (k : ℕ). held + k) (sym size);
+        held_within = omega arith;
       }
 
   module _ (exit : List ℕ) (r : FedModule.Fed) (x : Fed f s from unit held exit r) where
@@ -139,24 +150,28 @@ module _ (f : Framing) (s : List ℕ) where
       let e : at + (to - at) ≡ to = omega arith in
       sym (take-append-drop (to - at) (drop at s)) ∙ ap (λ (l : List ℕ). take (to - at) (drop at s) ++ l) (drop-drop (to - at) at s ∙ ap (λ (k : ℕ). drop k s) e)
 
-  pub counting_goes_on : {n at : ℕ} → Counted n at → (r : UnitEnd) → Ends f s at [] r → r.whole ≡ true → Counted (n + 1) r.at
-  counting_goes_on {n} {at} c r x w =
-      let z = ends_unit f s at [] r x 65539 (omega arith) (omega arith) w in
-      let ends : ended f 65539 [] (drop at s) ≡ take 65539 (between s at r.at) ∷ ended f 65539 [] (drop r.at s) =
-      ap (ended f 65539 []) (rest_of at r.at (omega (arith, x.on))) ∙ ended_append f 65539 [] (between s at r.at) (drop r.at s) ∙ rw (z.0, z.1) in
+  pub counting_goes_on : {n at to : ℕ} → Counted n at → Ends f s at [] (record { at = to; whole = true }) → Counted (n + 1) to
+  counting_goes_on {n} {at} {to} c x =
+      let z = ends_unit f s at [] (record { at = to; whole = true }) x 65539 (omega arith) (omega arith) refl in
+      let ends : ended f 65539 [] (drop at s) ≡ take 65539 (between s at to) ∷ ended f 65539 [] (drop to s) =
+      ap (ended f 65539 []) (rest_of at to (omega (arith, x.on))) ∙ ended_append f 65539 [] (between s at to) (drop to s) ∙ rw (z.0, z.1) in
       record {
         within = x.within;
         few = omega (arith, c.few, x.on);
         same = c.same ∙ ap (λ (us : List (List ℕ)). n + length us) ends ∙ omega arith;
       }
 
-  pub counting_stops : {n at : ℕ} → Counted n at → (r : UnitEnd) → Ends f s at [] r → r.whole ≡ false → n ≡ units_in f s
+  pub counting_stops : {n at : ℕ} → Counted n at → Ends f s at [] (record { at = length s; whole = false }) → n ≡ units_in f s
   unfolding between
-  counting_stops {n} {at} c r x w =
-      let z = leaves_open f s at [] r x 65539 (omega arith) (omega arith) w in
-      let all : between s at r.at ≡ drop at s = rw (x.all_of_it w) (take_all (length s - at) (drop at s) (omega (arith, length-drop at s))) in
+  counting_stops {n} {at} c x =
+      let z = leaves_open f s at [] (record { at = length s; whole = false }) x 65539 (omega arith) (omega arith) refl in
+      let all : between s at (length s) ≡ drop at s = take_all (length s - at) (drop at s) (omega (arith, length-drop at s)) in
       let none : ended f 65539 [] (drop at s) ≡ [] = ap (ended f 65539 []) (sym all) ∙ z.0 in
       sym (c.same ∙ ap (λ (us : List (List ℕ)). n + length us) none ∙ omega arith)
+
+  pub counting_fails : {n at : ℕ} → Counted n at → (o : Option ℕ) → ((k : ℕ) → o ≡ Some k → ⊥) → Ends f s at [] (end_of s o) → n ≡ units_in f s
+  counting_fails c None h x = counting_stops c x
+  counting_fails c (Some k) h x = absurd (h k refl)
 
   pub counting_ends : {n at : ℕ} → Counted n at → length s ≤ at → n ≡ units_in f s
   unfolding ended

@@ -1,9 +1,8 @@
 -- What a part of a stream ends and leaves open, where of each unit only so many bytes are kept.
-use Rattle.std.specs.Prelude.{ℕ, ◌+◌, ◌-◌, ◌≤◌, ◌<◌, ◌≡◌, false, cond, List, [], ◌∷◌, ◌++◌, length, take, drop}
+use Rattle.std.specs.Prelude.{ℕ, ◌+◌, ◌-◌, ◌≤◌, ◌<◌, ◌≡◌, Bool, true, false, cond, Option, Some, None, List, [], ◌∷◌, ◌++◌, length, take, drop}
 use Rattle.std.proofs.lemmas.List.Edits.{sets}
 use Rattle.framing.specs.declared.Framing.{Framing}
 use Rattle.framing.specs.declared.Fed as FedModule
-use Rattle.framing.specs.declared.UnitEnd.{UnitEnd}
 use Rattle.framing.specs.Units.{is_whole}
 
 module _ (f : Framing) (cap : ℕ) where
@@ -24,6 +23,16 @@ units_in f s = length (ended f 65539 [] s)
 -- the bytes of a part from one place to another
 unfoldable pub between : List ℕ → ℕ → ℕ → List ℕ
 between s a b = take (b - a) (drop a s)
+
+-- where a unit ends, or the part does, and whether the unit is whole there
+pub record UnitEnd : Type 0 where
+  pub at : ℕ
+  pub whole : Bool
+
+-- a part that does not end the unit is all of it
+abbrev pub end_of : List ℕ → Option ℕ → UnitEnd
+end_of s (Some at) = record { at = at; whole = true }
+end_of s None = record { at = length s; whole = false }
 
 -- the answer is the first place behind `from` up to which the open unit is whole, and that it is; else the part's end, and that it is not
 pub record Ends (f : Framing) (s : List ℕ) (from : ℕ) (held : List ℕ) (r : UnitEnd) : Type 0 where

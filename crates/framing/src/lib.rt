@@ -2,32 +2,25 @@
 // more than a unit may have tells an overlong one.
 #![tactic(auto)]
 
-ghost use Rattle.std.specs.Prelude.{◌≡◌, ◌++◌, min, ◌+◌, ◌≤◌, ◌<◌, leb, length, drop, get_or};
+ghost use Rattle.std.specs.Prelude.{◌≡◌, ◌++◌, ◌+◌, ◌≤◌, ◌<◌, leb, length, drop, get_or};
 ghost use Rattle.framing.specs.declared.Framing.TheVariants as F;
 ghost use Rattle.framing.specs.Units.{stated_size};
-ghost use Rattle.framing.specs.Feeding.{Fed as FedBy, Ends, units_in};
+ghost use Rattle.framing.specs.Feeding.{Fed as FedBy, Ends, end_of, units_in};
 
-use print::put::put;
-use text::place::first;
+use text::place::{byte_at, first};
 
 // How a stream is cut: a line ends with its newline, a record where its length says.
-#[derive(Clone, Copy)]
+#[derive(Clone, Copy, Debug, PartialEq, Eq)]
 pub enum Framing {
     Lines,
     Records,
 }
 
 // Where the part was left, how many bytes of the unit are held, and whether it is whole.
-#[derive(Clone, Copy)]
+#[derive(Clone, Copy, Debug, PartialEq, Eq)]
 pub struct Fed {
     pub at: usize,
     pub held: usize,
-    pub whole: bool,
-}
-
-#[derive(Clone, Copy)]
-pub struct UnitEnd {
-    pub at: usize,
     pub whole: bool,
 }
 
@@ -39,14 +32,13 @@ pub fn feed(framing: Framing, part: &[u8], from: usize, unit: &mut [u8], held: u
     ensures { FedBy framing part.now from unit.old held unit.new result }
 {
     let end = unit_end(framing, part, from, &unit[..held]);
-    let at = end.at;
-    let count = least(at - from, unit.len() - held);
-    let to = from + count;
-    let now = put(unit, held, &part[from..to]);
+    let at = end.unwrap_or(part.len());
+    let count = (at - from).min(unit.len() - held);
+    unit[held..held + count].copy_from_slice(&part[from..from + count]);
     Fed {
-        at: at,
-        held: now,
-        whole: end.whole,
+        at,
+        held: held + count,
+        whole: end.is_some(),
     }
 }
 
@@ -54,22 +46,22 @@ pub fn feed(framing: Framing, part: &[u8], from: usize, unit: &mut [u8], held: u
 pub fn units_in(framing: Framing, s: &[u8]) -> usize
     ensures { result ≡ units_in framing s.now }
 {
-    let mut n: usize = 0;
-    let mut at: usize = 0;
+    let mut n = 0;
+    let mut at = 0;
     while at < s.len() {
-        let end = unit_end(framing, s, at, &s[..0]);
-        if !end.whole {
-            return n;
-        }
+        let Some(end) = unit_end(framing, s, at, &[]) else {
+            break;
+        };
         n += 1;
-        at = end.at;
+        at = end;
     }
     n
 }
 
-fn unit_end(framing: Framing, part: &[u8], from: usize, held: &[u8]) -> UnitEnd
+// Where the open unit ends in the part, if it does.
+fn unit_end(framing: Framing, part: &[u8], from: usize, held: &[u8]) -> Option<usize>
     requires { from < length part.now }
-    ensures { Ends framing part.now from held.now result }
+    ensures { Ends framing part.now from held.now (end_of part.now result) }
 {
     match framing {
         Framing::Lines => line_end(part, from, held),
@@ -77,41 +69,23 @@ fn unit_end(framing: Framing, part: &[u8], from: usize, held: &[u8]) -> UnitEnd
     }
 }
 
-fn line_end(part: &[u8], from: usize, held: &[u8]) -> UnitEnd
+fn line_end(part: &[u8], from: usize, held: &[u8]) -> Option<usize>
     requires { from < length part.now }
-    ensures { Ends F.Lines part.now from held.now result }
+    ensures { Ends F.Lines part.now from held.now (end_of part.now result) }
 {
-    match first(part, b'\n', from) {
-        Some(k) => UnitEnd {
-            at: k + 1,
-            whole: true,
-        },
-        None => UnitEnd {
-            at: part.len(),
-            whole: false,
-        },
-    }
+    let newline = first(part, b'\n', from)?;
+    Some(newline + 1)
 }
 
-fn record_end(part: &[u8], from: usize, held: &[u8]) -> UnitEnd
+fn record_end(part: &[u8], from: usize, held: &[u8]) -> Option<usize>
     requires { from < length part.now }
-    ensures { Ends F.Records part.now from held.now result }
+    ensures { Ends F.Records part.now from held.now (end_of part.now result) }
 {
     let size = open_size(part, from, held);
-    let left = part.len() - from;
-    if held.len() < size {
-        let more = size - held.len();
-        if more <= left {
-            return UnitEnd {
-                at: from + more,
-                whole: true,
-            };
-        }
+    if size <= held.len() || part.len() - from < size - held.len() {
+        return None;
     }
-    UnitEnd {
-        at: part.len(),
-        whole: false,
-    }
+    Some(from + (size - held.len()))
 }
 
 // The size that the first three bytes of the open record state; 0 where they are not all there, or the first is not A1.
@@ -119,14 +93,11 @@ fn open_size(part: &[u8], from: usize, held: &[u8]) -> usize
     requires { from < length part.now }
     ensures { result ≡ stated_size (held.now ++ drop from part.now) }
 {
-    if !has_three(part, from, held) {
+    if !has_three(part, from, held) || open_byte(part, from, held, 0) != 0xA1 {
         return 0;
     }
-    if open_byte(part, from, held, 0) != 0xA1 {
-        return 0;
-    }
-    let low = wide(open_byte(part, from, held, 1));
-    let high = wide(open_byte(part, from, held, 2));
+    let low = open_byte(part, from, held, 1) as usize;
+    let high = open_byte(part, from, held, 2) as usize;
     3 + low + 256 * high
 }
 
@@ -135,13 +106,10 @@ fn has_three(part: &[u8], from: usize, held: &[u8]) -> bool
     requires { from < length part.now }
     ensures { result ≡ leb 3 (length (held.now ++ drop from part.now)) }
 {
-    if 3 <= held.len() {
-        return true;
-    }
-    3 - held.len() <= part.len() - from
+    3 <= held.len() || 3 - held.len() <= part.len() - from
 }
 
-// A byte of the open unit: of what is held, else of the part.
+// A byte of the open unit: of what is held, else of the part; past its end 0.
 fn open_byte(part: &[u8], from: usize, held: &[u8], i: usize) -> u8
     requires { (from < length part.now) × (i < 3) }
     ensures { result ≡ get_or (held.now ++ drop from part.now) i 0 }
@@ -149,30 +117,5 @@ fn open_byte(part: &[u8], from: usize, held: &[u8], i: usize) -> u8
     if i < held.len() {
         return held[i];
     }
-    byte_from(part, from, i - held.len())
-}
-
-fn byte_from(s: &[u8], from: usize, i: usize) -> u8
-    requires { (from < length s.now) × (i < 3) }
-    ensures { result ≡ get_or s.now (from + i) 0 }
-{
-    if i < s.len() - from {
-        return s[from + i];
-    }
-    0
-}
-
-fn wide(b: u8) -> usize
-    ensures { (result ≡ b) × (result < 256) }
-{
-    b as usize
-}
-
-fn least(a: usize, b: usize) -> usize
-    ensures { result ≡ min a b }
-{
-    if a < b {
-        return a;
-    }
-    b
+    byte_at(part, from + (i - held.len()))
 }

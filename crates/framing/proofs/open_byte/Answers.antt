@@ -7,4 +7,4 @@ pub returns-then-i-held : goal.returns-then-i-held
 returns-then-i-held c = held_byte c.args.part.now c.args.from c.args.held.now c.requires.0 c.args.i c.if-i-held.true
 
 pub returns : goal.returns
-returns c = c.byte_from.ensures ∙ part_byte c.args.part.now c.args.from c.args.held.now c.requires.0 c.args.i c.if-i-held.false
+returns c = c.byte_at.ensures ∙ part_byte c.args.part.now c.args.from c.args.held.now c.requires.0 c.args.i c.if-i-held.false

@@ -1,16 +1,15 @@
 -- `units_in` meets its contract: each unit that ends is one more. Assumes nothing.
-use Rattle.framing.proofs.Feedings.{counting_starts, counting_goes_on, counting_stops, counting_ends}
-use borrow.Author.Tests.{not-true, not-false}
+use Rattle.framing.proofs.Feedings.{counting_starts, counting_goes_on, counting_fails, counting_ends}
 use Rattle.framing.proofs.units_in.Goals as goal
 
 pub loop-at-init : goal.loop-at-init
 loop-at-init c = counting_starts _ _
 
-pub returns-then-not-end : goal.returns-then-not-end
-returns-then-not-end c = counting_stops _ _ c.loop-at.invariant _ c.unit_end-end.ensures (not-true _ c.if-not-end.true)
-
 pub loop-at-preserved : goal.loop-at-preserved
-loop-at-preserved c = counting_goes_on _ _ c.loop-at.invariant _ c.unit_end-end.ensures (not-false _ c.if-not-end.false)
+loop-at-preserved c = counting_goes_on _ _ c.loop-at.invariant (rw c.in-Some.is at c.unit_end.ensures)
 
-pub returns : goal.returns
-returns c = counting_ends _ _ c.loop-at.invariant c.loop-at-test.false
+pub returns-after-loop-at : goal.returns-after-loop-at
+returns-after-loop-at c = counting_ends _ _ c.loop-at.invariant c.loop-at-test.false
+
+pub returns-in_default : goal.returns-in_default
+returns-in_default c = counting_fails _ _ c.loop-at.invariant _ c.in_default.not-Some c.unit_end.ensures

@@ -1,6 +1,9 @@
 -- A name is judged byte by byte: the answer for the whole is the answer for the rest. Assumes nothing.
-use Prim.Native.Nat.{ℕ, ◌+◌, ◌≤◌, ◌<◌}
-use mathlib.Core.Path.{◌≡◌, refl}
+use Prim.Native.Nat.{ℕ, zero, suc, ◌+◌, ◌≤◌, ◌<◌}
+use Rattle.std.specs.Bool.{MatchBool}
+use Rattle.std.specs.Str.{IsAscii, IsNotAscii}
+use Rattle.std.proofs.lemmas.Str.Ascii.{All-from_ascii, IsAscii-from_all}
+use mathlib.Core.Path.{◌≡◌, refl, sym}
 use mathlib.Core.Bool.{Bool, true, false, ◌&&◌}
 use mathlib.Core.List.{List, [], ◌∷◌}
 use native.Mathlib.Numerals.{add-one}
@@ -18,29 +21,6 @@ use Rattle.book.specs.Reading.{is_name}
 abbrev pub is_low : ℕ → Bool
 is_low b = leb b 127
 
--- too short, too long, or as its bytes are
-pub name_empty : (n : List ℕ) → length n ≡ 0 → is_name n ≡ false
-unfolding is_name
-name_empty n h = rw (lt-leb 1 (length n) (omega arith))
-
-pub name_long : (n : List ℕ) → 255 < length n → is_name n ≡ false
-unfolding is_name
-name_long n h = rw (le-leb 1 (length n) (omega arith), lt-leb (length n) 255 h)
-
-pub name_by_bytes : (n : List ℕ) → (length n ≡ 0 → ⊥) → length n ≤ 255 → is_name n ≡ all is_low n
-unfolding is_name
-name_by_bytes n h k = rw (le-leb 1 (length n) (omega arith), le-leb (length n) 255 k)
-
-module _ (n : List ℕ) {i : ℕ} where
-  pub low_step : i < length n → get_or n i 0 ≤ 127 → all is_low (drop i n) ≡ all is_low (drop (i + 1) n)
-  low_step h k = rw (add-one, drop-cons n i 0, le-leb (get_or n i 0) 127 k)
-
-  pub low_stop : i < length n → 127 < get_or n i 0 → all is_low (drop i n) ≡ false
-  low_stop h k = rw (drop-cons n i 0, lt-leb (get_or n i 0) 127 k)
-
-  pub low_over : length n ≤ i → all is_low (drop i n) ≡ true
-  low_over h = rw (drop_of_length-le n h)
-
 all_low : (n : List ℕ) → all is_low n ≡ true → All (λ b. b < 128) n
 all_low [] h = tt
 all_low (b ∷ n) h =
@@ -50,6 +30,31 @@ all_low (b ∷ n) h =
 low_all : (n : List ℕ) → All (λ b. b < 128) n → all is_low n ≡ true
 low_all [] h = refl
 low_all (b ∷ n) h = rw (le-leb b 127 (omega (arith, h.0))) (low_all n h.1)
+
+-- by the places of its bytes
+from_places : (n : List ℕ) → ((k d : ℕ) → k < length n → get_or n k d < 128) → All (λ b. b < 128) n
+from_places [] h = tt
+from_places (b ∷ n) h = (h 0 b (omega arith), from_places n (λ k d lt. h (suc k) d (omega (arith, lt))))
+
+to_places : (n : List ℕ) → All (λ b. b < 128) n → (k d : ℕ) → k < length n → get_or n k d < 128
+to_places [] a k d lt = absurd (omega (arith, lt))
+to_places (b ∷ n) a zero d lt = a.0
+to_places (b ∷ n) a (suc k) d lt = to_places n a.1 k d (omega (arith, lt))
+
+-- too short
+pub name_empty : (n : List ℕ) → length n ≡ 0 → is_name n ≡ false
+unfolding is_name
+name_empty n h = rw (lt-leb 1 (length n) (omega arith))
+
+-- so long, and ASCII or not
+pub name_ascii : (n : List ℕ) → 1 ≤ length n → length n ≤ 255 → (r : Bool) → MatchBool r (IsAscii n) (IsNotAscii n) → r ≡ is_name n
+unfolding is_name
+name_ascii n h k true a = rw (le-leb 1 (length n) h, le-leb (length n) 255 k) (sym (low_all n (from_places n (All-from_ascii n a))))
+name_ascii n h k false a = rw (le-leb 1 (length n) h, le-leb (length n) 255 k) (by (all is_low n) refl)
+  where
+    by : (b : Bool) → all is_low n ≡ b → false ≡ b
+    by true e = let z : IsAscii n = IsAscii-from_all n (to_places n (all_low n e)) in absurd (omega (arith, z a.0, a.1))
+    by false e = refl
 
 -- sound: what passes the test is a name
 pub name_is : (n : List ℕ) → is_name n ≡ true → Name n

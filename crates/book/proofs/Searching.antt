@@ -1,6 +1,7 @@
 -- A search steps from field to field: where no field stands it ends with nothing, a wanted field ends it, and one that is not wanted is passed.
 -- Assumes nothing.
 use Rattle.std.specs.Prelude.{None, Option, Some}
+use Rattle.std.specs.Option.{is_some}
 use Prim.Native.Nat.{ℕ, ◌+◌, ◌≤◌, ◌<◌}
 use mathlib.Core.Path.{◌≡◌, ◌∙◌, sym, ap, refl}
 use mathlib.Core.Bool.{Bool, true, false, cond, ◌&&◌, ◌||◌}
@@ -21,11 +22,6 @@ use Rattle.book.specs.Search.{body_at, after, name_at, type_at, uuid_at, tag_of,
 use Rattle.book.proofs.Steps.{Bare, tag_bare}
 
 -- ---- the walk
-
--- a place was found
-abbrev pub is_found : Option ℕ → Bool
-is_found (Some p) = true
-is_found None = false
 
 module _ (ok : Part → Bool) (s : List ℕ) where
   first_end : (at : ℕ) → field_at s at ≡ End → first_part ok s at ≡ None
@@ -53,15 +49,15 @@ module _ (ok : Part → Bool) (s : List ℕ) where
   first_miss p e h = first_field p e ∙ rw h
 
   -- one of the fields is wanted just where a first one is found
-  pub has_found : (at : ℕ) → has ok (parts s at) ≡ is_found (first_part ok s at)
+  pub has_found : (at : ℕ) → has ok (parts s at) ≡ is_some (first_part ok s at)
   has_found =
-      by_fields s (λ at. has ok (parts s at) ≡ is_found (first_part ok s at))
+      by_fields s (λ at. has ok (parts s at) ≡ is_some (first_part ok s at))
       (λ at e. rw (parts_end s at e, first_end at e))
       (λ at e. rw (parts_cut s at e, first_cut at e))
       (λ p e rest. rw (parts_field s p e, first_field p e) (by (ok p) p rest))
     where
-      by : (b : Bool) (p : Part) → has ok (parts s p.to) ≡ is_found (first_part ok s p.to)
-          → (b || has ok (parts s p.to)) ≡ is_found (cond b (Some p.at) (first_part ok s p.to))
+      by : (b : Bool) (p : Part) → has ok (parts s p.to) ≡ is_some (first_part ok s p.to)
+          → (b || has ok (parts s p.to)) ≡ is_some (cond b (Some p.at) (first_part ok s p.to))
       by true p rest = refl
       by false p rest = rest
 

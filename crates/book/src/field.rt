@@ -7,23 +7,11 @@ ghost use Rattle.book.specs.Reading.{is_name};
 use tlv::Step;
 
 // Is the text 1 to 255 bytes below 128?
+#[tactic(auto, unfolding(crate::specs::Reading::is_name))]
 pub fn is_name(s: &[u8]) -> bool
     ensures { result ≡ is_name s.now }
 {
-    if s.len() == 0 {
-        return false;
-    }
-    if 255 < s.len() {
-        return false;
-    }
-    let mut i = 0;
-    while i < s.len() {
-        if 127 < s[i] {
-            return false;
-        }
-        i += 1;
-    }
-    true
+    1 <= s.len() && s.len() <= 255 && s.is_ascii()
 }
 
 // The body of the field of that tag at the place: the caller's own bytes behind tag and length. Where no such field stands there, or its body has no
@@ -31,34 +19,18 @@ pub fn is_name(s: &[u8]) -> bool
 pub fn body_at(s: &[u8], tag: u8, at: usize) -> &[u8]
     ensures { OwnText s.entry (at + 3) (body_at tag s.now at) result }
 {
-    let step = tlv::field_at(s, at);
-    let Step::Field { tag: t, from, to } = step else {
-        return &s[..0];
-    };
-    if t != tag {
-        return &s[..0];
+    match tlv::field_at(s, at) {
+        Step::Field { tag: t, from, to } if t == tag && from < to => &s[from..to],
+        _ => &s[..0],
     }
-    if from == to {
-        return &s[..0];
-    }
-    &s[from..to]
 }
 
 // The place behind the field of that tag at the place, the place itself where none stands there.
 pub fn after(s: &[u8], tag: u8, at: usize) -> usize
     ensures { result ≡ after tag s.now at }
 {
-    let step = tlv::field_at(s, at);
-    let Step::Field {
-        tag: t,
-        from: _,
-        to,
-    } = step
-    else {
-        return at;
-    };
-    if t != tag {
-        return at;
+    match tlv::field_at(s, at) {
+        Step::Field { tag: t, to, .. } if t == tag => to,
+        _ => at,
     }
-    to
 }

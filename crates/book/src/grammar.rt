@@ -45,29 +45,18 @@ pub fn tables(s: &[u8]) -> bool
 }
 
 // Tag 1: a kind byte 1 to 12, then entries. Tag 2: four dwords of a UUID, then entries.
+#[tactic(auto, unfolding(crate::specs::Reading::table_body, crate::specs::Reading::control_body, crate::specs::Reading::uuid_body))]
 fn table(s: &[u8], tag: u8, from: usize) -> bool
     ensures { result ≡ table_body tag s.now from }
 {
     if s.len() <= from {
         return false;
     }
-    if tag == 1 {
-        let kind = s[from];
-        if kind < 1 {
-            return false;
-        }
-        if 12 < kind {
-            return false;
-        }
-        return entries(s, from + 1);
+    match tag {
+        1 => 1 <= s[from] && s[from] <= 12 && entries(s, from + 1),
+        2 => 16 <= s.len() - from && entries(s, from + 16),
+        _ => false,
     }
-    if tag != 2 {
-        return false;
-    }
-    if s.len() - from < 16 {
-        return false;
-    }
-    entries(s, from + 16)
 }
 
 // Entries fill the rest, none of the same offset and type twice. Only an offset that was met before is sought among the entries
@@ -107,45 +96,32 @@ fn entries(s: &[u8], start: usize) -> bool
 fn repeats(s: &[u8], start: usize, met: bool, offset: u16, name: &[u8]) -> bool
     ensures { result ≡ (met && has_wanted (Want.Typed offset) name.now s.now start) }
 {
-    if !met {
-        return false;
-    }
-    has(s, start, Want::Typed(offset), name)
+    met && has(s, start, Want::Typed(offset), name)
 }
 
 // Two-byte offset, then at most one 4 (name), at most one 5 (packet type), then 6s.
+#[tactic(auto, unfolding(crate::specs::Reading::entry_body))]
 fn entry(s: &[u8], from: usize) -> bool
     ensures { result ≡ entry_body s.now from }
 {
-    if s.len() <= from {
-        return false;
-    }
-    if s.len() - from < 2 {
+    if s.len() <= from || s.len() - from < 2 {
         return false;
     }
     let name = from + 2;
-    if !optional_name(s, 4, name) {
-        return false;
-    }
     let packet_type = after(s, 4, name);
-    if !optional_name(s, 5, packet_type) {
-        return false;
-    }
-    ranges(s, after(s, 5, packet_type))
+    optional_name(s, 4, name)
+        && optional_name(s, 5, packet_type)
+        && ranges(s, after(s, 5, packet_type))
 }
 
 // Where a field of that tag stands at the place, its body is a name.
 fn optional_name(s: &[u8], tag: u8, at: usize) -> bool
     ensures { result ≡ optional_name tag s.now at }
 {
-    let step = tlv::field_at(s, at);
-    let Step::Field { tag: t, from, to } = step else {
-        return true;
-    };
-    if t != tag {
-        return true;
+    match tlv::field_at(s, at) {
+        Step::Field { tag: t, from, to } if t == tag => is_name(&s[from..to]),
+        _ => true,
     }
-    is_name(&s[from..to])
 }
 
 // Bit ranges fill the rest.
@@ -174,26 +150,18 @@ fn ranges(s: &[u8], start: usize) -> bool
 }
 
 // Low byte and high byte, low ≤ high ≤ 31, one 4, then 7s.
+#[tactic(auto, unfolding(crate::specs::Reading::range_body))]
 fn range(s: &[u8], from: usize) -> bool
     ensures { result ≡ range_body s.now from }
 {
-    if s.len() <= from {
-        return false;
-    }
-    if s.len() - from < 2 {
-        return false;
-    }
-    if s[from + 1] < s[from] {
-        return false;
-    }
-    if 31 < s[from + 1] {
+    if s.len() <= from || s.len() - from < 2 {
         return false;
     }
     let name = from + 2;
-    if !is_name(body_at(s, 4, name)) {
-        return false;
-    }
-    values(s, after(s, 4, name))
+    s[from] <= s[from + 1]
+        && s[from + 1] <= 31
+        && is_name(body_at(s, 4, name))
+        && values(s, after(s, 4, name))
 }
 
 // Values fill the rest, none twice.
@@ -225,15 +193,9 @@ fn values(s: &[u8], start: usize) -> bool
 }
 
 // Four-byte value, then its name.
+#[tactic(auto, unfolding(crate::specs::Reading::value_body))]
 fn value(s: &[u8], from: usize) -> bool
     ensures { result ≡ value_body s.now from }
 {
-    if s.len() <= from {
-        return false;
-    }
-    if s.len() - from < 4 {
-        return false;
-    }
-    let name = from + 4;
-    is_name(&s[name..])
+    from < s.len() && 4 <= s.len() - from && is_name(&s[from + 4..])
 }

@@ -28,15 +28,24 @@ pub struct Uuid {
     pub fourth: u32,
 }
 
+impl Uuid {
+    // The all-zero UUID: its table is the header table.
+    pub const ZERO: Uuid = Uuid {
+        first: 0,
+        second: 0,
+        third: 0,
+        fourth: 0,
+    };
+}
+
 // Does the book belong to the grammar? If not, number 20.
+#[tactic(auto, unfolding(crate::specs::Reading::check_of))]
 pub fn check(book: &[u8]) -> Result<(), Refusal>
     ensures { told result ≡ check_of book.now }
 {
-    if 65_535 < book.len() {
-        return Err(Refusal::BadBook);
+    if book.len() <= 65_535 && tables(book) {
+        Ok(())
+    } else {
+        Err(Refusal::BadBook)
     }
-    if !tables(book) {
-        return Err(Refusal::BadBook);
-    }
-    Ok(())
 }

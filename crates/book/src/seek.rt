@@ -6,7 +6,6 @@ ghost use Rattle.book.specs.Search.{
   name_at,
   type_at,
   uuid_at,
-  same_uuid,
   tag_of,
   fits,
   first_wanted,
@@ -56,30 +55,26 @@ pub fn first(s: &[u8], start: usize, want: Want, key: &[u8]) -> Option<usize>
 pub fn has(s: &[u8], start: usize, want: Want, key: &[u8]) -> bool
     ensures { result ≡ has_wanted want key.now s.now start }
 {
-    let found = first(s, start, want, key);
-    match found {
-        Some(_) => true,
-        None => false,
-    }
+    first(s, start, want, key).is_some()
 }
 
 // Is this field wanted? The text ends where the field does.
+#[tactic(auto)]
 fn is_wanted(s: &[u8], want: Want, key: &[u8], tag: u8, from: usize) -> bool
     ensures { result ≡ (eqb tag (tag_of want) && fits want key.now s.now from) }
 {
-    if tag != tag_of(want) {
-        return false;
-    }
+    tag == tag_of(want) && fits(s, want, key, from)
+}
+
+// Is this field wanted, if it has the tag?
+fn fits(s: &[u8], want: Want, key: &[u8], from: usize) -> bool
+    ensures { result ≡ fits want key.now s.now from }
+{
     match want {
         Want::Kind(kind) => tlv::byte_at(s, from) == kind,
-        Want::Uuid(uuid) => same_uuid(uuid_at(s, from), uuid),
+        Want::Uuid(uuid) => uuid_at(s, from) == uuid,
         Want::Offset(offset) => tlv::two_at(s, from) == offset,
-        Want::Typed(offset) => {
-            if tlv::two_at(s, from) != offset {
-                return false;
-            }
-            type_at(s, from) == key
-        }
+        Want::Typed(offset) => tlv::two_at(s, from) == offset && type_at(s, from) == key,
         Want::Range => name_at(s, from) == key,
         Want::Value(value) => tlv::four_at(s, from) == value,
     }
@@ -92,8 +87,7 @@ fn tag_of(want: Want) -> u8
     match want {
         Want::Kind(_) => 1,
         Want::Uuid(_) => 2,
-        Want::Offset(_) => 3,
-        Want::Typed(_) => 3,
+        Want::Offset(_) | Want::Typed(_) => 3,
         Want::Range => 6,
         Want::Value(_) => 7,
     }
@@ -124,12 +118,7 @@ pub fn uuid_at(s: &[u8], from: usize) -> Uuid
     ensures { result ≡ uuid_at s.now from }
 {
     if s.len() <= from {
-        return Uuid {
-            first: 0,
-            second: 0,
-            third: 0,
-            fourth: 0,
-        };
+        return Uuid::ZERO;
     }
     Uuid {
         first: tlv::four_at(s, from),
@@ -137,22 +126,6 @@ pub fn uuid_at(s: &[u8], from: usize) -> Uuid
         third: tlv::four_at(s, from + 8),
         fourth: tlv::four_at(s, from + 12),
     }
-}
-
-// Are the four dwords the same?
-fn same_uuid(a: Uuid, b: Uuid) -> bool
-    ensures { result ≡ same_uuid a b }
-{
-    if a.first != b.first {
-        return false;
-    }
-    if a.second != b.second {
-        return false;
-    }
-    if a.third != b.third {
-        return false;
-    }
-    a.fourth == b.fourth
 }
 
 // Whose table a field is: of a kind by tag 1, else of a UUID.

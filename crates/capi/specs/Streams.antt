@@ -7,7 +7,7 @@ use Rattle.scan.specs.declared.Pieces.{Pieces}
 use Rattle.units.specs.declared.State.{State}
 use Rattle.stream.specs.declared.Fed.{Fed}
 use Rattle.stream.specs.declared.Finished.{Finished}
-use Rattle.stream.specs.Answers.{answer_told}
+use Rattle.refusal.specs.Told.{told_maybe}
 use Rattle.stream.specs.Feeding.{FeedDone, FinishDone}
 use Rattle.capi.specs.declared.streams.StreamAnswer.{StreamAnswer}
 use Rattle.capi.specs.Calls.{blank_entry}
@@ -26,10 +26,10 @@ stream_by at st (T.refused k) = record { number = k; ended = ended_by k; at = at
 pub record StreamFed (pieces : Pieces) (s rest slots : List ℕ) (st : State) (rest' slots' : List ℕ) (r : StreamAnswer) : Type 0 where
   pub fed : Fed
   pub done : FeedDone pieces s rest slots st rest' slots' fed
-  pub is : r ≡ stream_by fed.at fed.state (answer_told fed.answer)
+  pub is : r ≡ stream_by fed.at fed.state (told_maybe fed.answer)
 
 -- the answer of `finish`, so told, at no place of a part
 pub record StreamEnded (pieces : Pieces) (rest slots : List ℕ) (st : State) (slots' : List ℕ) (r : StreamAnswer) : Type 0 where
   pub finished : Finished
   pub done : FinishDone pieces rest slots st slots' finished
-  pub is : r ≡ stream_by 0 finished.state (answer_told finished.answer)
+  pub is : r ≡ stream_by 0 finished.state (told_maybe finished.answer)

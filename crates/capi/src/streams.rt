@@ -1,7 +1,7 @@
 // A stream fed in parts. What is kept between two calls is a plain struct of numbers, taken with any bits.
 ghost use Rattle.std.specs.Prelude.{◌≡◌};
 ghost use Rattle.scan.specs.declared.Pieces.TheVariants as P;
-ghost use Rattle.stream.specs.Answers.{answer_told};
+ghost use Rattle.refusal.specs.Told.{told_maybe};
 ghost use Rattle.capi.specs.Streams.{StreamFed, StreamEnded, stream_by, ended_by};
 
 use crate::blank_entry;
@@ -81,7 +81,7 @@ fn finish_by(state: State, pieces: Pieces, rest: &[u8], slots: &mut [u32]) -> St
 }
 
 fn stream_answer(at: usize, state: State, answer: Result<Option<Entry>, Refusal>) -> StreamAnswer
-    ensures { result ≡ stream_by at state (answer_told answer) }
+    ensures { result ≡ stream_by at state (told_maybe answer) }
 {
     match answer {
         Ok(Some(e)) => StreamAnswer {

@@ -78,7 +78,8 @@ use Rattle.units.specs.Units.{stated}
 use Rattle.units.specs.Kept.{is_long, is_kept}
 use Rattle.stream.specs.declared.Fed.{Fed}
 use Rattle.stream.specs.declared.Finished.{Finished}
-use Rattle.stream.specs.Answers.{answer_of, answer_told as streamTold}
+use Rattle.refusal.specs.Told.{told_maybe as streamTold}
+use Rattle.stream.specs.Answers.{answer_of}
 use Rattle.stream.specs.Feeding.{FeedDone, FinishDone}
 use Rattle.stream.proofs.States.{feed_unit, end_unit}
 use Rattle.capi.specs.Hexes.{hex_by, key_numbered, other_key, key_told}

@@ -1,6 +1,6 @@
 -- Demand 3 for each unit: a unit that is accepted is kept whole and answered as the intake reads it, so what is proved of that call holds of it.
 -- Assumes nothing.
-use Rattle.std.specs.Prelude.{Err, None, Ok, Option, Result, Some}
+use Rattle.std.specs.Prelude.{Ok, Option, Result, Some}
 use Rattle.refusal.specs.declared.Refusal.{Refusal}
 use Prim.Native.Nat.{ℕ, ◌≤◌, ◌<◌}
 use mathlib.Core.Path.{◌≡◌, refl, sym, ap, subst, ◌∙◌}
@@ -37,13 +37,14 @@ use Rattle.units.specs.Kept.{is_long, Keeps, is_kept}
 use Rattle.units.proofs.Streams.{rest_left, one_sofar}
 use Rattle.stream.specs.declared.Fed.{Fed}
 use Rattle.stream.specs.declared.Finished.{Finished}
-use Rattle.stream.specs.Answers.{answer_told, answer_of}
+use Rattle.refusal.specs.Told.{told_maybe}
+use Rattle.stream.specs.Answers.{answer_of}
 use Rattle.stream.specs.Feeding.{Given, Answered, FedOn, FeedDone, FinishDone, end_of}
 use Rattle.stream.specs.Streams.{Calls, IsUnit, EntryOf, EachUnit}
 use Rattle.stream.proofs.Entries.{said_one, entry_of, accepted}
 use Rattle.stream.proofs.Whole.{stands, passes, kept_stands}
 
-absent_entry : {a : Result (Option Entry) Refusal} {e : Entry} → answer_told a ≡ T.absent → a ≡ Ok (Some e) → ⊥
+absent_entry : {a : Result (Option Entry) Refusal} {e : Entry} → told_maybe a ≡ T.absent → a ≡ Ok (Some e) → ⊥
 absent_entry h q = let z : ◌≡◌ {A = ℕ} 0 1 = cc in omega arith
 
 -- ---- an entry that a call answered

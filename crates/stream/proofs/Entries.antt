@@ -1,6 +1,6 @@
 -- An entry that is answered of a unit: the unit is kept whole and answered as the intake reads it, so what is proved of that call holds of it.
 -- Assumes nothing.
-use Rattle.std.specs.Prelude.{Err, None, Ok, Option, Result, Some}
+use Rattle.std.specs.Prelude.{Ok, Option, Result, Some}
 use Rattle.refusal.specs.declared.Refusal.{Refusal}
 use Prim.Native.Nat.{ℕ, ◌+◌, ◌≤◌}
 use mathlib.Core.Path.{◌≡◌, refl, sym, ap, subst, ◌∙◌}
@@ -28,7 +28,8 @@ use Rattle.intake.proofs.Slots.{with_more_slots}
 use Rattle.units.specs.declared.Framing.TheVariants.{Both}
 use Rattle.units.specs.Units.{marked, stated}
 use Rattle.units.specs.Kept.{is_long, kept_text, stood}
-use Rattle.stream.specs.Answers.{answer_told, answer_of, said_by, said_of}
+use Rattle.refusal.specs.Told.{told_maybe}
+use Rattle.stream.specs.Answers.{answer_of, said_by, said_of}
 use Rattle.stream.specs.Feeding.{Given}
 use Rattle.stream.proofs.Records.{said_belongs, line_accepted, record_accepted, unit_says, belongs_ranged}
 use Rattle.stream.specs.Streams.{EntryOf}
@@ -94,7 +95,7 @@ said_one pieces u v b = append-nil (said_by u (answer_of pieces u 256)) ∙ unit
 
 module _ (pieces : Pieces) (u rest slots rest' slots' : List ℕ) (answer : Result (Option Entry) Refusal) (e : Entry) (bytes : Bytes u) (enough : 256 ≤ length slots) (buffer : rest' ≡ stood Both u rest) (g : Given (answer_of pieces u (length slots)) (taken_dwords u) slots slots' answer) (is-entry : answer ≡ Ok (Some e)) where
   told : answer_of pieces u (length slots) ≡ T.is e
-  told = sym g.answer ∙ ap answer_told is-entry
+  told = sym g.answer ∙ ap told_maybe is-entry
 
   call : ReadCall pieces u slots (Ok e) slots'
   call = record { bytes = bytes; enough = enough; contract = record { answer = sym (entry_taken pieces u (length slots) e told); slots = g.slots_are ∙ ap (λ (t : T.Told Entry). slots_by t (taken_dwords u) slots) told } }

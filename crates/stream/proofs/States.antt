@@ -1,8 +1,8 @@
 -- The states between the calls: those that calls reach are left by the stream so far, 53 is told exactly of all others, and no second answer keeps a
 -- contract. Assumes nothing.
-use Rattle.std.specs.Prelude.{Err, None, Ok, Option, Result, Some}
+use Rattle.std.specs.Prelude.{Err, Option, Result}
 use Rattle.refusal.specs.declared.Refusal.{Refusal}
-use Rattle.refusal.specs.declared.Refusal.TheVariants as Refusal
+use Rattle.refusal.specs.declared.Refusal.TheVariants as R
 use Prim.Native.Nat.{ℕ, zero, suc, ◌<◌}
 use mathlib.Core.Path.{◌≡◌, refl, sym, ap, subst, ◌∙◌}
 use mathlib.Core.Bool.{Bool, true, false, cond}
@@ -35,10 +35,13 @@ use Rattle.units.proofs.States.{keeps_kept, kept_some}
 use Rattle.units.proofs.Calls.{ends_before}
 use Rattle.stream.specs.declared.Fed.{Fed}
 use Rattle.stream.specs.declared.Finished.{Finished}
-use Rattle.stream.specs.Answers.{answer_told, answer_of}
+use Rattle.refusal.specs.Told.{told_maybe}
+use Rattle.stream.specs.Answers.{answer_of}
 use Rattle.stream.specs.Feeding.{Given, Answered, FedOn, FeedDone, FinishDone, end_of}
 use Rattle.stream.specs.Streams.{StatesLeft}
-use Rattle.stream.proofs.Steps.{front_is, one_told}
+use Rattle.refusal.specs.Number.{number_of}
+use Rattle.refusal.proofs.Told.{one_told_maybe}
+use Rattle.stream.proofs.Steps.{front_is}
 use Rattle.stream.proofs.Whole.{stands, wants_keeps, ends_keeps}
 
 -- ---- the test and the streams
@@ -82,44 +85,44 @@ unit_never_53 pieces u b room q = go (starts_a1 u) (is_long u) (ltb (length u) (
     go true false false h = by ((record_refused_exactly u b room 53).0 h)
     go false y z h = past_table pieces u room 53 (omega arith) ((line_number_exactly pieces u room 53).0 h).holds
 
-told_of : {a : Result (Option Entry) Refusal} {r : T.Told Entry} {k : ℕ} → answer_told a ≡ r → a ≡ Err k → r ≡ T.refused k
-told_of h e = sym h ∙ ap answer_told e
+told_of : {a : Result (Option Entry) Refusal} {r : T.Told Entry} {k : Refusal} → told_maybe a ≡ r → a ≡ Err k → r ≡ T.refused (number_of k)
+told_of h e = sym h ∙ ap told_maybe e
 
 absent_not : {k : ℕ} → ◌≡◌ {A = T.Told Entry} T.absent (T.refused k) → ⊥
 absent_not h = let n : ◌≡◌ {A = ℕ} 0 1 = cc in omega arith
 
 module _ (pieces : Pieces) where
   -- a number that a call answers where the test passes is a unit's
-  pub feed_unit : (part rest slots : List ℕ) (st : State) (rest' slots' : List ℕ) (r : Fed) → Bytes part → Bytes rest → FeedDone pieces part rest slots st rest' slots' r → is_kept Both rest st.held st.passed ≡ true → {k : ℕ} → r.answer ≡ Err k → (u : List ℕ) × (Bytes u × (answer_of pieces u (length slots) ≡ T.refused k))
+  pub feed_unit : (part rest slots : List ℕ) (st : State) (rest' slots' : List ℕ) (r : Fed) → Bytes part → Bytes rest → FeedDone pieces part rest slots st rest' slots' r → is_kept Both rest st.held st.passed ≡ true → {k : Refusal} → r.answer ≡ Err k → (u : List ℕ) × (Bytes u × (answer_of pieces u (length slots) ≡ T.refused (number_of k)))
   feed_unit part rest slots st rest' slots' r bp br x q {k} e =
       let u = kept_some Both rest st.held st.passed q in
       by u.0 (kept_bytes rest br st.held st.passed q) (x.fed q u.0 u.1.0 u.1.1).answered
     where
-      by : (u : List ℕ) → Bytes u → Answered pieces (u ++ take r.at part) part slots slots' r → (u : List ℕ) × (Bytes u × (answer_of pieces u (length slots) ≡ T.refused k))
+      by : (u : List ℕ) → Bytes u → Answered pieces (u ++ take r.at part) part slots slots' r → (u : List ℕ) × (Bytes u × (answer_of pieces u (length slots) ≡ T.refused (number_of k)))
       by u b (Answered.wants o at s g) = absurd (absent_not (told_of g.answer e))
       by u b (Answered.ends w s g) = (u ++ take r.at part, (bytes_join u (take r.at part) b (bytes_take part r.at bp), told_of g.answer e))
 
-  pub end_unit : (rest slots : List ℕ) (st : State) (slots' : List ℕ) (r : Finished) → Bytes rest → FinishDone pieces rest slots st slots' r → is_kept Both rest st.held st.passed ≡ true → {k : ℕ} → r.answer ≡ Err k → (u : List ℕ) × (Bytes u × (answer_of pieces u (length slots) ≡ T.refused k))
+  pub end_unit : (rest slots : List ℕ) (st : State) (slots' : List ℕ) (r : Finished) → Bytes rest → FinishDone pieces rest slots st slots' r → is_kept Both rest st.held st.passed ≡ true → {k : Refusal} → r.answer ≡ Err k → (u : List ℕ) × (Bytes u × (answer_of pieces u (length slots) ≡ T.refused (number_of k)))
   unfolding end_of
   end_unit rest slots st slots' r br x q {k} e =
       let u = kept_some Both rest st.held st.passed q in
       by u.0 (kept_bytes rest br st.held st.passed q) (told_of (x.ended q u.0 u.1.0 u.1.1).1.answer e)
     where
-      by : (u : List ℕ) → Bytes u → end_of pieces u (length slots) ≡ T.refused k → (u : List ℕ) × (Bytes u × (answer_of pieces u (length slots) ≡ T.refused k))
+      by : (u : List ℕ) → Bytes u → end_of pieces u (length slots) ≡ T.refused (number_of k) → (u : List ℕ) × (Bytes u × (answer_of pieces u (length slots) ≡ T.refused (number_of k)))
       by [] b h = absurd (absent_not h)
       by (c ∷ u) b h = (c ∷ u, (b, h))
 
-  feed_53 : (part rest slots : List ℕ) (st : State) (rest' slots' : List ℕ) (r : Fed) → Bytes part → Bytes rest → FeedDone pieces part rest slots st rest' slots' r → (r.answer ≡ Err Refusal.NoStream) ↔ (is_kept Both rest st.held st.passed ≡ false)
+  feed_53 : (part rest slots : List ℕ) (st : State) (rest' slots' : List ℕ) (r : Fed) → Bytes part → Bytes rest → FeedDone pieces part rest slots st rest' slots' r → (r.answer ≡ Err R.NoStream) ↔ (is_kept Both rest st.held st.passed ≡ false)
   feed_53 part rest slots st rest' slots' r bp br x = (λ e. go (is_kept Both rest st.held st.passed) refl e, λ q. ap (λ (y : Fed). y.answer) (x.alien q).0)
     where
-      go : (b : Bool) → is_kept Both rest st.held st.passed ≡ b → r.answer ≡ Err Refusal.NoStream → b ≡ false
+      go : (b : Bool) → is_kept Both rest st.held st.passed ≡ b → r.answer ≡ Err R.NoStream → b ≡ false
       go false q e = refl
       go true q e = let u = feed_unit part rest slots st rest' slots' r bp br x q e in absurd (unit_never_53 pieces u.0 u.1.0 (length slots) u.1.1)
 
-  finish_53 : (rest slots : List ℕ) (st : State) (slots' : List ℕ) (r : Finished) → Bytes rest → FinishDone pieces rest slots st slots' r → (r.answer ≡ Err Refusal.NoStream) ↔ (is_kept Both rest st.held st.passed ≡ false)
+  finish_53 : (rest slots : List ℕ) (st : State) (slots' : List ℕ) (r : Finished) → Bytes rest → FinishDone pieces rest slots st slots' r → (r.answer ≡ Err R.NoStream) ↔ (is_kept Both rest st.held st.passed ≡ false)
   finish_53 rest slots st slots' r br x = (λ e. go (is_kept Both rest st.held st.passed) refl e, λ q. ap (λ (y : Finished). y.answer) (x.alien q).0)
     where
-      go : (b : Bool) → is_kept Both rest st.held st.passed ≡ b → r.answer ≡ Err Refusal.NoStream → b ≡ false
+      go : (b : Bool) → is_kept Both rest st.held st.passed ≡ b → r.answer ≡ Err R.NoStream → b ≡ false
       go false q e = refl
       go true q e = let u = end_unit rest slots st slots' r br x q e in absurd (unit_never_53 pieces u.0 u.1.0 (length slots) u.1.1)
 
@@ -127,7 +130,7 @@ module _ (pieces : Pieces) where
 
   -- two answers to one thing told
   one_given : {told : T.Told Entry} {dwords slots exit exit' : List ℕ} {r q : Result (Option Entry) Refusal} → Given told dwords slots exit r → Given told dwords slots exit' q → (r ≡ q) × (exit ≡ exit')
-  one_given {r = r} {q = q} g h = (one_told r q (g.answer ∙ sym h.answer), g.slots_are ∙ sym h.slots_are)
+  one_given {r = r} {q = q} g h = (one_told_maybe r q (g.answer ∙ sym h.answer), g.slots_are ∙ sym h.slots_are)
 
   one_place : {u part rest slots rest' slots' rest'' slots'' : List ℕ} {r q : Fed} → Rest Both u → FedOn pieces u part rest slots rest' slots' r → FedOn pieces u part rest slots rest'' slots'' q → r.at < q.at → ⊥
   one_place {u} {part} {rest} {slots} {rest'} {slots'} {rest''} {slots''} {r} {q} o x y less = go x.answered y.answered
@@ -189,11 +192,11 @@ module _ (pieces : Pieces) where
 
   -- ---- a refusal
 
-  given_refused : {told : T.Told Entry} {dwords slots exit : List ℕ} {r : Result (Option Entry) Refusal} {k : ℕ} → Given told dwords slots exit r → r ≡ Err k → exit ≡ slots
+  given_refused : {told : T.Told Entry} {dwords slots exit : List ℕ} {r : Result (Option Entry) Refusal} {k : Refusal} → Given told dwords slots exit r → r ≡ Err k → exit ≡ slots
   unfolding slots_by
-  given_refused {dwords = dwords} {slots = slots} g e = g.slots_are ∙ ap (λ (t : T.Told Entry). slots_by t dwords slots) (sym g.answer ∙ ap answer_told e)
+  given_refused {dwords = dwords} {slots = slots} g e = g.slots_are ∙ ap (λ (t : T.Told Entry). slots_by t dwords slots) (sym g.answer ∙ ap told_maybe e)
 
-  refused_slots : (part rest slots : List ℕ) (st : State) (rest' slots' : List ℕ) (r : Fed) (k : ℕ) → FeedDone pieces part rest slots st rest' slots' r → r.answer ≡ Err k → slots' ≡ slots
+  refused_slots : (part rest slots : List ℕ) (st : State) (rest' slots' : List ℕ) (r : Fed) (k : Refusal) → FeedDone pieces part rest slots st rest' slots' r → r.answer ≡ Err k → slots' ≡ slots
   refused_slots part rest slots st rest' slots' r k x e = go (is_kept Both rest st.held st.passed) refl
     where
       by : {w : List ℕ} → Answered pieces w part slots slots' r → slots' ≡ slots
@@ -204,7 +207,7 @@ module _ (pieces : Pieces) where
       go false q = (x.alien q).2
       go true q = let u = kept_some Both rest st.held st.passed q in by (x.fed q u.0 u.1.0 u.1.1).answered
 
-  refused_slots_end : (rest slots : List ℕ) (st : State) (slots' : List ℕ) (r : Finished) (k : ℕ) → FinishDone pieces rest slots st slots' r → r.answer ≡ Err k → slots' ≡ slots
+  refused_slots_end : (rest slots : List ℕ) (st : State) (slots' : List ℕ) (r : Finished) (k : Refusal) → FinishDone pieces rest slots st slots' r → r.answer ≡ Err k → slots' ≡ slots
   refused_slots_end rest slots st slots' r k x e = go (is_kept Both rest st.held st.passed) refl
     where
       go : (b : Bool) → is_kept Both rest st.held st.passed ≡ b → slots' ≡ slots

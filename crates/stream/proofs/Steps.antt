@@ -1,7 +1,7 @@
 -- A call of `units` and the reading of the unit that it ended make a call of the stream. Assumes nothing.
 use Rattle.std.specs.Prelude.{Err, None, Ok, Option, Result, Some}
 use Rattle.refusal.specs.declared.Refusal.{Refusal}
-use Rattle.refusal.specs.declared.Refusal.TheVariants as Refusal
+use Rattle.refusal.specs.declared.Refusal.TheVariants as R
 use Prim.Native.Nat.{ℕ, ◌-◌, ◌≤◌}
 use mathlib.Core.Path.{◌≡◌, refl, sym, ap, subst, ◌∙◌}
 use mathlib.Core.Bool.{Bool, true, false, cond}
@@ -29,7 +29,7 @@ use Rattle.units.proofs.WhatIsKept.{stood_size, stood_front, whole_fits}
 use Rattle.units.proofs.States.{kept_some, kept_is}
 use Rattle.stream.specs.declared.Fed.{Fed}
 use Rattle.stream.specs.declared.Finished.{Finished}
-use Rattle.stream.specs.Answers.{answer_told}
+use Rattle.refusal.proofs.Told.{one_told_maybe}
 use Rattle.stream.specs.Feeding.{empty, Given, Answered, FedOn, FeedDone, FinishDone, end_of, unit_told, UnitRead, TextRead, after_end}
 use Rattle.stream.proofs.Reading.{unit_given}
 
@@ -48,18 +48,6 @@ text_kept w = go (is_record Both w) (is_long w) (ltb (length w) (stated w))
     go true false false = omega arith
     go false b d = omega arith
 
--- two answers that tell the same are the same
-pub one_told : (a b : Result (Option Entry) Refusal) → answer_told a ≡ answer_told b → a ≡ b
-one_told (Ok (Some e)) (Ok (Some f)) h = cc
-one_told (Ok (Some e)) (Err j) h = absurd (let z : ◌≡◌ {A = ℕ} 0 1 = cc in omega arith)
-one_told (Ok (Some e)) (Ok None) h = absurd (let z : ◌≡◌ {A = ℕ} 0 1 = cc in omega arith)
-one_told (Err k) (Ok (Some f)) h = absurd (let z : ◌≡◌ {A = ℕ} 0 1 = cc in omega arith)
-one_told (Err k) (Err j) h = cc
-one_told (Err k) (Ok None) h = absurd (let z : ◌≡◌ {A = ℕ} 0 1 = cc in omega arith)
-one_told (Ok None) (Ok (Some f)) h = absurd (let z : ◌≡◌ {A = ℕ} 0 1 = cc in omega arith)
-one_told (Ok None) (Err j) h = absurd (let z : ◌≡◌ {A = ℕ} 0 1 = cc in omega arith)
-one_told (Ok None) (Ok None) h = refl
-
 -- ---- a unit read, way by way
 
 module _ (pieces : Pieces) (rest slots : List ℕ) {unit : UnitModule.Unit} where
@@ -71,11 +59,11 @@ module _ (pieces : Pieces) (rest slots : List ℕ) {unit : UnitModule.Unit} wher
   unfolding text_length
   text_fits e h = rw e at h
 
-  pub reads_long : unit ≡ U.Long → UnitRead pieces unit rest slots slots (Err Refusal.LongRecord)
+  pub reads_long : unit ≡ U.Long → UnitRead pieces unit rest slots slots (Err R.LongRecord)
   unfolding unit_told slots_by
   reads_long e = record { answer = rw e; slots_are = rw e }
 
-  pub reads_cut : unit ≡ U.Cut → UnitRead pieces unit rest slots slots (Err Refusal.CutRecord)
+  pub reads_cut : unit ≡ U.Cut → UnitRead pieces unit rest slots slots (Err R.CutRecord)
   unfolding unit_told slots_by
   reads_cut e = record { answer = rw e; slots_are = rw e }
 
@@ -83,7 +71,7 @@ module _ (pieces : Pieces) (rest slots : List ℕ) {unit : UnitModule.Unit} wher
   unfolding unit_told slots_by
   reads_open e = record { answer = rw e; slots_are = rw e }
 
-  pub reads_alien : unit ≡ U.Alien → UnitRead pieces unit rest slots slots (Err Refusal.NoStream)
+  pub reads_alien : unit ≡ U.Alien → UnitRead pieces unit rest slots slots (Err R.NoStream)
   unfolding unit_told slots_by
   reads_alien e = record { answer = rw e; slots_are = rw e }
 
@@ -92,7 +80,7 @@ module _ (pieces : Pieces) (text slots exit : List ℕ) {r : Result Entry Refusa
   pub read_entry : {e : Entry} → r ≡ Ok e → TextRead pieces text slots exit (Ok (Some e))
   read_entry q = let told : T.is _ ≡ taken_of pieces text (length slots) = ap told (sym q) ∙ x.answer in record { answer = told; slots_are = x.slots ∙ ap (λ (t : T.Told Entry). slots_by t (taken_dwords text) slots) x.answer }
 
-  pub read_refused : {k : ℕ} → r ≡ Err k → TextRead pieces text slots exit (Err k)
+  pub read_refused : {k : Refusal} → r ≡ Err k → TextRead pieces text slots exit (Err k)
   read_refused q = let told : T.refused _ ≡ taken_of pieces text (length slots) = ap told (sym q) ∙ x.answer in record { answer = told; slots_are = x.slots ∙ ap (λ (t : T.Told Entry). slots_by t (taken_dwords text) slots) x.answer }
 
 -- the state after the end
@@ -141,9 +129,9 @@ module _ (s rest exit : List ℕ) (st : State) (r : UnitsFed.Fed) (x : UF.FeedDo
 
 -- what is told of a unit that is none
 module _ (pieces : Pieces) (rest slots slots' : List ℕ) (unit : UnitModule.Unit) (answer : Result (Option Entry) Refusal) (g : UnitRead pieces unit rest slots slots' answer) where
-  alien_refused : unit ≡ U.Alien → (answer ≡ Err Refusal.NoStream) × (slots' ≡ slots)
+  alien_refused : unit ≡ U.Alien → (answer ≡ Err R.NoStream) × (slots' ≡ slots)
   unfolding unit_told slots_by
-  alien_refused e = (one_told answer (Err Refusal.NoStream) (g.answer ∙ rw e), g.slots_are ∙ rw e)
+  alien_refused e = (one_told_maybe answer (Err R.NoStream) (g.answer ∙ rw e), g.slots_are ∙ rw e)
 
   open_nothing : unit ≡ U.Open → Given T.absent [] slots slots' answer
   unfolding unit_told slots_by
@@ -153,7 +141,7 @@ module _ (s rest exit : List ℕ) (st : State) (r : UnitsFed.Fed) (x : UF.FeedDo
   abbrev fed : Fed
   fed = record { at = r.at; state = r.state; answer = answer }
 
-  fed_alien : is_kept Both rest st.held st.passed ≡ false → (fed ≡ record { at = 0; state = st; answer = Err Refusal.NoStream }) × (exit ≡ rest) × (slots' ≡ slots)
+  fed_alien : is_kept Both rest st.held st.passed ≡ false → (fed ≡ record { at = 0; state = st; answer = Err R.NoStream }) × (exit ≡ rest) × (slots' ≡ slots)
   fed_alien q =
       let e = (x.alien q).0 in
       let z = alien_refused pieces exit slots slots' r.unit answer g (ap (λ (y : UnitsFed.Fed). y.unit) e) in
@@ -206,7 +194,7 @@ module _ (rest : List ℕ) (st : State) (unit : UnitModule.Unit) (x : UF.FinishD
     abbrev finished : Finished
     finished = record { state = after; answer = answer }
 
-    end_alien : is_kept Both rest st.held st.passed ≡ false → (finished ≡ record { state = st; answer = Err Refusal.NoStream }) × (slots' ≡ slots)
+    end_alien : is_kept Both rest st.held st.passed ≡ false → (finished ≡ record { state = st; answer = Err R.NoStream }) × (slots' ≡ slots)
     unfolding after_end
     end_alien q =
         let z = alien_refused pieces rest slots slots' unit answer g (x.alien q) in

@@ -30,7 +30,9 @@ use Rattle.units.proofs.Existence.{has_units}
 use Rattle.units.proofs.WhatIsKept.{stood_keeps, stood_size, keeps_nothing, whole_fits, rest_fits}
 use Rattle.units.proofs.States.{keeps_kept, kept_some}
 use Rattle.stream.specs.declared.Fed.{Fed}
-use Rattle.stream.specs.Answers.{answer_told, answer_of, said_by, said_of}
+use Rattle.refusal.specs.Number.{number_of}
+use Rattle.refusal.specs.Told.{told_maybe}
+use Rattle.stream.specs.Answers.{answer_of, said_by, said_of}
 use Rattle.stream.specs.Feeding.{empty, state_of, Given, Answered, FedOn, FeedDone, end_of}
 use Rattle.stream.specs.Streams.{answers_in, values_in, Calls, Went, CutAnywhere}
 use Rattle.stream.proofs.Entries.{entry_of, refused_says}
@@ -100,13 +102,13 @@ module _ (pieces : Pieces) (room : ℕ) where
   said_both (u ∷ a) b = ap (λ (l : List EntryValue). said_by u (answer_of pieces u 256) ++ l) (said_both a b) ∙ sym (append_assoc (said_by u (answer_of pieces u 256)) (said_of pieces a) (said_of pieces b))
 
   -- what a call's answer of a unit says is what the unit says
-  unit_values : (u rest slots rest' slots' : List ℕ) (answer : Result (Option Entry) Refusal) → Bytes u → 256 ≤ length slots → rest' ≡ stood Both u rest → Given (answer_of pieces u (length slots)) (taken_dwords u) slots slots' answer → values_in (answer_told answer) rest' slots' ≡ said_of pieces (u ∷ [])
+  unit_values : (u rest slots rest' slots' : List ℕ) (answer : Result (Option Entry) Refusal) → Bytes u → 256 ≤ length slots → rest' ≡ stood Both u rest → Given (answer_of pieces u (length slots)) (taken_dwords u) slots slots' answer → values_in (told_maybe answer) rest' slots' ≡ said_of pieces (u ∷ [])
   unfolding values_in
   unit_values u rest slots rest' slots' (Ok (Some e)) b n x g = sym (entry_of pieces u rest slots rest' slots' (Ok (Some e)) e b n x g refl).says
-  unit_values u rest slots rest' slots' (Err k) b n x g = sym (refused_says pieces u b (length slots) n k (sym g.answer))
+  unit_values u rest slots rest' slots' (Err k) b n x g = sym (refused_says pieces u b (length slots) n (number_of k) (sym g.answer))
   unit_values u rest slots rest' slots' (Ok None) b n x g = absurd (unit_never_none pieces u (length slots) (sym g.answer))
 
-  nothing_said : (answer : Result (Option Entry) Refusal) (rest slots : List ℕ) → answer_told answer ≡ T.absent → values_in (answer_told answer) rest slots ≡ []
+  nothing_said : (answer : Result (Option Entry) Refusal) (rest slots : List ℕ) → told_maybe answer ≡ T.absent → values_in (told_maybe answer) rest slots ≡ []
   unfolding values_in
   nothing_said answer rest slots e = ap (λ (t : T.Told Entry). values_in t rest slots) e
 
@@ -134,7 +136,7 @@ module _ (pieces : Pieces) (room : ℕ) where
     pub w_bytes : Bytes w
     w_bytes = bytes_join x.since (take r.at part) x.bytes (bytes_take part r.at bs)
 
-    wants_stands : Rest Both w → r.state ≡ state_of w → Given T.absent [] slots slots' r.answer → Stands (taken ++ take r.at part) (answers ++ answers_in (answer_told r.answer)) (values ++ values_in (answer_told r.answer) rest' slots') rest' r.state
+    wants_stands : Rest Both w → r.state ≡ state_of w → Given T.absent [] slots slots' r.answer → Stands (taken ++ take r.at part) (answers ++ answers_in (told_maybe r.answer)) (values ++ values_in (told_maybe r.answer) rest' slots') rest' r.state
     unfolding answers_in
     wants_stands o e g =
         record {
@@ -147,7 +149,7 @@ module _ (pieces : Pieces) (room : ℕ) where
           values_are = λ h. ap (λ (l : List EntryValue). values ++ l) (nothing_said r.answer rest' slots' g.answer) ∙ append-nil values ∙ x.values_are h;
         }
 
-    ends_stands : Whole Both w → r.state ≡ empty → Given (answer_of pieces w (length slots)) (taken_dwords w) slots slots' r.answer → Stands (taken ++ take r.at part) (answers ++ answers_in (answer_told r.answer)) (values ++ values_in (answer_told r.answer) rest' slots') rest' r.state
+    ends_stands : Whole Both w → r.state ≡ empty → Given (answer_of pieces w (length slots)) (taken_dwords w) slots slots' r.answer → Stands (taken ++ take r.at part) (answers ++ answers_in (told_maybe r.answer)) (values ++ values_in (told_maybe r.answer) rest' slots') rest' r.state
     ends_stands o e g =
         record {
           units = x.units ++ (w ∷ []);
@@ -166,10 +168,10 @@ module _ (pieces : Pieces) (room : ℕ) where
               ∙ sym (said_both x.units (w ∷ []));
         }
 
-    pub stands_on : Stands (taken ++ take r.at part) (answers ++ answers_in (answer_told r.answer)) (values ++ values_in (answer_told r.answer) rest' slots') rest' r.state
+    pub stands_on : Stands (taken ++ take r.at part) (answers ++ answers_in (told_maybe r.answer)) (values ++ values_in (told_maybe r.answer) rest' slots') rest' r.state
     stands_on = go on.answered
       where
-        go : Answered pieces w part slots slots' r → Stands (taken ++ take r.at part) (answers ++ answers_in (answer_told r.answer)) (values ++ values_in (answer_told r.answer) rest' slots') rest' r.state
+        go : Answered pieces w part slots slots' r → Stands (taken ++ take r.at part) (answers ++ answers_in (told_maybe r.answer)) (values ++ values_in (told_maybe r.answer) rest' slots') rest' r.state
         go (Answered.wants o at e g) = wants_stands o e g
         go (Answered.ends o e g) = ends_stands o e g
 
@@ -191,7 +193,7 @@ module _ (pieces : Pieces) (room : ℕ) where
   stands (Calls.call part slots rest' slots' r before bs n done) = stands_on (stands before) part slots rest' slots' r bs n done
 
   -- what the end's answer says is what the open unit says, which is kept in the buffer
-  end_says : (u : List ℕ) → Bytes u → {rest slots slots' : List ℕ} {held passed : ℕ} {answer : Result (Option Entry) Refusal} → Keeps Both u rest held passed → 256 ≤ length slots → Given (end_of pieces u (length slots)) (taken_dwords u) slots slots' answer → values_in (answer_told answer) rest slots' ≡ said_of pieces (closing u)
+  end_says : (u : List ℕ) → Bytes u → {rest slots slots' : List ℕ} {held passed : ℕ} {answer : Result (Option Entry) Refusal} → Keeps Both u rest held passed → 256 ≤ length slots → Given (end_of pieces u (length slots)) (taken_dwords u) slots slots' answer → values_in (told_maybe answer) rest slots' ≡ said_of pieces (closing u)
   unfolding end_of closing
   end_says [] b {rest} {slots} {slots'} {answer = answer} k n g = nothing_said answer rest slots' g.answer ∙ nothing_said_of
   end_says (c ∷ u) b {rest} {slots} {slots'} {answer = answer} k n g = unit_values (c ∷ u) rest slots rest slots' answer b n (kept_stands k) g

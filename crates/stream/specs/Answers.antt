@@ -1,6 +1,5 @@
 -- The answer of each unit of a stream, as document 02 numbers it, and what its entries say.
-use Rattle.refusal.specs.declared.Refusal.{Refusal}
-use Rattle.std.specs.Prelude.{ℕ, cond, List, [], ◌∷◌, ◌++◌, ltb, length, Err, None, Ok, Option, Result, Some}
+use Rattle.std.specs.Prelude.{ℕ, cond, List, [], ◌∷◌, ◌++◌, ltb, length}
 use Rattle.text.specs.Told.{Told, is, absent, refused}
 use Rattle.entry.specs.declared.Entry.{Entry}
 use Rattle.entry.specs.Entry.{EntryValue, value_of}
@@ -11,12 +10,6 @@ use Rattle.record.specs.Reading.{read_of}
 use Rattle.intake.specs.Intake.{starts_a1, taken_dwords}
 use Rattle.units.specs.Units.{stated}
 use Rattle.units.specs.Kept.{is_long}
-
--- what each case of an answer tells: the entry, the number, or that no unit ended
-abbrev pub answer_told : Result (Option Entry) Refusal → Told Entry
-answer_told (Ok (Some e)) = is e
-answer_told (Err k) = refused k
-answer_told (Ok None) = absent
 
 -- THE ANSWER OF A UNIT, by the choice and the number of slots. One that starts with A1 is a record: 55 if it says that it has more than 5,227 bytes,
 -- 54 if it has fewer than it says, else as a record is read. Any other is read as a line, which gives an overlong one 1 or 2.

@@ -1,7 +1,7 @@
 -- What the calls answer, and what they leave in what is lent.
 use Rattle.refusal.specs.declared.Refusal.{Refusal}
-use Rattle.refusal.specs.declared.Refusal.TheVariants as Refusal
-use Rattle.std.specs.Prelude.{ℕ, ◌≤◌, ◌≡◌, true, false, List, [], ◌∷◌, ◌++◌, length, take, Err, None, Ok, Option, Result, Some}
+use Rattle.refusal.specs.declared.Refusal.TheVariants as R
+use Rattle.std.specs.Prelude.{ℕ, ◌≤◌, ◌≡◌, true, false, List, [], ◌∷◌, ◌++◌, length, take, Err, Option, Result}
 use Rattle.text.specs.Told.{Told, absent, refused}
 use Rattle.entry.specs.declared.Entry.{Entry}
 use Rattle.scan.specs.declared.Pieces.{Pieces}
@@ -16,7 +16,8 @@ use Rattle.units.specs.Kept.{kept_text, kept_count, stood, Keeps, is_kept}
 use Rattle.units.specs.Feeding.{text_length}
 use Rattle.stream.specs.declared.Fed.{Fed}
 use Rattle.stream.specs.declared.Finished.{Finished}
-use Rattle.stream.specs.Answers.{answer_told, answer_of}
+use Rattle.refusal.specs.Told.{told_maybe}
+use Rattle.stream.specs.Answers.{answer_of}
 
 -- nothing is held
 abbrev pub empty : State
@@ -28,7 +29,7 @@ state_of w = record { held = length (kept_text Both w); passed = kept_count Both
 
 -- an answer, and each slot: an entry's dwords in the first of them, and all as found without one
 pub record Given (told : Told Entry) (dwords slots exit : List ℕ) (r : Result (Option Entry) Refusal) : Type 0 where
-  pub answer : answer_told r ≡ told
+  pub answer : told_maybe r ≡ told
   pub slots_are : exit ≡ slots_by told dwords slots
 
 -- a call's answer by the unit as far as it was read, w: no unit has ended, and what is kept of it is for the next call; or it has, and is answered
@@ -44,7 +45,7 @@ pub record FedOn (pieces : Pieces) (u s rest slots rest' slots' : List ℕ) (r :
 
 -- WHAT `feed` ANSWERS: 53 where no stream leaves what is lent, and nothing has changed; else by the unit that is kept there, whichever it is
 pub record FeedDone (pieces : Pieces) (s rest slots : List ℕ) (st : State) (rest' slots' : List ℕ) (r : Fed) : Type 0 where
-  pub alien : is_kept Both rest st.held st.passed ≡ false → (r ≡ record { at = 0; state = st; answer = Err Refusal.NoStream }) × (rest' ≡ rest) × (slots' ≡ slots)
+  pub alien : is_kept Both rest st.held st.passed ≡ false → (r ≡ record { at = 0; state = st; answer = Err R.NoStream }) × (rest' ≡ rest) × (slots' ≡ slots)
   pub fed : is_kept Both rest st.held st.passed ≡ true → (u : List ℕ) → Rest Both u → Keeps Both u rest st.held st.passed → FedOn pieces u s rest slots rest' slots' r
 
 -- what the end answers of the bytes since the last unit
@@ -54,7 +55,7 @@ end_of pieces (b ∷ u) room = answer_of pieces (b ∷ u) room
 
 -- WHAT `finish` ANSWERS: 53 as `feed` does; else the open unit's answer, if there is one, and nothing is held any more
 pub record FinishDone (pieces : Pieces) (rest slots : List ℕ) (st : State) (slots' : List ℕ) (r : Finished) : Type 0 where
-  pub alien : is_kept Both rest st.held st.passed ≡ false → (r ≡ record { state = st; answer = Err Refusal.NoStream }) × (slots' ≡ slots)
+  pub alien : is_kept Both rest st.held st.passed ≡ false → (r ≡ record { state = st; answer = Err R.NoStream }) × (slots' ≡ slots)
   pub ended : is_kept Both rest st.held st.passed ≡ true → (u : List ℕ) → Rest Both u → Keeps Both u rest st.held st.passed
       → (r.state ≡ empty) × Given (end_of pieces u (length slots)) (taken_dwords u) slots slots' r.answer
 

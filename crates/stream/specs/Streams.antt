@@ -2,8 +2,8 @@
 -- How to read it: `a ≡ b` is "a equals b"; `P → Q` "if P then Q"; `P → ⊥` "P never holds"; `(x : A) → P` "for every x, P"; `(x : A) × P` "there is an x
 -- so that P"; `P × Q` "P and Q"; `↔` "exactly when"; `a ++ b` is a and then b; `map f l` is f of each of l; `All P l` "P holds of each of l".
 use Rattle.refusal.specs.declared.Refusal.{Refusal}
-use Rattle.refusal.specs.declared.Refusal.TheVariants as Refusal
-use Rattle.std.specs.Prelude.{ℕ, ◌≤◌, ◌<◌, ◌≡◌, true, false, cond, List, [], ◌∷◌, ◌++◌, map, ◌↔◌, eqb, length, get_or, take, Err, None, Ok, Result, Some}
+use Rattle.refusal.specs.declared.Refusal.TheVariants as R
+use Rattle.std.specs.Prelude.{ℕ, ◌≤◌, ◌<◌, ◌≡◌, true, false, cond, List, [], ◌∷◌, ◌++◌, map, ◌↔◌, eqb, length, get_or, take, Err, Ok, Result, Some}
 use Rattle.text.specs.Told.{Told, is, absent, refused}
 use Rattle.tlv.specs.Number.{Bytes}
 use Rattle.tlv.specs.Grammar.{All}
@@ -21,7 +21,8 @@ use Rattle.units.specs.Units.{Units, Whole, Open, Sofar}
 use Rattle.units.specs.Kept.{Leaves, is_kept}
 use Rattle.stream.specs.declared.Fed.{Fed}
 use Rattle.stream.specs.declared.Finished.{Finished}
-use Rattle.stream.specs.Answers.{answer_told, answer_of, said_of, records_of}
+use Rattle.refusal.specs.Told.{told_maybe}
+use Rattle.stream.specs.Answers.{answer_of, said_of, records_of}
 use Rattle.stream.specs.Feeding.{empty, FeedDone, FinishDone}
 
 -- what a call adds to the list of answers: nothing if no unit ended
@@ -44,7 +45,7 @@ pub data Calls (pieces : Pieces) (room : ℕ) : List ℕ → List (Told Entry) �
   call : {taken rest : List ℕ} {answers : List (Told Entry)} {values : List EntryValue} {st : State} (part slots rest' slots' : List ℕ) (r : Fed)
       → Calls pieces room taken answers values rest st
       → Bytes part → length slots ≡ room → FeedDone pieces part rest slots st rest' slots' r
-      → Calls pieces room (taken ++ take r.at part) (answers ++ answers_in (answer_told r.answer)) (values ++ values_in (answer_told r.answer) rest' slots') rest' r.state
+      → Calls pieces room (taken ++ take r.at part) (answers ++ answers_in (told_maybe r.answer)) (values ++ values_in (told_maybe r.answer) rest' slots') rest' r.state
 
 -- A stream went through: calls took all of it, and then `finish` was called. All the answers, in their order, and what the entries among them say.
 pub record Went (pieces : Pieces) (room : ℕ) (stream : List ℕ) (answers : List (Told Entry)) (values : List EntryValue) : Type 0 where
@@ -61,8 +62,8 @@ pub record Went (pieces : Pieces) (room : ℕ) (stream : List ℕ) (answers : Li
   pub r : Finished
   pub finish : FinishDone pieces rest slots state slots' r
   -- All the answers, and what they say.
-  pub all : answers ≡ before ++ answers_in (answer_told r.answer)
-  pub all_said : values ≡ said_before ++ values_in (answer_told r.answer) rest slots'
+  pub all : answers ≡ before ++ answers_in (told_maybe r.answer)
+  pub all_said : values ≡ said_before ++ values_in (told_maybe r.answer) rest slots'
 
 -- a unit of a stream: it has ended, or the stream's end ends it
 pub data IsUnit (u : List ℕ) : Type 0 where
@@ -106,10 +107,10 @@ pub record StatesLeft (pieces : Pieces) : Type 0 where
       → (is_kept Both rest held passed ≡ true) ↔ ((s : List ℕ) × (Bytes s × Leaves Both s rest held passed))
   -- `feed` answers 53 exactly where the test fails.
   pub feed_53 : (part rest slots : List ℕ) (st : State) (rest' slots' : List ℕ) (r : Fed) → Bytes part → Bytes rest → FeedDone pieces part rest slots st rest' slots' r
-      → (r.answer ≡ Err Refusal.NoStream) ↔ (is_kept Both rest st.held st.passed ≡ false)
+      → (r.answer ≡ Err R.NoStream) ↔ (is_kept Both rest st.held st.passed ≡ false)
   -- So does `finish`.
   pub finish_53 : (rest slots : List ℕ) (st : State) (slots' : List ℕ) (r : Finished) → Bytes rest → FinishDone pieces rest slots st slots' r
-      → (r.answer ≡ Err Refusal.NoStream) ↔ (is_kept Both rest st.held st.passed ≡ false)
+      → (r.answer ≡ Err R.NoStream) ↔ (is_kept Both rest st.held st.passed ≡ false)
   -- No second answer keeps the contract of `feed`, whatever the input.
   pub one_feed : (part rest slots : List ℕ) (st : State) (rest' slots' rest'' slots'' : List ℕ) (r q : Fed)
       → FeedDone pieces part rest slots st rest' slots' r → FeedDone pieces part rest slots st rest'' slots'' q
@@ -119,9 +120,9 @@ pub record StatesLeft (pieces : Pieces) : Type 0 where
       → FinishDone pieces rest slots st slots' r → FinishDone pieces rest slots st slots'' q
       → (r ≡ q) × (slots' ≡ slots'')
   -- With a number the slots are as found.
-  pub refused_slots : (part rest slots : List ℕ) (st : State) (rest' slots' : List ℕ) (r : Fed) (k : ℕ) → FeedDone pieces part rest slots st rest' slots' r
+  pub refused_slots : (part rest slots : List ℕ) (st : State) (rest' slots' : List ℕ) (r : Fed) (k : Refusal) → FeedDone pieces part rest slots st rest' slots' r
       → r.answer ≡ Err k → slots' ≡ slots
-  pub refused_slots_end : (rest slots : List ℕ) (st : State) (slots' : List ℕ) (r : Finished) (k : ℕ) → FinishDone pieces rest slots st slots' r
+  pub refused_slots_end : (rest slots : List ℕ) (st : State) (slots' : List ℕ) (r : Finished) (k : Refusal) → FinishDone pieces rest slots st slots' r
       → r.answer ≡ Err k → slots' ≡ slots
 
 -- An entry that a call answered of a unit.

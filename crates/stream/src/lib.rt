@@ -7,7 +7,7 @@
 
 ghost use Rattle.std.specs.Prelude.{◌≡◌, ◌≤◌, length};
 ghost use Rattle.units.specs.Feeding.{text_length};
-ghost use Rattle.stream.specs.Feeding.{empty, UnitRead, TextRead, FeedDone, FinishDone, after_end};
+ghost use Rattle.stream.specs.Feeding.{empty, UnitRead, FeedDone, FinishDone, after_end};
 
 use entry::Entry;
 use refusal::Refusal;
@@ -41,13 +41,11 @@ pub fn feed(state: State, pieces: Pieces, part: &[u8], rest: &mut [u8], slots: &
     ensures { FeedDone pieces part.now rest.old slots.old state rest.new slots.new result }
 {
     let fed = units::feed(Framing::Both, state, part, 0, rest);
-    let unit = fed.unit;
-    let state = fed.state;
-    let answer = read_unit(unit, pieces, rest, slots);
+    let answer = read_unit(fed.unit, pieces, rest, slots);
     Fed {
         at: fed.at,
-        state: state,
-        answer: answer,
+        state: fed.state,
+        answer,
     }
 }
 
@@ -59,42 +57,36 @@ pub fn finish(state: State, pieces: Pieces, rest: &[u8], slots: &mut [u32]) -> F
     let answer = read_unit(unit, pieces, rest, slots);
     Finished {
         state: state_after(state, unit),
-        answer: answer,
+        answer,
     }
 }
 
 // After 53 the state is as it was.
+#[tactic(auto, unfolding(crate::specs::Feeding::after_end))]
 fn state_after(state: State, unit: Unit) -> State
     ensures { result ≡ after_end state unit }
 {
     match unit {
-        Unit::Text(_) => begun(),
-        Unit::Long => begun(),
-        Unit::Cut => begun(),
-        Unit::Open => begun(),
+        Unit::Text(_) | Unit::Long | Unit::Cut | Unit::Open => begun(),
         Unit::Alien => state,
     }
 }
 
 // The answer of a unit. Asked for: that its bytes stand in the buffer, as `units` leaves them.
-pub fn read_unit(unit: Unit, pieces: Pieces, rest: &[u8], slots: &mut [u32]) -> Result<Option<Entry>, Refusal>
+pub fn read_unit(
+    unit: Unit,
+    pieces: Pieces,
+    rest: &[u8],
+    slots: &mut [u32],
+) -> Result<Option<Entry>, Refusal>
     requires { text_length unit ≤ length rest.now }
     ensures { UnitRead pieces unit rest.now slots.old slots.new result }
 {
     match unit {
-        Unit::Text(n) => read_text(&rest[..n], pieces, slots),
+        Unit::Text(n) => Ok(Some(intake::read(&rest[..n], pieces, slots)?)),
         Unit::Long => Err(Refusal::LongRecord),
         Unit::Cut => Err(Refusal::CutRecord),
         Unit::Open => Ok(None),
         Unit::Alien => Err(Refusal::NoStream),
-    }
-}
-
-fn read_text(text: &[u8], pieces: Pieces, slots: &mut [u32]) -> Result<Option<Entry>, Refusal>
-    ensures { TextRead pieces text.now slots.old slots.new result }
-{
-    match intake::read(text, pieces, slots) {
-        Ok(e) => Ok(Some(e)),
-        Err(number) => Err(number),
     }
 }

@@ -4,11 +4,9 @@ use mathlib.Core.Path.{◌≡◌, refl}
 use mathlib.Core.List.{[], ◌∷◌}
 use Rattle.text.specs.Class.{between, is_digit, is_letter, is_word, in_class}
 use Rattle.text.specs.Number.{digit_of, value, all_digits, number_of, bad_first, value_within, reading_of, digits_from, hex_of}
-use Rattle.std.specs.Result.{result_ok}
 use Rattle.text.specs.Place.{first_of, first_in, found_below, first_place}
 use Rattle.text.specs.Quote.{bytes}
 use Rattle.text.specs.Run.{run_end}
-use Rattle.text.specs.Same.{same_text}
 use Rattle.pairs.specs.Pair.{bracket_end, value_end, with_value, pair_with, pair_at, is_hit, pair_from, next_pair, followed, pairs_within, pairs_from, newer, last_in, last_pair, decimal_in, decimal_of, span}
 use Rattle.pairs.specs.Data.{ahead, cut, piece_of, taken, dwords_in, dwords_of, inside_of, data_in, data_of}
 use Rattle.pairs.specs.Table.{keys, key_after, unknown, key_named}

@@ -1,6 +1,6 @@
 -- A piece as the kernel prints it, read by its places: the sum of eight entries is below 128 only where each is a digit's, and neither `0x` nor a
 -- digit is a comma, so the piece ends behind its ten bytes. Assumes nothing.
-use Rattle.std.specs.Prelude.{None, Some}
+use Rattle.std.specs.Prelude.{Some}
 use Prim.Native.Nat.{ℕ, suc, ◌+◌, ◌*◌, ◌-◌, ◌^◌, ◌≤◌, ◌<◌}
 use mathlib.Core.Path.{◌≡◌, refl, sym, ap, ◌∙◌}
 use mathlib.Core.Bool.{true}
@@ -10,7 +10,7 @@ use native.Mathlib.Numerals.{add-one}
 use native.Mathlib.Nat.{pow-suc, pow-le-pow_right}
 use lib.ListN.{length, get_or, take, drop, length-drop}
 use lib.Seq.{get_or-take, get_or-drop, drop-cons, length-take-le}
-use borrow.Author.Tests.{lt-ltb, le-ltb, eq-eqb}
+use borrow.Author.Tests.{eq-eqb}
 use Rattle.text.specs.Class.{between, is_digit}
 use Rattle.text.specs.Number.{digit_of, Reads, HexNumber, number_of}
 use Rattle.text.specs.Quote.{bytes}
@@ -19,19 +19,9 @@ use Rattle.text.proofs.Places.{by_order, first_is_stop}
 use Rattle.text.proofs.Numbers.{SoFar, so_far_starts, so_far_steps, whole_value, number_is, number_read}
 use Rattle.text.proofs.Hexes.{hex_all}
 use Rattle.text.proofs.Words.{two_are}
-use Rattle.pairs.specs.Data.{comma_space, piece_end, piece_for, PieceHere}
+use Rattle.pairs.specs.Data.{comma_space, piece_end, PieceHere}
 use Rattle.pairs.proofs.Cuts.{comma_space_none, comma_space_by, ends_piece}
 use Rattle.pairs.proofs.Slots.{piece_dword}
-
--- ---- a number that stands for a piece
-
-pub stands_dword : {v : ℕ} → v < 4294967296 → Some v ≡ piece_for v
-unfolding piece_for
-stands_dword {v} h = rw (lt-ltb v 4294967296 h)
-
-pub stands_bad : {v : ℕ} → 4294967296 ≤ v → None ≡ piece_for v
-unfolding piece_for
-stands_bad {v} h = rw (le-ltb v 4294967296 h)
 
 -- ---- eight digits
 
@@ -149,10 +139,10 @@ module _ (l : List ℕ) (at : ℕ) {v : ℕ} (room : at + 10 ≤ length l) (fron
       ∙ rw (starts.0, a) (ap (λ (t : List ℕ). 48 ∷ t) (drop-cons l (at + 1) 0 (omega arith) ∙ rw (starts.1, b) refl)) in
       ap (take 10) more
 
-  pub printed_here : v < 4294967296 → (at + 10 < length l → comma_space l (at + 10) ≡ true) →
-      PieceHere l at (record { end = at + 10; dword = v })
+  pub printed_here : (at + 10 < length l → comma_space l (at + 10) ≡ true) →
+      PieceHere l at (record { end = at + 10; dword = Some v })
   unfolding piece_end
-  printed_here fits ends =
+  printed_here ends =
       let size : at + 10 - at ≡ 10 = omega arith in
       record {
         ends =
@@ -163,6 +153,5 @@ module _ (l : List ℕ) (at : ℕ) {v : ℕ} (room : at + 10 ≤ length l) (fron
               here = ends;
             })));
         is =
-            rw size (sym (piece_dword (take 10 (drop at l)) (hex_all 4294967295 (HexNumber.prefixed _ ten digits)))
-            ∙ stands_dword fits);
+            rw size (sym (piece_dword (take 10 (drop at l)) (hex_all 4294967295 (HexNumber.prefixed _ ten digits))));
       }

@@ -168,14 +168,10 @@ pub record Tallied (inner : List ℕ) (r : Tally) : Type 0 where
   pub dwords_are : r.dwords ≡ length (dwords_of inner)
   pub bad_is : r.bad ≡ bad_of inner
 
--- the piece that a number stands for: a dword, and bad for every number past 32 bits
-unfoldable pub piece_for : ℕ → Option ℕ
-piece_for d = cond (ltb d (2 ^ 32)) (Some d) None
-
--- an answer is the piece from a place on: its end, and the number that stands for it
+-- an answer is the piece from a place on: its end, and what it is
 pub record PieceHere (l : List ℕ) (from : ℕ) (r : NextPiece) : Type 0 where
   pub ends : EndsPiece l from r.end
-  pub is : piece_of (part l from r.end) ≡ piece_for r.dword
+  pub is : piece_of (part l from r.end) ≡ r.dword
 
 -- an answer tallies the pieces; their dwords stand from the first place on, as many as there are places, and the other places are as found
 pub record Taken (inner own exit : List ℕ) (r : Tally) : Type 0 where

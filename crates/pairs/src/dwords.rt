@@ -1,9 +1,9 @@
 // The dwords of a bracketed value. A piece as the kernel prints it, `0x` and eight digits, is read by its places. Right because no byte of it is a comma,
 // so that it ends where the next comma-space stands or the text; and a sum of entries is below 128 only where each is a digit's.
-ghost use Rattle.std.specs.Prelude.{◌≡◌, ◌+◌, ◌≤◌, ◌<◌, length, take, drop};
+ghost use Rattle.std.specs.Prelude.{◌≡◌, ◌+◌, ◌≤◌, ◌<◌, length, take, drop, IfSome, Some};
 ghost use Rattle.text.specs.Number.{number_of};
 ghost use Rattle.text.specs.Table.{table};
-ghost use Rattle.pairs.specs.Data.{Bracketed, comma_space, EndsPiece, piece_of, piece_for, PieceHere, Taken, NthPiece};
+ghost use Rattle.pairs.specs.Data.{Bracketed, comma_space, EndsPiece, piece_of, PieceHere, Taken, NthPiece};
 
 use crate::pair::Span;
 use text::number::{MAX_32, hex};
@@ -12,11 +12,11 @@ use text::run::until;
 use text::table::wide;
 use text::word::{one, two};
 
-// A piece by its end and its dword; any number past 32 bits stands for a bad one.
+// A piece by its end and its dword, none where it is bad.
 #[derive(Clone, Copy)]
 pub struct NextPiece {
     pub end: usize,
-    pub dword: u64,
+    pub dword: Option<u32>,
 }
 
 // How many dwords the pieces are, and whether one of the pieces is bad.
@@ -27,6 +27,7 @@ pub struct Tally {
 }
 
 // What stands between the brackets of a value that is `[`, one or more bytes other than `]`, `]`.
+#[tactic(auto, using(crate::proofs::Slots::bracketed), unfolding(crate::specs::Data::inside_of, text::specs::Class::in_class))]
 pub fn inside(value: &[u8]) -> Option<Span>
     ensures { Bracketed value.now result }
 {
@@ -34,16 +35,7 @@ pub fn inside(value: &[u8]) -> Option<Span>
         return None;
     }
     let c = until(value, b']', 1);
-    if c == 1 {
-        return None;
-    }
-    if value.len() <= c {
-        return None;
-    }
-    if c + 1 < value.len() {
-        return None;
-    }
-    Some(Span { from: 1, to: c })
+    (1 < c && c + 1 == value.len()).then_some(Span { from: 1, to: c })
 }
 
 // The dwords that the pieces between the brackets are, from the first place on; those past the last place are counted and not kept. A bad piece adds
@@ -57,19 +49,16 @@ pub fn take_dwords(inner: &[u8], t: &[u8; 256], own: &mut [u32; 256]) -> Tally
     let mut at = 0;
     loop {
         let piece = piece_at(inner, t, at);
-        if piece.dword < NO_DWORD {
+        if let Some(dword) = piece.dword {
             if n < 256 {
-                own[n] = piece.dword as u32;
+                own[n] = dword;
             }
             n += 1;
         } else {
             bad = true;
         }
         if piece.end == inner.len() {
-            return Tally {
-                dwords: n,
-                bad: bad,
-            };
+            return Tally { dwords: n, bad };
         }
         at = piece.end + 2;
     }
@@ -80,64 +69,50 @@ fn piece_at(inner: &[u8], t: &[u8; 256], at: usize) -> NextPiece
     requires { (t.now ≡ table) × (at ≤ length inner.now) }
     ensures { PieceHere inner.now at result }
 {
-    let v = printed(inner, t, at);
-    if v < NO_DWORD {
+    if let Some(dword) = printed(inner, t, at) {
         return NextPiece {
             end: at + 10,
-            dword: v,
+            dword: Some(dword),
         };
     }
-    let to = piece_end(inner, at);
+    let end = piece_end(inner, at);
     NextPiece {
-        end: to,
-        dword: dword_of(read_piece(&inner[at..to])),
+        end,
+        dword: read_piece(&inner[at..end]),
     }
 }
-
-// A piece as a number.
-fn dword_of(piece: Option<u32>) -> u64
-    ensures { piece ≡ piece_for result }
-{
-    match piece {
-        Some(v) => v as u64,
-        None => NO_DWORD,
-    }
-}
-
-// Stands where there is no dword.
-const NO_DWORD: u64 = 0x1_0000_0000;
 
 // `0x` and `, ` as numbers.
 const PREFIX: u64 = 0x7830;
 
 pub const COMMA_SPACE: u64 = 0x202c;
 
-// The dword of a piece as the kernel prints it, `0x` and eight digits, with `, ` or the end of the text behind them; `NO_DWORD` for any other.
-fn printed(s: &[u8], t: &[u8; 256], at: usize) -> u64
+// The dword of a piece as the kernel prints it, `0x` and eight digits, with `, ` or the end of the text behind them; none for any other.
+fn printed(s: &[u8], t: &[u8; 256], at: usize) -> Option<u32>
     requires { (t.now ≡ table) × (at ≤ length s.now) }
-    ensures { result < 4294967296 → PieceHere s.now at (record { end = at + 10; dword = result }) }
+    ensures { IfSome result (λ v. PieceHere s.now at (record { end = at + 10; dword = Some v })) }
 {
     if s.len() < at + 10 {
-        return NO_DWORD;
+        return None;
     }
     if two(s, at) != PREFIX {
-        return NO_DWORD;
+        return None;
     }
     if s.len() != at + 10 {
         if s.len() < at + 12 {
-            return NO_DWORD;
+            return None;
         }
         if two(s, at + 10) != COMMA_SPACE {
-            return NO_DWORD;
+            return None;
         }
     }
     eight_digits(s, t, at + 2)
 }
 
-// The number of eight hex digits, `NO_DWORD` where one is none: its entry is 128 or more, and so is the sum then.
-fn eight_digits(s: &[u8], t: &[u8; 256], at: usize) -> u64
+// The number of eight hex digits, none where one is no digit: its entry is 128 or more, and so is the sum then.
+fn eight_digits(s: &[u8], t: &[u8; 256], at: usize) -> Option<u32>
     requires { (t.now ≡ table) × (at + 8 ≤ length s.now) }
-    ensures { result < 4294967296 → number_of 16 4294967295 (take 8 (drop at s.now)) ≡ Some result }
+    ensures { IfSome result (λ v. number_of 16 4294967295 (take 8 (drop at s.now)) ≡ Some v) }
 {
     let mut v: u64 = 0;
     let mut sum: u64 = 0;
@@ -148,9 +123,9 @@ fn eight_digits(s: &[u8], t: &[u8; 256], at: usize) -> u64
         sum += d;
     }
     if 128 <= sum {
-        return NO_DWORD;
+        return None;
     }
-    v
+    Some(v as u32)
 }
 
 // The piece of that number, from 0.
@@ -176,10 +151,8 @@ pub fn nth_piece(inner: &[u8], i: usize) -> Option<Span>
 fn read_piece(piece: &[u8]) -> Option<u32>
     ensures { result ≡ piece_of piece.now }
 {
-    match hex(piece, MAX_32).ok() {
-        Some(v) => Some(v as u32),
-        None => None,
-    }
+    let v = hex(piece, MAX_32).ok()?;
+    Some(v as u32)
 }
 
 // Where the piece from a place on ends: at the next comma-space, else with the text.
@@ -187,21 +160,18 @@ pub fn piece_end(inner: &[u8], from: usize) -> usize
     requires { from ≤ length inner.now }
     ensures { EndsPiece inner.now from result }
 {
-    let mut k = from;
-    while k < inner.len() {
+    for k in from..inner.len() {
         if is_comma_space(inner, k) {
             return k;
         }
-        k += 1;
     }
-    k
+    inner.len()
 }
 
+#[tactic(auto, unfolding(crate::specs::Data::comma_space))]
 fn is_comma_space(l: &[u8], k: usize) -> bool
+    requires { k < length l.now }
     ensures { result ≡ comma_space l.now k }
 {
-    if byte_at(l, k) != b',' {
-        return false;
-    }
-    byte_at(l, k + 1) == b' '
+    l[k] == b',' && byte_at(l, k + 1) == b' '
 }

@@ -97,6 +97,7 @@ pub fn value_end(s: &[u8], v: usize, e: usize, tail: usize) -> Option<usize>
 }
 
 // `[`, one or more bytes other than `]`, `]`.
+#[tactic(auto, unfolding(crate::specs::Pair::bracket_end, text::specs::Class::in_class))]
 fn bracket_end(s: &[u8], v: usize) -> Option<usize>
     ensures { result ≡ bracket_end s.now v }
 {
@@ -104,11 +105,5 @@ fn bracket_end(s: &[u8], v: usize) -> Option<usize>
         return None;
     }
     let c = until(s, b']', v + 1);
-    if c == v + 1 {
-        return None;
-    }
-    if s.len() <= c {
-        return None;
-    }
-    Some(c + 1)
+    (v + 1 < c && c < s.len()).then_some(c + 1)
 }

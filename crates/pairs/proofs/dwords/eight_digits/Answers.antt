@@ -26,4 +26,4 @@ loop-k-preserved c =
     ∙ entry_digit c.requires.0 c.wide-j.ensures.1 (rw c.one-d.ensures.0 at h) ∙ sym c.one-d.ensures.0)
 
 pub returns : goal.returns
-returns c = λ h. eight_done _ (part_long c.args.s.now 8 c.args.at c.requires.1) c.loop-k.invariant c.loop-k-test.false (omega arith)
+returns c = eight_done _ (part_long c.args.s.now 8 c.args.at c.requires.1) c.loop-k.invariant c.loop-k-test.false (omega arith)

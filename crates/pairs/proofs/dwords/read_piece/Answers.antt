@@ -7,10 +7,10 @@ use native.Mathlib.Omega.{arith}
 use Rattle.pairs.proofs.dwords.read_piece.Goals as goal
 
 pub overflow_cast-result : goal.overflow_cast-result
-overflow_cast-result c = omega (arith, hex_fits (2 ^ 32 - 1) _ (sym (ap result_ok c.hex.ensures) ∙ sym c.ok.ensures.value ∙ c.in-Some.is))
+overflow_cast-result c = record { fits = omega (arith, hex_fits (2 ^ 32 - 1) _ (sym (ap result_ok c.hex.ensures) ∙ sym c.ok.ensures.value ∙ c.in_ok-v.was)) }
 
-pub returns-in-Some : goal.returns-in-Some
-returns-in-Some c = piece_dword _ (sym (ap result_ok c.hex.ensures) ∙ sym c.ok.ensures.value ∙ c.in-Some.is)
+pub returns : goal.returns
+returns c = piece_dword _ (sym (ap result_ok c.hex.ensures) ∙ sym c.ok.ensures.value ∙ c.in_ok-v.was)
 
-pub returns-in-None : goal.returns-in-None
-returns-in-None c = piece_bad _ (sym (ap result_ok c.hex.ensures) ∙ sym c.ok.ensures.value ∙ c.in-None.is)
+pub returns-in_err-v : goal.returns-in_err-v
+returns-in_err-v c = c.from_residual.ensures ∙ piece_bad _ (sym (ap result_ok c.hex.ensures) ∙ sym c.ok.ensures.value ∙ c.in_err-v.was)

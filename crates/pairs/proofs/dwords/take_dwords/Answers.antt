@@ -2,43 +2,42 @@
 -- nothing.
 use Prim.Native.Nat.{◌<◌}
 use Rattle.pairs.proofs.BadPieces.{BadUpTo, bad_starts, bad_goes_on, bad_past_dword, bad_met}
-use Rattle.pairs.proofs.Printed.{stands_dword, stands_bad}
 use Rattle.pairs.proofs.Slots.{UpTo, before_starts, before_next, up_to_bad, up-to-dword, dword-slot, dword-value, Kept, kept_starts, kept_stored, kept_passed, kept_all}
 use Rattle.pairs.specs.Data.{dwords_of}
 use lib.ListN.{length}
 use mathlib.Core.Path.{sym, ◌∙◌}
 use native.Mathlib.Omega.{arith}
 use Rattle.pairs.proofs.dwords.take_dwords.Goals as goal
-use Rattle.pairs.proofs.dwords.take_dwords.Goals.{then-piece-lt-NO_DWORD, then-n-lt256, else-n-lt256, else-piece-lt-NO_DWORD}
+use Rattle.pairs.proofs.dwords.take_dwords.Goals.{in-Some, then-n-lt256, else-n-lt256, in_default}
 
-pub loop-own-init : goal.loop-own-init
-loop-own-init c = (before_starts _, bad_starts _, kept_starts _ _)
+pub loop-dword-init : goal.loop-dword-init
+loop-dword-init c = (before_starts _, bad_starts _, kept_starts _ _)
 
 pub piece_at-piece-requires : goal.piece_at-piece-requires
-piece_at-piece-requires c = (c.requires.0, c.loop-own.invariant.0.within)
+piece_at-piece-requires c = (c.requires.0, c.loop-dword.invariant.0.within)
 
 pub overflow_add-n : goal.overflow_add-n
-overflow_add-n c = omega (arith, c.loop-own.invariant.0.few, c.loop-own.invariant.0.within)
+overflow_add-n c = omega (arith, c.loop-dword.invariant.0.few, c.loop-dword.invariant.0.within)
 
 pub returns-then-piece-inner : goal.returns-then-piece-inner
 returns-then-piece-inner c =
-    let m : UpTo c.args.inner.now c.if-piece-lt-NO_DWORD.n c.piece_at-piece.result.end × BadUpTo c.args.inner.now c.if-piece-lt-NO_DWORD.bad c.piece_at-piece.result.end × Kept (dwords_of c.args.inner.now) c.args.own.now c.if-piece-lt-NO_DWORD.n c.if-piece-lt-NO_DWORD.own = elim c.if-piece-lt-NO_DWORD.branch [
-      | then-piece-lt-NO_DWORD w ↦
-          let q = stands_dword w.if-piece-lt-NO_DWORD.true ∙ sym c.piece_at-piece.ensures.is in (
-            rw w.n-is (up-to-dword _ c.loop-own.invariant.0 c.piece_at-piece.ensures.ends.is c.piece_at-piece.ensures.ends.up c.piece_at-piece.ensures.ends.within q),
-            rw w.bad-is (bad_past_dword _ c.loop-own.invariant.1 c.loop-own.invariant.0.within c.piece_at-piece.ensures.ends.is q),
+    let m : UpTo c.args.inner.now c.match-piece.n c.piece_at-piece.result.end × BadUpTo c.args.inner.now c.match-piece.bad c.piece_at-piece.result.end × Kept (dwords_of c.args.inner.now) c.args.own.now c.match-piece.n c.match-piece.own = elim c.match-piece.branch [
+      | in-Some w ↦
+          let q = sym w.in-Some.is ∙ sym c.piece_at-piece.ensures.is in (
+            rw w.n-is (up-to-dword _ c.loop-dword.invariant.0 c.piece_at-piece.ensures.ends.is c.piece_at-piece.ensures.ends.up c.piece_at-piece.ensures.ends.within q),
+            rw w.bad-is (bad_past_dword _ c.loop-dword.invariant.1 c.loop-dword.invariant.0.within c.piece_at-piece.ensures.ends.is q),
             rw (w.own-is, w.n-is) (elim w.if-n-lt256.branch [
-              | then-n-lt256 x ↦ rw x.own-is (kept_stored _ _ c.loop-own.invariant.2 x.if-n-lt256.true c.requires.1
-                  (dword-slot _ c.loop-own.invariant.0 c.piece_at-piece.ensures.ends.is c.piece_at-piece.ensures.ends.up c.piece_at-piece.ensures.ends.within q)
-                  (dword-value _ c.loop-own.invariant.0 c.piece_at-piece.ensures.ends.is c.piece_at-piece.ensures.ends.up c.piece_at-piece.ensures.ends.within q))
-              | else-n-lt256 x ↦ rw x.own-is (kept_passed _ _ c.loop-own.invariant.2 x.if-n-lt256.false)
+              | then-n-lt256 x ↦ rw x.own-is (kept_stored _ _ c.loop-dword.invariant.2 x.if-n-lt256.true c.requires.1
+                  (dword-slot _ c.loop-dword.invariant.0 c.piece_at-piece.ensures.ends.is c.piece_at-piece.ensures.ends.up c.piece_at-piece.ensures.ends.within q)
+                  (dword-value _ c.loop-dword.invariant.0 c.piece_at-piece.ensures.ends.is c.piece_at-piece.ensures.ends.up c.piece_at-piece.ensures.ends.within q))
+              | else-n-lt256 x ↦ rw x.own-is (kept_passed _ _ c.loop-dword.invariant.2 x.if-n-lt256.false)
             ]),
           )
-      | else-piece-lt-NO_DWORD w ↦
-          let q = stands_bad w.if-piece-lt-NO_DWORD.false ∙ sym c.piece_at-piece.ensures.is in (
-            rw w.n-is (up_to_bad _ c.loop-own.invariant.0 c.piece_at-piece.ensures.ends.is c.piece_at-piece.ensures.ends.up c.piece_at-piece.ensures.ends.within q),
-            rw w.bad-is (bad_met _ c.loop-own.invariant.1 c.loop-own.invariant.0.within c.piece_at-piece.ensures.ends.is q),
-            rw (w.own-is, w.n-is) c.loop-own.invariant.2,
+      | in_default w ↦
+          let q = sym w.in_default.is ∙ sym c.piece_at-piece.ensures.is in (
+            rw w.n-is (up_to_bad _ c.loop-dword.invariant.0 c.piece_at-piece.ensures.ends.is c.piece_at-piece.ensures.ends.up c.piece_at-piece.ensures.ends.within q),
+            rw w.bad-is (bad_met _ c.loop-dword.invariant.1 c.loop-dword.invariant.0.within c.piece_at-piece.ensures.ends.is q),
+            rw (w.own-is, w.n-is) c.loop-dword.invariant.2,
           )
     ] in
     record {
@@ -49,33 +48,33 @@ returns-then-piece-inner c =
 pub overflow_add-at : goal.overflow_add-at
 overflow_add-at c = omega (arith, c.piece_at-piece.ensures.ends.within)
 
-pub loop-own-smaller : goal.loop-own-smaller
-loop-own-smaller c =
+pub loop-dword-smaller : goal.loop-dword-smaller
+loop-dword-smaller c =
     omega (
       arith,
       c.piece_at-piece.ensures.ends.up,
       c.piece_at-piece.ensures.ends.more (omega (arith, c.if-piece-inner.false, c.piece_at-piece.ensures.ends.within)),
     )
 
-pub loop-own-preserved : goal.loop-own-preserved
-loop-own-preserved c =
-    let m : UpTo c.args.inner.now c.if-piece-lt-NO_DWORD.n c.piece_at-piece.result.end × BadUpTo c.args.inner.now c.if-piece-lt-NO_DWORD.bad c.piece_at-piece.result.end × Kept (dwords_of c.args.inner.now) c.args.own.now c.if-piece-lt-NO_DWORD.n c.if-piece-lt-NO_DWORD.own = elim c.if-piece-lt-NO_DWORD.branch [
-      | then-piece-lt-NO_DWORD w ↦
-          let q = stands_dword w.if-piece-lt-NO_DWORD.true ∙ sym c.piece_at-piece.ensures.is in (
-            rw w.n-is (up-to-dword _ c.loop-own.invariant.0 c.piece_at-piece.ensures.ends.is c.piece_at-piece.ensures.ends.up c.piece_at-piece.ensures.ends.within q),
-            rw w.bad-is (bad_past_dword _ c.loop-own.invariant.1 c.loop-own.invariant.0.within c.piece_at-piece.ensures.ends.is q),
+pub loop-dword-preserved : goal.loop-dword-preserved
+loop-dword-preserved c =
+    let m : UpTo c.args.inner.now c.match-piece.n c.piece_at-piece.result.end × BadUpTo c.args.inner.now c.match-piece.bad c.piece_at-piece.result.end × Kept (dwords_of c.args.inner.now) c.args.own.now c.match-piece.n c.match-piece.own = elim c.match-piece.branch [
+      | in-Some w ↦
+          let q = sym w.in-Some.is ∙ sym c.piece_at-piece.ensures.is in (
+            rw w.n-is (up-to-dword _ c.loop-dword.invariant.0 c.piece_at-piece.ensures.ends.is c.piece_at-piece.ensures.ends.up c.piece_at-piece.ensures.ends.within q),
+            rw w.bad-is (bad_past_dword _ c.loop-dword.invariant.1 c.loop-dword.invariant.0.within c.piece_at-piece.ensures.ends.is q),
             rw (w.own-is, w.n-is) (elim w.if-n-lt256.branch [
-              | then-n-lt256 x ↦ rw x.own-is (kept_stored _ _ c.loop-own.invariant.2 x.if-n-lt256.true c.requires.1
-                  (dword-slot _ c.loop-own.invariant.0 c.piece_at-piece.ensures.ends.is c.piece_at-piece.ensures.ends.up c.piece_at-piece.ensures.ends.within q)
-                  (dword-value _ c.loop-own.invariant.0 c.piece_at-piece.ensures.ends.is c.piece_at-piece.ensures.ends.up c.piece_at-piece.ensures.ends.within q))
-              | else-n-lt256 x ↦ rw x.own-is (kept_passed _ _ c.loop-own.invariant.2 x.if-n-lt256.false)
+              | then-n-lt256 x ↦ rw x.own-is (kept_stored _ _ c.loop-dword.invariant.2 x.if-n-lt256.true c.requires.1
+                  (dword-slot _ c.loop-dword.invariant.0 c.piece_at-piece.ensures.ends.is c.piece_at-piece.ensures.ends.up c.piece_at-piece.ensures.ends.within q)
+                  (dword-value _ c.loop-dword.invariant.0 c.piece_at-piece.ensures.ends.is c.piece_at-piece.ensures.ends.up c.piece_at-piece.ensures.ends.within q))
+              | else-n-lt256 x ↦ rw x.own-is (kept_passed _ _ c.loop-dword.invariant.2 x.if-n-lt256.false)
             ]),
           )
-      | else-piece-lt-NO_DWORD w ↦
-          let q = stands_bad w.if-piece-lt-NO_DWORD.false ∙ sym c.piece_at-piece.ensures.is in (
-            rw w.n-is (up_to_bad _ c.loop-own.invariant.0 c.piece_at-piece.ensures.ends.is c.piece_at-piece.ensures.ends.up c.piece_at-piece.ensures.ends.within q),
-            rw w.bad-is (bad_met _ c.loop-own.invariant.1 c.loop-own.invariant.0.within c.piece_at-piece.ensures.ends.is q),
-            rw (w.own-is, w.n-is) c.loop-own.invariant.2,
+      | in_default w ↦
+          let q = sym w.in_default.is ∙ sym c.piece_at-piece.ensures.is in (
+            rw w.n-is (up_to_bad _ c.loop-dword.invariant.0 c.piece_at-piece.ensures.ends.is c.piece_at-piece.ensures.ends.up c.piece_at-piece.ensures.ends.within q),
+            rw w.bad-is (bad_met _ c.loop-dword.invariant.1 c.loop-dword.invariant.0.within c.piece_at-piece.ensures.ends.is q),
+            rw (w.own-is, w.n-is) c.loop-dword.invariant.2,
           )
     ] in
     let short : c.piece_at-piece.result.end < length c.args.inner.now = omega (arith, c.if-piece-inner.false, c.piece_at-piece.ensures.ends.within) in

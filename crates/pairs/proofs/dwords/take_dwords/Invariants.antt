@@ -7,8 +7,8 @@ use Rattle.pairs.specs.Data.{dwords_of}
 use lib.ListN.{length}
 use Rattle.pairs.proofs.dwords.take_dwords.Given as goal
 
-abbrev pub invariant-loop-own : goal.invariant-loop-own
-invariant-loop-own l = Before l.inner l.n l.at × BadBefore l.inner l.bad l.at × Kept (dwords_of l.inner) l.initial.own l.n l.own
+abbrev pub invariant-loop-dword : goal.invariant-loop-dword
+invariant-loop-dword l = Before l.inner l.n l.at × BadBefore l.inner l.bad l.at × Kept (dwords_of l.inner) l.initial.own l.n l.own
 
-abbrev pub decreases-loop-own : goal.decreases-loop-own
-decreases-loop-own l = length l.inner - l.at
+abbrev pub decreases-loop-dword : goal.decreases-loop-dword
+decreases-loop-dword l = length l.inner - l.at

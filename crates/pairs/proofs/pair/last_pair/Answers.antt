@@ -4,7 +4,6 @@ use Rattle.pairs.specs.Pair.{last_pair}
 use Rattle.text.specs.Class.{in_class}
 use borrow.Author.Rules.{rules}
 use mathlib.Core.Path.{refl, sym, ◌∙◌}
-use native.Mathlib.Omega.{arith}
 use Rattle.pairs.proofs.pair.last_pair.Goals as goal
 
 pub loop-hit-init : goal.loop-hit-init

@@ -1,38 +1,26 @@
 -- Six digits at least are the last six of twenty or more; the zeros in front of sixteen end where the first other digit stands. Assumes nothing.
 use Prim.Native.Nat.{ℕ, zero, suc, ◌+◌, ◌-◌, ◌/◌, ◌%◌, ◌≤◌, ◌<◌, min}
-use mathlib.Core.Path.{◌≡◌, sym, ap, ◌∙◌}
-use mathlib.Core.Bool.{Bool, true, false, cond}
+use mathlib.Core.Path.{◌≡◌, refl, sym, ap, ◌∙◌}
+use mathlib.Core.Bool.{Bool, true, false, cond, not}
 use mathlib.Core.List.{List, [], ◌∷◌, ◌++◌}
-use native.Mathlib.Numerals.{add-one}
 use native.Mathlib.Omega.{arith}
-use borrow.Author.Tests.{eq-eqb, ne_eqb}
-use lib.Dec.{eqb}
-use lib.ListN.{length, take, drop, get_or, replicate, length-drop, length-replicate, take-append-drop}
-use lib.Seq.{take_all, drop-append-le, drop-cons}
+use borrow.Author.Tests.{ltb-true, ltb-false}
+use lib.Dec.{eqb, ltb}
+use lib.ListN.{length, take, drop, replicate, length-drop, length-replicate, take-append-drop}
+use lib.Seq.{take_all, drop-append-le}
 use Rattle.text.specs.Decimal.{decimal_text}
 use Rattle.text.proofs.Places.{by_order}
-use Rattle.print.specs.Put.{Placed, Digits, buffer_after}
+use Rattle.print.specs.Put.{Placed, Digits, buffer_after, place_after}
+use Rattle.std.specs.Prelude.{None, Some}
+use Rattle.std.specs.List.{position, position_or_len}
+use Rattle.std.specs.Option.{unwrap_or}
+use Rattle.std.proofs.lemmas.List.Recursion.{is_position_or_len}
 use Rattle.print.specs.Hex.{dword_text}
-use Rattle.unanswered_rows.specs.Parts.{Part, zeros_in, six_text, sixteen_text, route_text}
+use Rattle.print.specs.Page.{Puts}
+use Rattle.print.specs.declared.page.Page.{Page}
+use Rattle.listing_rows.specs.Rows.{Room}
+use Rattle.unanswered_rows.specs.Parts.{Part, PartOn, zeros_in, six_text, sixteen_text, route_text}
 use Rattle.unanswered_rows.proofs.Joining.{text_part}
-
--- one zero more of fifteen at most
-pub zeros_next : (s : List ℕ) (i : ℕ) → i < 15 → i < length s → get_or s i 0 ≡ 48 → i + zeros_in (15 - i) (drop i s) ≡ i + 1 + zeros_in (15 - (i + 1)) (drop (i + 1) s)
-unfolding zeros_in
-zeros_next s i l h e =
-    let q : 15 - i ≡ suc (15 - (i + 1)) = omega arith in
-    rw (q, drop-cons s i 0 h, eq-eqb _ _ e, add-one) (omega arith)
-
--- no more of them
-pub zeros_stop : (s : List ℕ) (i : ℕ) → i < 15 → i < length s → (get_or s i 0 ≡ 48 → ⊥) → i + zeros_in (15 - i) (drop i s) ≡ i
-unfolding zeros_in
-zeros_stop s i l h e =
-    let q : 15 - i ≡ suc (15 - (i + 1)) = omega arith in
-    rw (q, drop-cons s i 0 h, ne_eqb _ _ e) (omega arith)
-
-pub zeros_all : (s : List ℕ) (i : ℕ) → 15 ≤ i → i + zeros_in (15 - i) (drop i s) ≡ i
-unfolding zeros_in
-zeros_all s i h = let q : 15 - i ≡ 0 = omega arith in rw q (omega arith)
 
 pub zeros_most : (k : ℕ) (s : List ℕ) → zeros_in k s ≤ k
 unfolding zeros_in
@@ -43,6 +31,43 @@ zeros_most (suc k) (b ∷ s) = go (eqb b 48) (zeros_most k s)
     go : (t : Bool) → zeros_in k s ≤ k → cond t (suc (zeros_in k s)) 0 ≤ suc k
     go true h = omega arith
     go false h = omega arith
+
+-- so many zeros as stand before the first other digit
+zeros_fewer : (k : ℕ) (s : List ℕ) → zeros_in k s ≡ min (zeros_in (suc k) s) k
+unfolding zeros_in
+zeros_fewer zero s = omega arith
+zeros_fewer (suc k) [] = omega arith
+zeros_fewer (suc k) (b ∷ s) = by (eqb b 48) (zeros_fewer k s)
+  where
+    by : (t : Bool) → zeros_in k s ≡ min (zeros_in (suc k) s) k → cond t (suc (zeros_in k s)) 0 ≡ min (cond t (suc (zeros_in (suc k) s)) 0) (suc k)
+    by true e = omega (arith, e)
+    by false e = omega arith
+
+zeros_none : zeros_in 0 [] ≡ 0
+unfolding zeros_in
+zeros_none = refl
+
+zeros_more : (x : ℕ) (xs : List ℕ) → zeros_in (suc (length xs)) (x ∷ xs) ≡ cond (not (eqb x 48)) 0 (1 + zeros_in (length xs) xs)
+unfolding zeros_in
+zeros_more x xs = by (eqb x 48)
+  where
+    by : (t : Bool) → cond t (suc (zeros_in (length xs) xs)) 0 ≡ cond (not t) 0 (1 + zeros_in (length xs) xs)
+    by true = omega arith
+    by false = refl
+
+zeros_first : (s : List ℕ) → zeros_in (length s) s ≡ position_or_len (λ b. not (eqb b 48)) s
+zeros_first s = is_position_or_len (λ (t : List ℕ). zeros_in (length t) t) (λ b. not (eqb b 48)) zeros_none zeros_more s
+
+pub zeros_found : (s : List ℕ) → length s ≡ 16 → unwrap_or (position (λ b. not (eqb b 48)) s) 15 ≡ zeros_in 15 s
+zeros_found s h =
+    let first : position_or_len (λ b. not (eqb b 48)) s ≡ zeros_in 16 s = sym (zeros_first s) ∙ ap (λ (n : ℕ). zeros_in n s) h in
+    let fewer : zeros_in 15 s ≡ min (zeros_in 16 s) 15 = zeros_fewer 15 s in
+    let most : zeros_in 16 s ≤ 16 = zeros_most 16 s in
+    rw (first, h) (by (ltb (zeros_in 16 s) 16) refl fewer most)
+  where
+    by : (t : Bool) → ltb (zeros_in 16 s) 16 ≡ t → zeros_in 15 s ≡ min (zeros_in 16 s) 15 → zeros_in 16 s ≤ 16 → unwrap_or (cond t (Some (zeros_in 16 s)) None) 15 ≡ zeros_in 15 s
+    by true e f m = let l = ltb-true (zeros_in 16 s) 16 e in omega (arith, l, f)
+    by false e f m = let l = ltb-false (zeros_in 16 s) 16 e in omega (arith, l, f, m)
 
 -- the zeros that are left where some in front go
 drop_zeros : (k m : ℕ) → drop {A = ℕ} k (replicate (k + m) 48) ≡ replicate m 48
@@ -67,26 +92,33 @@ six_digits {n} {from} {f} {bytes} d e =
         let whole : bytes ≡ replicate from 48 ++ decimal_text n = sym (take-append-drop from bytes) ∙ rw (d.front, d.is) in
         rw (q, whole, some) (drop-append-le 14 (replicate (14 + (6 - length (decimal_text n))) 48) (decimal_text n) (omega (arith, length-replicate {A = ℕ} (14 + (6 - length (decimal_text n))) 48)) ∙ rw (drop_zeros 14 (6 - length (decimal_text n))))
 
-pub six_part : {n from f at r : ℕ} {bytes out exit : List ℕ} → Digits n bytes from → f ≡ min from 14 → at + 20 ≤ length out → Placed out at (take (20 - f) (drop f bytes)) exit r → Part out at (six_text n) exit r 20
+pub six_part : {n from f at r : ℕ} {bytes out exit : List ℕ} → Digits n bytes from → f ≡ min from 14 → at + 20 ≤ length out → Placed out at (take (length bytes - f) (drop f bytes)) exit r → Part out at (six_text n) exit r 20
 six_part {n} {from} {f} {at} {r} {bytes} {out} {exit} d e room p =
-    let same : take (20 - f) (drop f bytes) ≡ six_text n = take_all (20 - f) (drop f bytes) (omega (arith, length-drop f bytes, d.size)) ∙ six_digits d e in
+    let same : take (length bytes - f) (drop f bytes) ≡ six_text n = take_all (length bytes - f) (drop f bytes) (omega (arith, length-drop f bytes, d.size)) ∙ six_digits d e in
     let size : length (six_text n) ≤ 20 = rw (← six_digits d e) (omega (arith, length-drop f bytes, d.size)) in
     text_part 20 size (omega arith) (rw same at p)
 
 -- two dwords in sixteen places
-pub sixteen : (h l : ℕ) {mid exit : List ℕ} {a b : ℕ} → Placed (replicate 16 48) 0 (dword_text h) mid a → Placed mid 8 (dword_text l) exit b → exit ≡ dword_text h ++ dword_text l
-unfolding buffer_after
-sixteen h l p q = q.buffer ∙ ap (λ (m : List ℕ). buffer_after m 8 (dword_text l)) p.buffer
+pub sixteen : (h l : ℕ) {out mid exit : List ℕ} {at a b : ℕ} → out ≡ replicate 16 0 → at ≡ 0 → Placed out at (dword_text h) mid a → Placed mid a (dword_text l) exit b
+    → take b exit ≡ dword_text h ++ dword_text l
+unfolding buffer_after place_after
+sixteen h l {out} {mid} {exit} {at} {a} {b} e z p q =
+    let first : Placed (replicate 16 0) 0 (dword_text h) mid a = rw (e, z) at p in
+    let second : Placed (buffer_after (replicate 16 0) 0 (dword_text h)) 8 (dword_text l) exit b = rw (first.buffer, first.place) at q in
+    rw (second.place, second.buffer)
 
 -- what is left of sixteen digits without the zeros in front
-pub route_part : (n : ℕ) {f at r : ℕ} {mid digits out exit : List ℕ} {a b : ℕ} → Placed (replicate 16 48) 0 (dword_text (n / 4294967296)) mid a → Placed mid 8 (dword_text (n % 4294967296)) digits b → f ≡ zeros_in 15 digits → at + 16 ≤ length out → Placed out at (take (16 - f) (drop f digits)) exit r → Part out at (route_text n) exit r 16
+pub route_on : (n : ℕ) {p q : Page} {f : ℕ} {text : List ℕ} → text ≡ dword_text (n / 4294967296) ++ dword_text (n % 4294967296) → f ≡ zeros_in 15 text → Room p 16
+    → Puts p (take (length text - f) (drop f text)) q → PartOn p (route_text n) q 16
 unfolding route_text sixteen_text
-route_part n {f} {at} {r} {mid} {digits} p q e room x =
-    let is : digits ≡ dword_text (n / 4294967296) ++ dword_text (n % 4294967296) = sixteen (n / 4294967296) (n % 4294967296) p q in
-    let size : length digits ≡ 16 = ap length is in
-    let all : take (16 - f) (drop f digits) ≡ drop f digits = take_all (16 - f) (drop f digits) (omega (arith, length-drop f digits)) in
-    let same : drop f digits ≡ drop (zeros_in 15 (dword_text (n / 4294967296) ++ dword_text (n % 4294967296))) (dword_text (n / 4294967296) ++ dword_text (n % 4294967296)) = rw (e, is) in
-    text_part 16 (rw (← same) (omega (arith, length-drop f digits))) (rw (← same) (omega (arith, length-drop f digits))) (rw (← same, ← all) x)
+route_on n {f = f} {text = text} is e room x =
+    let size : length text ≡ 16 = ap length is in
+    let all : take (length text - f) (drop f text) ≡ drop f text = take_all (length text - f) (drop f text) (omega (arith, length-drop f text)) in
+    let same : drop f text ≡ drop (zeros_in 15 (dword_text (n / 4294967296) ++ dword_text (n % 4294967296))) (dword_text (n / 4294967296) ++ dword_text (n % 4294967296)) = rw (e, is) in
+    record {
+      part = text_part 16 (rw (← same) (omega (arith, length-drop f text))) (rw (← same) (omega (arith, length-drop f text))) (rw (← same, ← all) x.placed);
+      same = x.same;
+    }
 
 pub zeros_within : (s : List ℕ) {f : ℕ} → f ≡ zeros_in 15 s → f ≤ 16
 zeros_within s e = omega (arith, zeros_most 15 s)

@@ -1,17 +1,16 @@
 -- Parts put one behind the other are their concatenation, and reach no further than both. Assumes nothing.
 use Prim.Native.Nat.{ℕ, ◌+◌, ◌≤◌}
-use mathlib.Core.Path.{◌≡◌, ◌∙◌}
-use mathlib.Core.List.{List, [], ◌∷◌, ◌++◌}
+use mathlib.Core.Path.{◌∙◌}
+use mathlib.Core.List.{List, [], ◌++◌}
 use native.Mathlib.Omega.{arith}
 use lib.ListN.{length}
 use Rattle.text.specs.Decimal.{decimal_text}
-use Rattle.text.specs.Quote.{bytes}
 use Rattle.print.specs.Put.{Placed}
-use Rattle.listing_rows.specs.Rows.{Put, word_and_number, refused_row}
+use Rattle.listing_rows.specs.Rows.{Room, PutOn, word_and_number}
 use Rattle.listing_rows.proofs.Putting.{put_whole, put_then, put_size, word_number, word_length}
-use Rattle.unanswered_rows.specs.declared.Row.{Row}
-use Rattle.unanswered_rows.specs.Parts.{Part}
-use Rattle.unanswered_rows.specs.Rows.{row_text, word_row, answered_row}
+use Rattle.print.specs.Page.{Puts}
+use Rattle.print.specs.declared.page.Page.{Page}
+use Rattle.unanswered_rows.specs.Parts.{Part, PartOn}
 
 -- a text that fits
 pub text_part : {out s exit : List ℕ} {at r : ℕ} (most : ℕ) → length s ≤ most → at + length s ≤ length out → Placed out at s exit r → Part out at s exit r most
@@ -34,23 +33,26 @@ part_then x y =
       size = y.size ∙ x.size;
     }
 
--- the rows of a word, of a refused line, of an answer
-pub word_row_lem : (line : ℕ) {out mid exit word : List ℕ} {p r m k : ℕ} → Part out 0 (word_and_number [] line) mid p m → Part mid p word exit r k → Put out 0 (word_row line word) exit r
-unfolding word_row word_and_number
-word_row_lem line x y = put_then x.put y.put
-
-pub refused_row_lem : (line number : ℕ) {out m₁ m₂ exit : List ℕ} {p q r a b c : ℕ} → Part out 0 (word_and_number [] line) m₁ p a → Part m₁ p (word_and_number (bytes " refused ") number) m₂ q b → Part m₂ q (10 ∷ []) exit r c → Put out 0 (refused_row line number) exit r
-unfolding refused_row word_and_number
-refused_row_lem line number x y z = put_then x.put (put_then y.put z.put)
-
-pub answered_row_lem : (line request : ℕ) (word : List ℕ) (gap : ℕ) {out m₁ m₂ m₃ exit : List ℕ} {p q s r a b c d : ℕ} → Part out 0 (word_and_number [] line) m₁ p a → Part m₁ p (word_and_number (bytes " answered ") request) m₂ q b → Part m₂ q (word_and_number word gap) m₃ s c → Part m₃ s (10 ∷ []) exit r d → Put out 0 (answered_row line request word gap) exit r
-unfolding answered_row word_and_number
-answered_row_lem line request word gap x y z w = put_then x.put (put_then y.put (put_then z.put w.put))
-
--- the row of what became of a line, where it is known what that is
-pub known_row : (line : ℕ) {w v : Row} {out s exit : List ℕ} {r : ℕ} → w ≡ v → s ≡ row_text line v → Put out 0 s exit r → Put out 0 (row_text line w) exit r
-known_row line e q p = rw (e, ← q) p
-
 -- a part that is said to reach further
 pub longer : {out s exit : List ℕ} {at r m k : ℕ} → Part out at s exit r m → m ≤ k → Part out at s exit r k
 longer x h = record { put = x.put; short = omega (arith, x.short); size = x.size }
+
+-- ---- on a page
+pub text_on : {p q : Page} {s : List ℕ} → Room p (length s) → Puts p s q → PartOn p s q (length s)
+text_on h x = record { part = text_part _ (omega arith) h x.placed; same = x.same }
+
+pub number_on : (n : ℕ) {p m q : Page} {word : List ℕ} → Room p (length word + 20) → Puts p word m → Puts m (decimal_text n) q → PartOn p (word_and_number word n) q (length word + 20)
+number_on n h x y = record { part = number_part n (omega (arith, h)) x.placed y.placed; same = y.same ∙ x.same }
+
+pub on_then : {p m q : Page} {a b : List ℕ} {j k : ℕ} → PartOn p a m j → PartOn m b q k → PartOn p (a ++ b) q (j + k)
+on_then x y = record { part = part_then x.part y.part; same = y.same ∙ x.same }
+
+pub on_longer : {p q : Page} {s : List ℕ} {m k : ℕ} → PartOn p s q m → m ≤ k → PartOn p s q k
+on_longer x h = record { part = longer x.part h; same = x.same }
+
+pub on_put : {p q : Page} {s : List ℕ} {m : ℕ} → PartOn p s q m → PutOn p s q
+on_put x = record { put = x.part.put; same = x.same }
+
+pub number_first : (n : ℕ) {p m q : Page} {b : List ℕ} {j k : ℕ} → PartOn p (word_and_number [] n) m j → PartOn m b q k → PartOn p (decimal_text n ++ b) q (j + k)
+unfolding word_and_number
+number_first n x y = on_then x y

@@ -1,5 +1,5 @@
 -- The time between two lines.
-use Rattle.std.specs.Prelude.{ℕ, ◌+◌, ◌-◌, ◌*◌, ◌/◌, ◌%◌, ◌^◌, ◌<◌, min, ◌≡◌, cond, ltb}
+use Rattle.std.specs.Prelude.{ℕ, ◌+◌, ◌-◌, ◌*◌, ◌/◌, ◌%◌, ◌^◌, min, cond, ltb}
 use Rattle.unanswered_rows.specs.declared.gap.Moment.{Moment}
 use Rattle.unanswered_rows.specs.declared.gap.Gap.{Gap}
 use Rattle.unanswered_rows.specs.declared.gap.Gap.TheVariants as G
@@ -19,8 +19,3 @@ micros_of m = most64 (m.seconds + m.microseconds / 1000000) * 1000000 + m.micros
 -- the second time after the first, or before it
 unfoldable pub gap_of : Moment → Moment → Gap
 gap_of a b = cond (ltb (micros_of b) (micros_of a)) (G.Before (most64 (micros_of a - micros_of b))) (G.After (most64 (micros_of b - micros_of a)))
-
--- the same time with fewer than a million microseconds
-pub record Carried (m r : Moment) : Type 0 where
-  pub small : r.microseconds < 1000000
-  pub is : instant r ≡ micros_of m

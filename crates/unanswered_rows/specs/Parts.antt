@@ -2,6 +2,7 @@
 use Rattle.std.specs.Prelude.{ℕ, zero, suc, ◌+◌, ◌-◌, ◌/◌, ◌%◌, ◌^◌, ◌≤◌, ◌≡◌, cond, List, [], ◌∷◌, ◌++◌, eqb, length, drop, replicate}
 use Rattle.text.specs.Decimal.{decimal_text}
 use Rattle.print.specs.Hex.{dword_text}
+use Rattle.print.specs.declared.page.Page.{Page}
 use Rattle.listing_rows.specs.Rows.{Put}
 
 -- a number in decimal, with zeros in front where it has fewer than six digits
@@ -27,3 +28,8 @@ pub record Part (out : List ℕ) (at : ℕ) (s exit : List ℕ) (r most : ℕ) :
   pub put : Put out at s exit r
   pub short : r ≤ at + most
   pub size : length exit ≡ length out
+
+-- the same on a page, whose buffer is the one that was lent
+pub record PartOn (p : Page) (s : List ℕ) (q : Page) (most : ℕ) : Type 0 where
+  pub part : Part p.out.now p.at s q.out.now q.at most
+  pub same : q.out.ghost_name ≡ p.out.ghost_name

@@ -1,89 +1,49 @@
 // The time between two lines in microseconds.
-ghost use Rattle.std.specs.Prelude.{◌≡◌, ◌+◌, ◌-◌, ◌*◌, ◌≤◌, ◌<◌, ltb};
-ghost use Rattle.unanswered_rows.specs.Gap.{gap_of, most64, instant, Carried};
+ghost use Rattle.std.specs.Prelude.{◌≡◌};
+ghost use Rattle.unanswered_rows.specs.Gap.{gap_of, most64, micros_of};
 
 // A time: seconds and microseconds, of which a line may have a million or more.
-#[derive(Clone, Copy)]
+#[derive(Clone, Copy, Debug, PartialEq, Eq, Hash)]
 pub struct Moment {
     pub seconds: u64,
     pub microseconds: u64,
 }
 
 // The second time is so many microseconds after the first, or before it. A gap past 64 bits is 2^64 - 1.
-#[derive(Clone, Copy)]
+#[derive(Clone, Copy, Debug, PartialEq, Eq, Hash)]
 pub enum Gap {
     After(u64),
     Before(u64),
 }
 
-pub fn gap_of(first: Moment, second: Moment) -> Gap
-    ensures { result ≡ gap_of first second }
-{
-    let a = carried(first);
-    let b = carried(second);
-    if is_before(b, a) {
-        return Gap::Before(distance(b, a));
-    }
-    Gap::After(distance(a, b))
-}
-
-// The same time with fewer than a million microseconds. Seconds that would pass 64 bits stop there; no line has so many.
-fn carried(m: Moment) -> Moment
-    ensures { Carried m result }
-{
-    Moment {
-        seconds: sum(m.seconds, m.microseconds / 1_000_000),
-        microseconds: m.microseconds % 1_000_000,
+impl Gap {
+    #[tactic(auto, unfolding(crate::specs::Gap::gap_of))]
+    pub fn between(first: Moment, second: Moment) -> Gap
+        ensures { result ≡ gap_of first second }
+    {
+        let a = first.micros();
+        let b = second.micros();
+        if b < a {
+            Gap::Before(most64(a - b))
+        } else {
+            Gap::After(most64(b - a))
+        }
     }
 }
 
-fn is_before(a: Moment, b: Moment) -> bool
-    requires { (a.microseconds < 1000000) × (b.microseconds < 1000000) }
-    ensures { result ≡ ltb (instant a) (instant b) }
-{
-    if a.seconds < b.seconds {
-        return true;
+impl Moment {
+    // In microseconds. Seconds that would pass 64 bits stop there; no line has so many.
+    #[tactic(auto, unfolding(crate::specs::Gap::micros_of))]
+    fn micros(self) -> u128
+        ensures { result ≡ micros_of self }
+    {
+        let seconds = self.seconds.saturating_add(self.microseconds / 1_000_000);
+        seconds as u128 * 1_000_000 + (self.microseconds % 1_000_000) as u128
     }
-    if b.seconds < a.seconds {
-        return false;
-    }
-    if a.microseconds < b.microseconds {
-        return true;
-    }
-    false
 }
 
-// How many microseconds lie between a time and one that is not before it.
-fn distance(from: Moment, to: Moment) -> u64
-    requires { (from.microseconds < 1000000) × (to.microseconds < 1000000) × (instant from ≤ instant to) }
-    ensures { result ≡ most64 (instant to - instant from) }
+fn most64(n: u128) -> u64
+    ensures { result ≡ most64 n }
 {
-    if from.microseconds <= to.microseconds {
-        return micros(
-            to.seconds - from.seconds,
-            to.microseconds - from.microseconds,
-        );
-    }
-    micros(
-        to.seconds - from.seconds - 1,
-        to.microseconds + 1_000_000 - from.microseconds,
-    )
-}
-
-fn micros(seconds: u64, more: u64) -> u64
-    ensures { result ≡ most64 (seconds * 1000000 + more) }
-{
-    if 18_446_744_073_709 < seconds {
-        return u64::MAX;
-    }
-    sum(seconds * 1_000_000, more)
-}
-
-fn sum(a: u64, b: u64) -> u64
-    ensures { result ≡ most64 (a + b) }
-{
-    if u64::MAX - a < b {
-        return u64::MAX;
-    }
-    a + b
+    u64::try_from(n).unwrap_or(u64::MAX)
 }

@@ -9,40 +9,39 @@ pub mod gap;
 mod hex;
 pub mod parts;
 
-ghost use Rattle.std.specs.Prelude.{◌+◌, ◌≤◌, length};
-ghost use Rattle.listing_rows.specs.Rows.{Put};
-ghost use Rattle.unanswered_rows.specs.Parts.{Part};
-ghost use Rattle.unanswered_rows.specs.Rows.{row_text, word_row, answered_row, waits_row, when_text, four_text, way_text, totals_text, others_text};
+ghost use Rattle.std.specs.Prelude.{◌≤◌, length};
+ghost use Rattle.listing_rows.specs.Rows.{Room, PutOn};
+ghost use Rattle.unanswered_rows.specs.Parts.{PartOn};
+ghost use Rattle.unanswered_rows.specs.Rows.{row_text, word_row, answered_row, gap_text, waits_row, when_text, four_text, way_text, totals_text, others_text};
 
+use crate::gap::{Gap, Moment};
 use crate::hex::put_route;
 use crate::parts::{put_number, put_six, put_text};
-use listing_rows::at::put_refused;
+use listing_rows::put_refused;
+use print::page::Page;
+use refusal::Refusal;
 use slots::Four;
 
-// What became of a line: what is reported of its entry, or the number that refuses it. An answer says which line it answers, and how many
-// microseconds it came after that one, or before it.
-#[derive(Clone, Copy)]
+// What became of an entry. An answer says which line it answers, and how many microseconds it came after that one, or before it.
+#[derive(Clone, Copy, Debug, PartialEq, Eq, Hash)]
 pub enum Row {
     Dropped,
     Other,
     NoSeq,
     Taken,
     TurnedAway,
-    Answered { request: u64, after: u64 },
-    Early { request: u64, before: u64 },
+    Answered { request: u64, gap: Gap },
     Stray,
-    Refused(u8),
 }
 
 // What is kept of a request beside its slot: its line's number and its time.
-#[derive(Clone, Copy)]
+#[derive(Clone, Copy, Debug, PartialEq, Eq, Hash)]
 pub struct Note {
     pub line: u64,
-    pub seconds: u64,
-    pub microseconds: u64,
+    pub at: Moment,
 }
 
-#[derive(Clone, Copy)]
+#[derive(Clone, Copy, Debug, PartialEq, Eq, Hash)]
 pub struct Counts {
     pub lines: u64,
     pub entries: u64,
@@ -53,99 +52,113 @@ pub struct Counts {
 }
 
 // The row of the line with that number.
-pub fn put_row(out: &mut [u8], line: u64, row: Row) -> usize
-    requires { 256 ≤ length out.old }
-    ensures { Put out.old 0 (row_text line row) out.new result }
+#[tactic(auto, unfolding(crate::specs::Rows::row_text))]
+pub fn put_row(page: &mut Page, line: u64, row: Result<Row, Refusal>)
+    requires { Room page.old 256 }
+    ensures { PutOn page.old (row_text line row) page.new }
 {
     match row {
-        Row::Dropped => put_word(out, line, b" dropped\n"),
-        Row::Other => put_word(out, line, b" other\n"),
-        Row::NoSeq => put_word(out, line, b" no seq\n"),
-        Row::Taken => put_word(out, line, b" taken\n"),
-        Row::TurnedAway => put_word(out, line, b" turned away\n"),
-        Row::Answered { request, after } => put_answered(out, line, request, b" after ", after),
-        Row::Early { request, before } => put_answered(out, line, request, b" before ", before),
-        Row::Stray => put_word(out, line, b" stray\n"),
-        Row::Refused(number) => put_refused(out, 0, line, number),
+        Ok(Row::Dropped) => put_word(page, line, b" dropped\n"),
+        Ok(Row::Other) => put_word(page, line, b" other\n"),
+        Ok(Row::NoSeq) => put_word(page, line, b" no seq\n"),
+        Ok(Row::Taken) => put_word(page, line, b" taken\n"),
+        Ok(Row::TurnedAway) => put_word(page, line, b" turned away\n"),
+        Ok(Row::Answered { request, gap }) => put_answered(page, line, request, gap),
+        Ok(Row::Stray) => put_word(page, line, b" stray\n"),
+        Err(refusal) => put_refused(page, line, refusal.number()),
     }
 }
 
-fn put_word(out: &mut [u8], line: u64, word: &[u8]) -> usize
-    requires { (256 ≤ length out.old) × (length word.now ≤ 20) }
-    ensures { Put out.old 0 (word_row line word.now) out.new result }
+fn put_word(page: &mut Page, line: u64, word: &[u8])
+    requires room { Room page.old 256 }
+    requires short { length word.now ≤ 20 }
+    ensures { PutOn page.old (word_row line word.now) page.new }
 {
-    let a = put_number(out, 0, b"", line);
-    put_text(out, a, word)
+    put_number(page, b"", line);
+    put_text(page, word);
 }
 
-fn put_answered(out: &mut [u8], line: u64, request: u64, word: &[u8], gap: u64) -> usize
-    requires { (256 ≤ length out.old) × (length word.now ≤ 20) }
-    ensures { Put out.old 0 (answered_row line request word.now gap) out.new result }
+fn put_answered(page: &mut Page, line: u64, request: u64, gap: Gap)
+    requires { Room page.old 256 }
+    ensures { PutOn page.old (answered_row line request gap) page.new }
 {
-    let a = put_number(out, 0, b"", line);
-    let b = put_number(out, a, b" answered ", request);
-    let c = put_number(out, b, word, gap);
-    put_text(out, c, b"\n")
+    put_number(page, b"", line);
+    put_number(page, b" answered ", request);
+    put_gap(page, gap);
+    put_text(page, b"\n");
+}
+
+#[tactic(auto, using(crate::proofs::Joining::on_longer))]
+fn put_gap(page: &mut Page, gap: Gap)
+    requires { Room page.old 28 }
+    ensures { PartOn page.old (gap_text gap) page.new 28 }
+{
+    match gap {
+        Gap::After(n) => put_number(page, b" after ", n),
+        Gap::Before(n) => put_number(page, b" before ", n),
+    }
 }
 
 // The row of a request that waits.
-pub fn put_waits(out: &mut [u8], note: Note, four: Four) -> usize
-    requires { 256 ≤ length out.old }
-    ensures { Put out.old 0 (waits_row note four) out.new result }
+pub fn put_waits(page: &mut Page, note: Note, four: Four)
+    requires { Room page.old 256 }
+    ensures { PutOn page.old (waits_row note four) page.new }
 {
-    let a = put_when(out, note);
-    put_four(out, a, four)
+    put_when(page, note);
+    put_four(page, four);
 }
 
-fn put_when(out: &mut [u8], note: Note) -> usize
-    requires { 256 ≤ length out.old }
-    ensures { Part out.old 0 (when_text note) out.new result 71 }
+fn put_when(page: &mut Page, note: Note)
+    requires { Room page.old 71 }
+    ensures { PartOn page.old (when_text note) page.new 71 }
 {
-    let a = put_number(out, 0, b"waits ", note.line);
-    let b = put_number(out, a, b" at ", note.seconds);
-    let c = put_text(out, b, b".");
-    put_six(out, c, note.microseconds)
+    put_number(page, b"waits ", note.line);
+    put_number(page, b" at ", note.at.seconds);
+    put_text(page, b".");
+    put_six(page, note.at.microseconds);
 }
 
-fn put_four(out: &mut [u8], at: usize, four: Four) -> usize
-    requires { at + 85 ≤ length out.old }
-    ensures { Part out.old at (four_text four) out.new result 85 }
+fn put_four(page: &mut Page, four: Four)
+    requires { Room page.old 85 }
+    ensures { PartOn page.old (four_text four) page.new 85 }
 {
-    let a = put_number(out, at, b" domain ", four.domain as u64);
-    let b = put_text(out, a, b" route 0x");
-    let c = put_route(out, b, four.route);
-    let d = put_number(out, c, b" seq ", four.seq as u64);
-    put_way(out, d, four.write)
+    put_number(page, b" domain ", four.domain as u64);
+    put_text(page, b" route 0x");
+    put_route(page, four.route);
+    put_number(page, b" seq ", four.seq as u64);
+    put_way(page, four.write);
 }
 
-fn put_way(out: &mut [u8], at: usize, write: u8) -> usize
-    requires { at + 7 ≤ length out.old }
-    ensures { Part out.old at (way_text write) out.new result 7 }
+#[tactic(auto, using(crate::proofs::Joining::on_longer), unfolding(crate::specs::Rows::way_text))]
+fn put_way(page: &mut Page, write: u8)
+    requires { Room page.old 7 }
+    ensures { PartOn page.old (way_text write) page.new 7 }
 {
     if write == 0 {
-        return put_text(out, at, b" read\n");
+        put_text(page, b" read\n");
+    } else {
+        put_text(page, b" write\n");
     }
-    put_text(out, at, b" write\n")
 }
 
 // The last row.
-pub fn put_totals(out: &mut [u8], counts: Counts, waiting: u64) -> usize
-    requires { 256 ≤ length out.old }
-    ensures { Put out.old 0 (totals_text counts waiting) out.new result }
+pub fn put_totals(page: &mut Page, counts: Counts, waiting: u64)
+    requires { Room page.old 256 }
+    ensures { PutOn page.old (totals_text counts waiting) page.new }
 {
-    let a = put_number(out, 0, b"lines ", counts.lines);
-    let b = put_number(out, a, b" entries ", counts.entries);
-    let c = put_number(out, b, b" taken ", counts.taken);
-    let d = put_number(out, c, b" answered ", counts.answered);
-    put_others(out, d, counts, waiting)
+    put_number(page, b"lines ", counts.lines);
+    put_number(page, b" entries ", counts.entries);
+    put_number(page, b" taken ", counts.taken);
+    put_number(page, b" answered ", counts.answered);
+    put_others(page, counts, waiting);
 }
 
-fn put_others(out: &mut [u8], at: usize, counts: Counts, waiting: u64) -> usize
-    requires { at + 90 ≤ length out.old }
-    ensures { Part out.old at (others_text counts waiting) out.new result 90 }
+fn put_others(page: &mut Page, counts: Counts, waiting: u64)
+    requires { Room page.old 90 }
+    ensures { PartOn page.old (others_text counts waiting) page.new 90 }
 {
-    let a = put_number(out, at, b" turned away ", counts.away);
-    let b = put_number(out, a, b" stray ", counts.stray);
-    let c = put_number(out, b, b" waiting ", waiting);
-    put_text(out, c, b"\n")
+    put_number(page, b" turned away ", counts.away);
+    put_number(page, b" stray ", counts.stray);
+    put_number(page, b" waiting ", waiting);
+    put_text(page, b"\n");
 }

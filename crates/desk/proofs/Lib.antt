@@ -1,2 +1,0 @@
--- The laws of what is kept.
-pub mod Turning

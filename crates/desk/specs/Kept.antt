@@ -1,7 +1,8 @@
 -- What a report changes beside the table, and what its row says.
-use Rattle.std.specs.Prelude.{ℕ, ◌+◌, ◌^◌, min, List, get_or, set, Err, Ok, Result}
+use Rattle.std.specs.Prelude.{ℕ, ◌+◌, ◌-◌, ◌^◌, min, List, get_or, set, Err, Ok, Result}
 use Rattle.refusal.specs.declared.Refusal.{Refusal}
 use Rattle.entry.specs.declared.Entry.{Entry}
+use Rattle.slots.specs.declared.decide.Report.{Report}
 use Rattle.slots.specs.declared.decide.Report.TheVariants as P
 use Rattle.pending.specs.Step.{Answer}
 use Rattle.unanswered_rows.specs.declared.Row.{Row}
@@ -42,20 +43,23 @@ abbrev pub line_more : Counts → Counts
 line_more c = record { lines = one_more c.lines; entries = c.entries; taken = c.taken; answered = c.answered; away = c.away; stray = c.stray }
 
 -- one entry more
-abbrev pub entry_more : Counts → ℕ → ℕ → ℕ → ℕ → Counts
-entry_more c taken answered away stray =
-    record { lines = c.lines; entries = one_more c.entries; taken = taken; answered = answered; away = away; stray = stray }
+abbrev pub entry_more : Counts → Counts
+entry_more c = record { lines = c.lines; entries = one_more c.entries; taken = c.taken; answered = c.answered; away = c.away; stray = c.stray }
 
--- and one more of what is counted by its report
+-- one more of what is counted by its report
+abbrev pub report_more : Report → Counts → Counts
+report_more (P.Taken i) c = record { lines = c.lines; entries = c.entries; taken = one_more c.taken; answered = c.answered; away = c.away; stray = c.stray }
+report_more (P.Answered i) c = record { lines = c.lines; entries = c.entries; taken = c.taken; answered = one_more c.answered; away = c.away; stray = c.stray }
+report_more P.TurnedAway c = record { lines = c.lines; entries = c.entries; taken = c.taken; answered = c.answered; away = one_more c.away; stray = c.stray }
+report_more P.Stray c = record { lines = c.lines; entries = c.entries; taken = c.taken; answered = c.answered; away = c.away; stray = one_more c.stray }
+report_more P.Dropped c = c
+report_more P.Other c = c
+report_more P.NoSeq c = c
+
+-- both; where the table is refused, the entry alone
 unfoldable pub counts_after : Counts → Answer → Counts
-counts_after c (Ok (P.Taken i)) = entry_more c (one_more c.taken) c.answered c.away c.stray
-counts_after c (Ok (P.Answered i)) = entry_more c c.taken (one_more c.answered) c.away c.stray
-counts_after c (Ok P.TurnedAway) = entry_more c c.taken c.answered (one_more c.away) c.stray
-counts_after c (Ok P.Stray) = entry_more c c.taken c.answered c.away (one_more c.stray)
-counts_after c (Ok P.Dropped) = entry_more c c.taken c.answered c.away c.stray
-counts_after c (Ok P.Other) = entry_more c c.taken c.answered c.away c.stray
-counts_after c (Ok P.NoSeq) = entry_more c c.taken c.answered c.away c.stray
-counts_after c (Err r) = entry_more c c.taken c.answered c.away c.stray
+counts_after c (Ok report) = report_more report (entry_more c)
+counts_after c (Err r) = entry_more c
 
 -- an answer says which line it answers, and the time between both
 abbrev pub answer_row : Note → Note → Row

@@ -12,7 +12,7 @@ use Rattle.pending.specs.Step.{Answer, Step}
 use Rattle.unanswered_rows.specs.declared.Row.{Row}
 use Rattle.unanswered_rows.specs.declared.Note.{Note}
 use Rattle.desk.specs.declared.Desk.{Desk}
-use Rattle.desk.specs.Kept.{note_of, notes_after, line_more, entry_more, counts_after, row_by}
+use Rattle.desk.specs.Kept.{note_of, notes_after, line_more, report_more, counts_after, row_by}
 
 -- the line is counted
 abbrev pub with_line : Desk → Desk
@@ -24,7 +24,7 @@ pub record Entered (e : Entry) (d u : Desk) (row : Result Row Refusal) : Type 0 
   pub steps : Step e d.table.slots report u.table.slots
   pub notes : u.notes ≡ notes_after d.notes report (note_of d.counts.lines e)
   pub counts : u.counts ≡ counts_after d.counts report
-  pub row : row ≡ row_by report d.notes (note_of d.counts.lines e)
+  pub says : row ≡ row_by report d.notes (note_of d.counts.lines e)
 
 -- a line, read by the choice
 pub data Turned (pieces : Pieces) (line : List ℕ) (d u : Desk) (row : Result Row Refusal) : Type 0 where
@@ -41,5 +41,5 @@ noted d i note = record { table = d.table; notes = set d.notes i note; counts = 
 pub record Filed (report : Report) (note : Note) (d u : Desk) (row : Row) : Type 0 where
   pub table : u.table ≡ d.table
   pub notes : u.notes ≡ notes_after d.notes (Ok report) note
-  pub counts : u.counts ≡ counted_after d.counts report
-  pub row : Ok row ≡ row_by (Ok report) d.notes note
+  pub counts : u.counts ≡ report_more report d.counts
+  pub says : Ok row ≡ row_by (Ok report) d.notes note

@@ -77,7 +77,7 @@ impl Desk {
 
     // What a report changes beside the table, and what its row says: a request that is taken is noted beside its slot, an answer says which line it
     // answers, and the time between both.
-    #[tactic(auto, unfolding(crate::specs::Kept::notes_after, crate::specs::Kept::counts_after, crate::specs::Kept::row_by))]
+    #[tactic(auto, unfolding(crate::specs::Kept::notes_after, crate::specs::Kept::row_by))]
     fn file(&mut self, report: Report, note: Note) -> Row
         ensures { Filed report note self.old self.new result }
     {

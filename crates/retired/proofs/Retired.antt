@@ -12,6 +12,7 @@ use mathlib.Core.Logic.{inl, inr}
 use native.Mathlib.Omega.{arith}
 use lib.Dec.{leb, ltb}
 use lib.ListN.{length, get_or}
+use Rattle.refusal.specs.Number.{number_of}
 use Rattle.refusal.specs.Told.{told, told_maybe}
 use Rattle.text.specs.Told as T
 use Rattle.text.specs.Told.{Told, number_in, and_then}
@@ -51,18 +52,14 @@ use Rattle.filters.specs.declared.Filter.{Filter}
 use Rattle.filters.specs.declared.Filter.TheVariants as F
 use Rattle.filters.specs.Texts as Filters
 use Rattle.filters.specs.Texts.{seen_by, seen_line, seen_of}
-use Rattle.slots.specs.declared.decide.Report.{Report}
 use Rattle.slots.specs.declared.decide.Report.TheVariants as P
+use Rattle.pending.specs.Step.{Answer}
 use Rattle.pending.specs.Words.{report_told}
 use Rattle.matched.proofs.Refusals.{no_other_number}
-use Rattle.unanswered_rows.specs.declared.Row.TheVariants as Row
+use Rattle.unanswered_rows.specs.declared.Row.{Row}
 use Rattle.unanswered_rows.specs.declared.Note.{Note}
-use Rattle.unanswered_rows.specs.declared.gap.Gap.{Gap}
-use Rattle.unanswered_rows.specs.declared.gap.Gap.TheVariants as G
-use Rattle.unanswered_rows.specs.Gap.{gap_of}
 use Rattle.desk.specs.declared.Desk.{Desk}
-use Rattle.desk.specs.declared.Turn.{Turn}
-use Rattle.desk.specs.Kept.{no_note, note_of, moment_of, row_by_gap, answer_row, row_by}
+use Rattle.desk.specs.Kept.{one_more, note_of, row_by}
 use Rattle.desk.specs.Turn.{Turned, entry, refusal}
 use Rattle.c_entry.specs.declared.Flat.{Flat}
 use Rattle.c_entry.specs.Flat.{entry_of, in_range, raise_of}
@@ -288,27 +285,24 @@ unit_seen_never (F.Pack pieces) t b = seen_never (answer_of pieces t 256) (unit_
 unit_seen_never (F.Unpack pieces) t b = seen_never (answer_of pieces t 256) (unit_never pieces t b 256)
 
 -- a row of `unanswered` that says a number has a report that tells it
-row_tells : (report : Report) (notes : List Note) (note : Note) {k : ℕ} → row_by report notes note ≡ Row.Refused k → report_told report ≡ T.refused k
-unfolding row_by answer_row report_told
-row_tells (P.Refused j) notes note {k} q = let same : j ≡ k = cc in ap T.refused same
-row_tells P.Dropped notes note q = absurd (let z : ◌≡◌ {A = ℕ} 0 1 = cc in omega arith)
-row_tells P.Other notes note q = absurd (let z : ◌≡◌ {A = ℕ} 0 1 = cc in omega arith)
-row_tells P.NoSeq notes note q = absurd (let z : ◌≡◌ {A = ℕ} 0 1 = cc in omega arith)
-row_tells (P.Taken i) notes note q = absurd (let z : ◌≡◌ {A = ℕ} 0 1 = cc in omega arith)
-row_tells P.TurnedAway notes note q = absurd (let z : ◌≡◌ {A = ℕ} 0 1 = cc in omega arith)
-row_tells P.Stray notes note q = absurd (let z : ◌≡◌ {A = ℕ} 0 1 = cc in omega arith)
-row_tells (P.Answered i) notes note {k} q = absurd (by (get_or notes i no_note).line (gap_of (moment_of (get_or notes i no_note)) (moment_of note)) q)
-  where
-    by : (line : ℕ) (gap : Gap) → row_by_gap line gap ≡ Row.Refused k → ⊥
-    by line (G.After n) e = let z : ◌≡◌ {A = ℕ} 0 1 = cc in omega arith
-    by line (G.Before n) e = let z : ◌≡◌ {A = ℕ} 0 1 = cc in omega arith
+row_tells : (report : Answer) (notes : List Note) (note : Note) {k : ℕ} → told (row_by report notes note) ≡ T.refused k → report_told report ≡ T.refused k
+unfolding row_by report_told
+row_tells (Err r) notes note {k} q = let same : number_of r ≡ k = cc in ap T.refused same
+row_tells (Ok P.Dropped) notes note q = absurd (let z : ◌≡◌ {A = ℕ} 0 1 = cc in omega arith)
+row_tells (Ok P.Other) notes note q = absurd (let z : ◌≡◌ {A = ℕ} 0 1 = cc in omega arith)
+row_tells (Ok P.NoSeq) notes note q = absurd (let z : ◌≡◌ {A = ℕ} 0 1 = cc in omega arith)
+row_tells (Ok (P.Taken i)) notes note q = absurd (let z : ◌≡◌ {A = ℕ} 0 1 = cc in omega arith)
+row_tells (Ok P.TurnedAway) notes note q = absurd (let z : ◌≡◌ {A = ℕ} 0 1 = cc in omega arith)
+row_tells (Ok P.Stray) notes note q = absurd (let z : ◌≡◌ {A = ℕ} 0 1 = cc in omega arith)
+row_tells (Ok (P.Answered i)) notes note q = absurd (let z : ◌≡◌ {A = ℕ} 0 1 = cc in omega arith)
 
 -- a report of the table is refused with 50 or 51 alone, a line with its own number
-row_never : (pieces : Pieces) (t : List ℕ) (d : Desk) (r : Turn) → Turned pieces t d r → r.row ≡ Row.Refused 10 → ⊥
-row_never pieces t d r (refusal {k = k} p c) q = line_never pieces t 256 (p ∙ ap T.refused (let z : Row.Refused k ≡ Row.Refused 10 = sym c.row ∙ q in cc))
-row_never pieces t d r (entry {e = e} p c) q =
-    let told : report_told c.report ≡ T.refused 10 = row_tells c.report d.notes.of (note_of d.counts.lines e) (sym c.row ∙ q) in
-    let last : ◌≡◌ {A = ℕ} 10 51 = no_other_number e d.table.slots r.desk.table.slots c.report 10 c.steps told (λ z. omega arith) in
+row_never : (pieces : Pieces) (t : List ℕ) (d u : Desk) (row : Result Row Refusal) → Turned pieces t d u row → told row ≡ T.refused 10 → ⊥
+row_never pieces t d u row (refusal {r = r} p same is) q =
+    let ten : number_of r ≡ 10 = ap number_in (sym (ap told is) ∙ q) in line_never pieces t 256 (p ∙ ap T.refused ten)
+row_never pieces t d u row (entry {e = e} p c) q =
+    let said : report_told c.report ≡ T.refused 10 = row_tells c.report d.notes (note_of (one_more d.counts.lines) e) (sym (ap told c.says) ∙ q) in
+    let last : ◌≡◌ {A = ℕ} 10 51 = no_other_number e d.table.slots u.table.slots c.report 10 c.steps said (λ z. omega arith) in
     omega arith
 
 -- ---- the calls

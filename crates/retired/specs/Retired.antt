@@ -26,9 +26,8 @@ use Rattle.filters.specs.declared.row.Seen.{Seen}
 use Rattle.filters.specs.declared.row.Seen.TheVariants as S
 use Rattle.filters.specs.declared.Filter.{Filter}
 use Rattle.filters.specs.Texts.{seen_line, seen_of}
-use Rattle.unanswered_rows.specs.declared.Row.TheVariants as Row
+use Rattle.unanswered_rows.specs.declared.Row.{Row}
 use Rattle.desk.specs.declared.Desk.{Desk}
-use Rattle.desk.specs.declared.Turn.{Turn}
 use Rattle.desk.specs.Turn.{Turned}
 use Rattle.c_entry.specs.declared.Flat.{Flat}
 use Rattle.capi.specs.declared.EntryAnswer.{EntryAnswer}
@@ -112,7 +111,8 @@ pub record RowsNever : Type 0 where
   -- `see_unit` of `filters`, and what `pack` tells: a row of each filter, whatever the unit.
   pub see_unit : (f : Filter) (unit : List ℕ) → Bytes unit → (answer : Seen) → answer ≡ seen_of f unit → answer ≡ S.Refused 10 → ⊥
   -- `step_line` of `desk`, whatever is kept: a row of `unanswered`.
-  pub step_line : (pieces : Pieces) (text : List ℕ) (desk : Desk) (answer : Turn) → Turned pieces text desk answer → answer.row ≡ Row.Refused 10 → ⊥
+  pub step_line : (pieces : Pieces) (text : List ℕ) (desk left : Desk) (answer : Result Row Refusal) → Turned pieces text desk left answer
+      → told answer ≡ refused 10 → ⊥
 
 -- No call answers 10, whatever text it is given.
 pub record NoCallAnswers10 : Type 0 where

@@ -6,57 +6,60 @@ mod row;
 
 ghost use Rattle.std.specs.Prelude.{◌≤◌, length};
 
-use channel::reading::{Filled, read_whole};
+use channel::fault::Fault;
+use channel::reading::read_whole;
 use channel::sentence::{tell, tell_failed};
-use channel::status::{Status, give_status};
-use channel::streams::{Streams, streams_of};
+use channel::status::Status;
 use channel::writing::write_whole;
 use choice::ask_choice;
+use print::page::Page;
 use row::put_answer;
 use scan::Pieces;
 use std::io::Stderr;
 use std::process::ExitCode;
 
+// What kept the program from its work.
+#[derive(Clone, Copy, Debug)]
+enum Kept {
+    Call,
+    Reading(Fault),
+    Writing(Fault),
+}
+
 fn main(rt: HostRuntime) -> ExitCode {
-    match ask_choice(&rt, 1) {
-        Some(pieces) => start(streams_of(&rt), pieces),
-        None => refuse_call(rt.stderr()),
-    }
-}
-
-fn refuse_call(to: Stderr) -> ExitCode {
-    tell(to, b"usage: what [lenient] < TEXT\n");
-    give_status(Status::BadCall)
-}
-
-fn start(streams: Streams, pieces: Pieces) -> ExitCode {
     let mut text = [0u8; 65539];
-    answer(streams, &mut text, pieces)
+    match answer(&rt, &mut text) {
+        Ok(()) => ExitCode::SUCCESS,
+        Err(kept) => tell_kept(rt.stderr(), kept),
+    }
 }
 
 // The first 65,539 bytes tell what a text is, however long it is (`row_of_the_whole`), so no more is read.
-fn answer(streams: Streams, text: &mut [u8], pieces: Pieces) -> ExitCode
+fn answer(rt: &HostRuntime, text: &mut [u8]) -> Result<(), Kept>
     requires { 65539 ≤ length text.old }
 {
-    let mut from = streams.input;
-    match read_whole(&mut from, text) {
-        Filled::Bytes(n) => write_answer(streams, &text[..n], pieces),
-        Filled::Failed(why) => fail(streams.error, b"reading standard input", why),
-    }
+    let pieces = ask_choice(rt, 1).ok_or(Kept::Call)?;
+    let n = read_whole(&mut rt.stdin(), text).map_err(Kept::Reading)?;
+    let mut room = [0u8; 32];
+    let mut row = Page::new(&mut room);
+    put_answer(&mut row, &text[..n], pieces);
+    write_whole(&mut rt.stdout(), row.text()).map_err(|cut| Kept::Writing(cut.fault))?;
+    Ok(())
 }
 
-fn write_answer(streams: Streams, text: &[u8], pieces: Pieces) -> ExitCode {
-    let mut row = [0u8; 32];
-    let end = put_answer(&mut row, text, pieces);
-    let mut to = streams.output;
-    let wrote = write_whole(&mut to, &row[..end]);
-    if 0 < wrote.errno {
-        return fail(streams.error, b"writing standard output", wrote.errno);
+fn tell_kept(to: Stderr, kept: Kept) -> ExitCode {
+    match kept {
+        Kept::Call => {
+            tell(to, b"usage: what [lenient] < TEXT\n");
+            ExitCode::from(Status::BadCall)
+        }
+        Kept::Reading(fault) => {
+            tell_failed(to, b"what", b"reading standard input", fault);
+            ExitCode::from(Status::Fault)
+        }
+        Kept::Writing(fault) => {
+            tell_failed(to, b"what", b"writing standard output", fault);
+            ExitCode::from(Status::Fault)
+        }
     }
-    ExitCode::SUCCESS
-}
-
-fn fail(to: Stderr, call: &[u8], errno: u32) -> ExitCode {
-    tell_failed(to, b"what", call, errno);
-    give_status(Status::Fault)
 }

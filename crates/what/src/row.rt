@@ -1,38 +1,30 @@
 // The row that says what a text is. None takes more than 32 bytes.
-ghost use Rattle.std.specs.Prelude.{◌≤◌, length};
-ghost use Rattle.listing_rows.specs.Rows.{Put};
-ghost use Rattle.refusal.specs.Told.{told};
+ghost use Rattle.refusal.specs.Number.{number_of};
+ghost use Rattle.listing_rows.specs.Rows.{Room, PutOn};
 ghost use Rattle.intake.specs.What.{what_of};
 ghost use Rattle.what.specs.Row.{neither_row, what_row};
 
 use intake::{What, what_is};
-use print::put::{put, put_decimal};
+use print::page::Page;
 use refusal::Refusal;
 use scan::Pieces;
 
-pub fn put_answer(out: &mut [u8], text: &[u8], pieces: Pieces) -> usize
-    requires { 32 ≤ length out.old }
-    ensures { Put out.old 0 (what_row (what_of pieces text.now)) out.new result }
+pub fn put_answer(page: &mut Page, text: &[u8], pieces: Pieces)
+    requires { Room page.old 32 }
+    ensures { PutOn page.old (what_row (what_of pieces text.now)) page.new }
 {
-    put_what(out, what_is(text, pieces))
-}
-
-fn put_what(out: &mut [u8], what: Result<What, Refusal>) -> usize
-    requires { 32 ≤ length out.old }
-    ensures { Put out.old 0 (what_row (told what)) out.new result }
-{
-    match what {
-        Ok(What::Record) => put(out, 0, b"record\n"),
-        Ok(What::Line) => put(out, 0, b"line\n"),
-        Err(refusal) => put_neither(out, refusal.number()),
+    match what_is(text, pieces) {
+        Ok(What::Record) => page.put(b"record\n"),
+        Ok(What::Line) => page.put(b"line\n"),
+        Err(refusal) => put_neither(page, refusal),
     }
 }
 
-fn put_neither(out: &mut [u8], number: u8) -> usize
-    requires { 32 ≤ length out.old }
-    ensures { Put out.old 0 (neither_row number) out.new result }
+fn put_neither(page: &mut Page, refusal: Refusal)
+    requires { Room page.old 32 }
+    ensures { PutOn page.old (neither_row (number_of refusal)) page.new }
 {
-    let word = put(out, 0, b"neither ");
-    let end = put_decimal(out, word, number as u64);
-    put(out, end, b"\n")
+    page.put(b"neither ");
+    page.put_decimal(refusal.number() as u64);
+    page.put(b"\n");
 }

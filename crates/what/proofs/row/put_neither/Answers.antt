@@ -3,4 +3,4 @@ use Rattle.what.proofs.Rows.{neither_row_lem}
 use Rattle.what.proofs.row.put_neither.Goals as goal
 
 pub returns : goal.returns
-returns c = neither_row_lem _ c.requires c.put-word.ensures c.put_decimal-end.ensures c.put.ensures
+returns c = neither_row_lem _ c.requires c.put.ensures (rw c.number.ensures at c.put_decimal.ensures) c.put-2.ensures

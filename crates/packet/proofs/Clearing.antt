@@ -1,28 +1,34 @@
--- Zeros from the front: so many, then what is left. Assumes nothing.
-use Prim.Native.Nat.{ℕ, zero, suc, ◌+◌, ◌<◌}
-use mathlib.Core.Path.{◌≡◌, refl, sym, ap, ◌∙◌}
-use mathlib.Core.List.{List, [], ◌∷◌, ◌++◌, append-nil}
+-- Zeros, and what filling them is. Assumes nothing.
+use Prim.Native.Nat.{ℕ, zero, suc, ◌-◌, ◌≤◌, ◌<◌}
+use mathlib.Core.Path.{◌≡◌, refl, ap, ap₂, subst, ◌∙◌}
+use mathlib.Core.Bool.{Bool, true, false}
+use mathlib.Core.List.{List, [], ◌∷◌}
 use native.Mathlib.Omega.{arith}
-use lib.ListN.{length, drop, set, replicate, length-replicate, replicate-append-replicate, drop_of_length-le}
-use lib.Seq.{drop-cons, set_at, append_snoc}
+use borrow.Author.Tests.{ltb-true, ltb-false}
+use lib.Dec.{ltb}
+use lib.ListN.{length, get_or, replicate}
 use Rattle.packet.specs.Steps.{map_from}
 use Rattle.packet.specs.Field.{or_else}
 
--- the first i are zeros, the rest is as found
-abbrev pub cleared : List ℕ → ℕ → List ℕ
-cleared m i = replicate i 0 ++ drop i m
+-- all are zeros
+zeros : (l : List ℕ) → ((k : ℕ) → k < length l → get_or l k 0 ≡ 0) → l ≡ replicate (length l) 0
+zeros [] h = refl
+zeros (x ∷ l) h = ap₂ ◌∷◌ (h 0 (omega arith)) (zeros l (λ k lt. h (suc k) (omega (arith, lt))))
 
-pub cleared_next : (m : List ℕ) (i : ℕ) → i < length m → set (cleared m i) i 0 ≡ cleared m (i + 1)
-cleared_next m i lt =
-    let up : suc i ≡ i + 1 = omega arith in
-    ap (λ (l : List ℕ). set (replicate i 0 ++ l) i 0) (drop-cons m i 0 lt)
-    ∙ set_at (replicate i 0) _ (drop (suc i) m) 0 i (length-replicate i 0)
-    ∙ sym (append_snoc (replicate i 0) 0 (drop (suc i) m))
-    ∙ ap (λ (l : List ℕ). l ++ drop (suc i) m) (replicate-append-replicate i 1 0)
-    ∙ ap (λ (k : ℕ). replicate (i + 1) 0 ++ drop k m) up
-
-pub cleared_all : (m : List ℕ) (i : ℕ) → i ≡ length m → cleared m i ≡ replicate (length m) 0
-cleared_all m i e = ap (λ (k : ℕ). cleared m k) e ∙ ap (◌++◌ (replicate (length m) 0)) (drop_of_length-le m {i = length m} (omega arith)) ∙ append-nil (replicate (length m) 0)
+-- as `fill` leaves them
+pub zeros_by : (l m : List ℕ) → length l ≡ length m
+    → ((k d : ℕ) → 0 ≤ k → k < length m - 1 → get_or l k d ≡ 0) → (0 < length m → (d : ℕ) → get_or l (length m - 1) d ≡ 0)
+    → l ≡ replicate (length m) 0
+zeros_by l m n before last = zeros l each ∙ ap (λ (k : ℕ). replicate k 0) n
+  where
+    each : (k : ℕ) → k < length l → get_or l k 0 ≡ 0
+    each k lt = by (ltb k (length m - 1)) refl
+      where
+        by : (b : Bool) → ltb k (length m - 1) ≡ b → get_or l k 0 ≡ 0
+        by true e = before k 0 (omega arith) (ltb-true k (length m - 1) e)
+        by false e =
+            let at : length m - 1 ≡ k = omega (arith, ltb-false k (length m - 1) e, lt, n) in
+            subst (λ (j : ℕ). get_or l j 0 ≡ 0) at (last (omega (arith, lt, n)) 0)
 
 -- filling zeros is taking what there is
 pub filled_zeros : (e : ℕ → ℕ) (i n : ℕ) (ds : List ℕ) → n ≡ length ds → map_from (λ i p. or_else p (e i)) i (replicate n 0) ≡ map_from (λ i d. e i) i ds

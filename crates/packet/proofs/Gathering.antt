@@ -1,12 +1,16 @@
 -- The dwords of one name, from the first on: the values are that dword's and those of the dwords behind it. Assumes nothing.
 use Rattle.std.specs.Prelude.{None, Some}
-use Prim.Native.Nat.{ℕ, suc, ◌+◌, ◌≤◌, ◌<◌}
-use mathlib.Core.Path.{◌≡◌, refl, sym, ap, ap₂, ◌∙◌}
+use Prim.Native.Nat.{ℕ, zero, suc, ◌+◌, ◌≤◌, ◌<◌, min}
+use mathlib.Core.Path.{◌≡◌, refl, sym, ap, ◌∙◌}
 use mathlib.Core.Bool.{Bool, true, false, cond}
-use mathlib.Core.List.{List, [], ◌∷◌}
+use mathlib.Core.List.{List, [], ◌∷◌, ◌++◌, append-nil, append_assoc}
+use native.Mathlib.Numerals.{add-one}
 use native.Mathlib.Omega.{arith}
-use lib.ListN.{length, get_or, drop, length-drop, drop_of_length-le}
-use lib.Seq.{drop-cons, drop-drop, get_or-drop}
+use Rattle.std.proofs.lemmas.List.{take_more_set}
+use lib.ListN.{length, get_or, set, take, drop, length-drop, length-set, drop_of_length-le}
+use lib.Dec.{leb}
+use lib.Seq.{drop-cons, take_all, length-take-le}
+use borrow.Author.Tests.{leb-true, leb-false}
 use Rattle.packet.specs.declared.field.Ask.TheVariants.{Named}
 use Rattle.packet.specs.Field.{asks}
 use Rattle.packet.specs.Steps.{values_named, exactly_four, gathered}
@@ -44,111 +48,112 @@ first_within ok i j (p ∷ ps) e = by (ok p) (first_within ok (suc i) j ps) e
 
 -- ---- the values
 
-module _ (s name : List ℕ) where
-  none_from : (i : ℕ) (ds ps : List ℕ) → first_from (asks Named s name) i ps ≡ None → values_named s name ds ps ≡ []
-  unfolding first_from values_named
-  none_from i [] ps e = refl
-  none_from i (d ∷ ds) [] e = refl
-  none_from i (d ∷ ds) (p ∷ ps) e = by (none_from (suc i) ds ps) (asks Named s name p) e
-    where
-      by : (first_from (asks Named s name) (suc i) ps ≡ None → values_named s name ds ps ≡ []) → (b : Bool) → cond b (Some i) (first_from (asks Named s name) (suc i) ps) ≡ None
-          → cond b (d ∷ values_named s name ds ps) (values_named s name ds ps) ≡ []
-      by later true e = absurd (let z : ◌≡◌ {A = ℕ} 0 1 = cc in omega arith)
-      by later false e = later e
+more_than_four : (l : List ℕ) → length l ≡ 4 → (x : ℕ) (later : List ℕ) → exactly_four (l ++ (x ∷ later)) ≡ None
+more_than_four [] n x later = absurd (omega (arith, n))
+more_than_four (a ∷ []) n x later = absurd (omega (arith, n))
+more_than_four (a ∷ b ∷ []) n x later = absurd (omega (arith, n))
+more_than_four (a ∷ b ∷ c ∷ []) n x later = absurd (omega (arith, n))
+more_than_four (a ∷ b ∷ c ∷ d ∷ []) n x later = refl
+more_than_four (a ∷ b ∷ c ∷ d ∷ e ∷ l) n x later = absurd (omega (arith, n))
 
-  -- the first dword of that name, so many behind the start
-  record Next (i j : ℕ) (ds ps : List ℕ) : Type 0 where
-    pub ahead : ℕ
-    pub is : j ≡ i + ahead
-    pub within : ahead < length ps
-    pub values : values_named s name ds ps ≡ get_or ds ahead 0 ∷ values_named s name (drop (suc ahead) ds) (drop (suc ahead) ps)
+fewer_than_four : (l : List ℕ) → length l < 4 → None ≡ exactly_four l
+fewer_than_four [] n = refl
+fewer_than_four (a ∷ []) n = refl
+fewer_than_four (a ∷ b ∷ []) n = refl
+fewer_than_four (a ∷ b ∷ c ∷ []) n = refl
+fewer_than_four (a ∷ b ∷ c ∷ d ∷ l) n = absurd (omega (arith, n))
 
-  next_from : (i j : ℕ) (ds ps : List ℕ) → length ps ≡ length ds → first_from (asks Named s name) i ps ≡ Some j → Next i j ds ps
-  unfolding first_from values_named
-  next_from i j [] [] n e = absurd (let z : ◌≡◌ {A = ℕ} 0 1 = cc in omega arith)
-  next_from i j [] (p ∷ ps) n e = absurd (omega arith)
-  next_from i j (d ∷ ds) [] n e = absurd (omega arith)
-  next_from i j (d ∷ ds) (p ∷ ps) n e = by (next_from (suc i) j ds ps (omega arith)) (asks Named s name p) refl e
-    where
-      by : (first_from (asks Named s name) (suc i) ps ≡ Some j → Next (suc i) j ds ps) → (b : Bool) → asks Named s name p ≡ b → cond b (Some i) (first_from (asks Named s name) (suc i) ps) ≡ Some j → Next i j (d ∷ ds) (p ∷ ps)
-      by later true h e =
-          let same : i ≡ j = cc in
-          record { ahead = 0; is = omega arith; within = omega arith; values = rw h }
-      by later false h e =
-          let w = later e in
-          record { ahead = suc w.ahead; is = omega (arith, w.is); within = omega (arith, w.within); values = rw h w.values }
+just_four : (l : List ℕ) → length l ≡ 4
+    → Some (record { first = get_or l 0 0; second = get_or l 1 0; third = get_or l 2 0; fourth = get_or l 3 0 }) ≡ exactly_four l
+just_four [] n = absurd (omega (arith, n))
+just_four (a ∷ []) n = absurd (omega (arith, n))
+just_four (a ∷ b ∷ []) n = absurd (omega (arith, n))
+just_four (a ∷ b ∷ c ∷ []) n = absurd (omega (arith, n))
+just_four (a ∷ b ∷ c ∷ d ∷ []) n = refl
+just_four (a ∷ b ∷ c ∷ d ∷ e ∷ l) n = absurd (omega (arith, n))
 
-  module _ (ds ps : List ℕ) (n : length ps ≡ length ds) where
-    -- no dword of that name is left
-    pub values_none : (i : ℕ) → first_from (asks Named s name) i (drop i ps) ≡ None → values_named s name (drop i ds) (drop i ps) ≡ []
-    values_none i e = none_from i (drop i ds) (drop i ps) e
+no_dwords : (s name ps : List ℕ) → values_named s name [] ps ≡ []
+unfolding values_named
+no_dwords s name ps = refl
 
-    -- the first dword of that name from a place on
-    pub record First (i j : ℕ) : Type 0 where
-      pub within : j < length ps
-      pub values : values_named s name (drop i ds) (drop i ps) ≡ get_or ds j 0 ∷ values_named s name (drop (j + 1) ds) (drop (j + 1) ps)
+no_places : (s name ds : List ℕ) → values_named s name ds [] ≡ []
+unfolding values_named
+no_places s name [] = refl
+no_places s name (d ∷ ds) = refl
 
-    pub values_next : (i j : ℕ) → first_from (asks Named s name) i (drop i ps) ≡ Some j → First i j
-    values_next i j e =
-        let lengths : length (drop i ps) ≡ length (drop i ds) = length-drop i ps ∙ rw n (sym (length-drop i ds)) in
-        let w = next_from i j (drop i ds) (drop i ps) lengths e in
-        let left = length-drop i ps in
-        let at : get_or (drop i ds) w.ahead 0 ≡ get_or ds j 0 = get_or-drop i ds w.ahead 0 ∙ ap (λ (k : ℕ). get_or ds k 0) (sym w.is) in
-        let up : i + suc w.ahead ≡ j + 1 = omega (arith, w.is) in
-        let more : drop (suc w.ahead) (drop i ds) ≡ drop (j + 1) ds = drop-drop (suc w.ahead) i ds ∙ ap (λ (k : ℕ). drop k ds) up in
-        let most : drop (suc w.ahead) (drop i ps) ≡ drop (j + 1) ps = drop-drop (suc w.ahead) i ps ∙ ap (λ (k : ℕ). drop k ps) up in
-        record {
-          within = omega (arith, w.is, w.within, left);
-          values = w.values ∙ ap₂ ◌∷◌ at (ap₂ (values_named s name) more most);
-        }
+module _ (s name ds ps : List ℕ) where
+  -- the values so far, n of four, and those of the dwords that are left
+  pub record Gathered (values : List ℕ) (n i : ℕ) : Type 0 where
+    pub fit : n ≤ 4
+    pub room : length values ≡ 4
+    pub so_far : values_named s name ds ps ≡ take n values ++ values_named s name (drop i ds) (drop i ps)
 
--- ---- exactly four
+  pub gather_start : Gathered (0 ∷ 0 ∷ 0 ∷ 0 ∷ []) 0 0
+  gather_start = record { fit = omega arith; room = refl; so_far = refl }
 
-module _ (s name ds ps : List ℕ) (n : length ps ≡ length ds) where
-  pub gathers_none : first_from (asks Named s name) 0 (drop 0 ps) ≡ None → None ≡ gathered s name ds ps
-  unfolding gathered
-  gathers_none e = sym (ap exactly_four (values_none s name ds ps n 0 e))
+  module _ {values : List ℕ} {n i : ℕ} (g : Gathered values n i) where
+    module _ (in_ds : i < length ds) (in_ps : i < length ps) where
+      hit : asks Named s name (get_or ps i 0) ≡ true
+          → values_named s name (drop i ds) (drop i ps) ≡ get_or ds i 0 ∷ values_named s name (drop (i + 1) ds) (drop (i + 1) ps)
+      unfolding values_named
+      hit h = rw (drop-cons ds i 0 in_ds, drop-cons ps i 0 in_ps, h, add-one) refl
 
-  module _ {a : ℕ} (one : first_from (asks Named s name) 0 (drop 0 ps) ≡ Some a) where
-    first_value : First s name ds ps n 0 a
-    first_value = values_next s name ds ps n 0 a one
+      -- a dword of that name, while there is room
+      pub gather_next : asks Named s name (get_or ps i 0) ≡ true → n < 4 → Gathered (set values n (get_or ds i 0)) (n + 1) (i + 1)
+      gather_next h lt =
+          let inside : n < length values = omega (arith, lt, g.room) in
+          let later : List ℕ = values_named s name (drop (i + 1) ds) (drop (i + 1) ps) in
+          record {
+            fit = omega (arith, lt);
+            room = length-set values n (get_or ds i 0) ∙ g.room;
+            so_far =
+                g.so_far ∙ ap (◌++◌ (take n values)) (hit h) ∙ sym (append_assoc (take n values) (get_or ds i 0 ∷ []) later)
+                ∙ ap (λ (l : List ℕ). l ++ later) (sym (take_more_set values n (get_or ds i 0) inside));
+          }
 
-    pub gathers_one : first_from (asks Named s name) (a + 1) (drop (a + 1) ps) ≡ None → None ≡ gathered s name ds ps
-    unfolding gathered
-    gathers_one e = sym (ap exactly_four (first_value.values ∙ ap (◌∷◌ (get_or ds a 0)) (values_none s name ds ps n (a + 1) e)))
+      miss : asks Named s name (get_or ps i 0) ≡ false
+          → values_named s name (drop i ds) (drop i ps) ≡ values_named s name (drop (i + 1) ds) (drop (i + 1) ps)
+      unfolding values_named
+      miss h = rw (drop-cons ds i 0 in_ds, drop-cons ps i 0 in_ps, h, add-one) refl
 
-    module _ {b : ℕ} (two : first_from (asks Named s name) (a + 1) (drop (a + 1) ps) ≡ Some b) where
-      values-two : values_named s name ds ps ≡ get_or ds a 0 ∷ get_or ds b 0 ∷ values_named s name (drop (b + 1) ds) (drop (b + 1) ps)
-      values-two = first_value.values ∙ ap (◌∷◌ (get_or ds a 0)) (values_next s name ds ps n (a + 1) b two).values
+      -- a dword of another name
+      pub gather_pass : asks Named s name (get_or ps i 0) ≡ false → Gathered values n (i + 1)
+      gather_pass h = record { fit = g.fit; room = g.room; so_far = g.so_far ∙ ap (◌++◌ (take n values)) (miss h) }
 
-      pub gathers-two : first_from (asks Named s name) (b + 1) (drop (b + 1) ps) ≡ None → None ≡ gathered s name ds ps
+      -- a fifth
+      pub gather_more : asks Named s name (get_or ps i 0) ≡ true → 3 < n → None ≡ gathered s name ds ps
       unfolding gathered
-      gathers-two e = sym (ap exactly_four (values-two ∙ ap (λ (l : List ℕ). get_or ds a 0 ∷ get_or ds b 0 ∷ l) (values_none s name ds ps n (b + 1) e)))
+      gather_more h lt =
+          let later : List ℕ = values_named s name (drop (i + 1) ds) (drop (i + 1) ps) in
+          let whole : take n values ≡ values = take_all n values (omega (arith, lt, g.room)) in
+          sym
+          (ap exactly_four (g.so_far ∙ ap (◌++◌ (take n values)) (hit h) ∙ ap (λ (l : List ℕ). l ++ (get_or ds i 0 ∷ later)) whole)
+          ∙ more_than_four values g.room (get_or ds i 0) later)
 
-      module _ {c : ℕ} (three : first_from (asks Named s name) (b + 1) (drop (b + 1) ps) ≡ Some c) where
-        values-three : values_named s name ds ps ≡ get_or ds a 0 ∷ get_or ds b 0 ∷ get_or ds c 0 ∷ values_named s name (drop (c + 1) ds) (drop (c + 1) ps)
-        values-three = values-two ∙ ap (λ (l : List ℕ). get_or ds a 0 ∷ get_or ds b 0 ∷ l) (values_next s name ds ps n (b + 1) c three).values
+    -- no dword is left
+    module _ (over : min (length ds) (length ps) ≤ i) where
+      none_left : values_named s name (drop i ds) (drop i ps) ≡ []
+      none_left = by (leb (length ds) i) refl
+        where
+          by : (b : Bool) → leb (length ds) i ≡ b → values_named s name (drop i ds) (drop i ps) ≡ []
+          by true e = ap (λ (l : List ℕ). values_named s name l (drop i ps)) (drop_of_length-le ds (leb-true (length ds) i e)) ∙ no_dwords s name (drop i ps)
+          by false e =
+              ap (values_named s name (drop i ds)) (drop_of_length-le ps (omega (arith, over, leb-false (length ds) i e)))
+              ∙ no_places s name (drop i ds)
 
-        pub gathers-three : first_from (asks Named s name) (c + 1) (drop (c + 1) ps) ≡ None → None ≡ gathered s name ds ps
-        unfolding gathered
-        gathers-three e =
-            sym (ap exactly_four (values-three ∙ ap (λ (l : List ℕ). get_or ds a 0 ∷ get_or ds b 0 ∷ get_or ds c 0 ∷ l) (values_none s name ds ps n (c + 1) e)))
+      all_so_far : values_named s name ds ps ≡ take n values
+      all_so_far = g.so_far ∙ ap (◌++◌ (take n values)) none_left ∙ append-nil (take n values)
 
-        module _ {d : ℕ} (four : first_from (asks Named s name) (c + 1) (drop (c + 1) ps) ≡ Some d) where
-          values-four : values_named s name ds ps
-              ≡ get_or ds a 0 ∷ get_or ds b 0 ∷ get_or ds c 0 ∷ get_or ds d 0 ∷ values_named s name (drop (d + 1) ds) (drop (d + 1) ps)
-          values-four =
-              values-three ∙ ap (λ (l : List ℕ). get_or ds a 0 ∷ get_or ds b 0 ∷ get_or ds c 0 ∷ l) (values_next s name ds ps n (c + 1) d four).values
+      -- fewer than four
+      pub gather_few : n < 4 → None ≡ gathered s name ds ps
+      unfolding gathered
+      gather_few lt =
+          fewer_than_four (take n values) (rw (length-take-le n values (omega (arith, g.room, lt))) lt) ∙ ap exactly_four (sym all_so_far)
 
-          -- exactly four
-          pub gathers-four : first_from (asks Named s name) (d + 1) (drop (d + 1) ps) ≡ None
-              → Some (record { first = get_or ds a 0; second = get_or ds b 0; third = get_or ds c 0; fourth = get_or ds d 0 }) ≡ gathered s name ds ps
-          unfolding gathered
-          gathers-four e =
-              sym (ap exactly_four (values-four ∙ ap (λ (l : List ℕ). get_or ds a 0 ∷ get_or ds b 0 ∷ get_or ds c 0 ∷ get_or ds d 0 ∷ l) (values_none s name ds ps n (d + 1) e)))
-
-          -- a fifth
-          pub gathers-more : {e : ℕ} → first_from (asks Named s name) (d + 1) (drop (d + 1) ps) ≡ Some e → None ≡ gathered s name ds ps
-          unfolding gathered
-          gathers-more {e} five =
-              sym (ap exactly_four (values-four ∙ ap (λ (l : List ℕ). get_or ds a 0 ∷ get_or ds b 0 ∷ get_or ds c 0 ∷ get_or ds d 0 ∷ l) (values_next s name ds ps n (d + 1) e five).values))
+      -- just four
+      pub gather_four : 4 ≤ n
+          → Some (record { first = get_or values 0 0; second = get_or values 1 0; third = get_or values 2 0; fourth = get_or values 3 0 }) ≡ gathered s name ds ps
+      unfolding gathered
+      gather_four le =
+          just_four values g.room
+          ∙ ap exactly_four (sym (all_so_far ∙ take_all n values (omega (arith, le, g.room))))

@@ -19,8 +19,6 @@ use Rattle.text.specs.Quote.{bytes}
 use Rattle.book.specs.Reading.{accepted, check_of, tables_fill}
 use Rattle.book.specs.Finders.{control_table, uuid_table, place_of}
 use Rattle.packet.specs.declared.Packet.{Packet}
-use Rattle.packet.specs.declared.Header.{Header}
-use Rattle.packet.specs.declared.Header.TheVariants as H
 use Rattle.packet.specs.declared.Tables.{Tables}
 use Rattle.packet.specs.declared.fill.Pick.TheVariants.{Any, Typed}
 use Rattle.packet.specs.Steps.{entry_of, filled, control_places, header_places, gathered, places_in, places_by, uuid_places, protocol_places, protocol_from, fitting, latch_behind}
@@ -49,7 +47,7 @@ use Rattle.packet.specs.Packet.{
   Parsed,
   Over,
 }
-use Rattle.packet.specs.Inner.{header_of, header_for, tables_of, open_of, places_with, uuid_with, Described, Made}
+use Rattle.packet.specs.Inner.{header_for, tables_of, open_of, places_with, uuid_with, Described, Made}
 use Rattle.packet.proofs.Filling.{length_filled, length_map_from}
 use Rattle.packet.proofs.Clearing.{filled_zeros}
 
@@ -105,20 +103,17 @@ control_filled s table ds m n = filled_zeros (entry_of Any [] s table) 0 (length
 module _ (s ds : List ℕ) where
   -- with a header table: steps 1, 2 and 3
   pub described_on : {header : ℕ} {ps m exit : List ℕ} {uuid : Option Uuid} → m ≡ header_places s header ps → uuid ≡ gathered s (bytes "UUID") ds m
-      → exit ≡ places_by s uuid ds m → Described (H.At header) s ds ps exit uuid
+      → exit ≡ places_by s uuid ds m → Described (Some header) s ds ps exit uuid
   unfolding uuid_places
   described_on a b x = record { uuid = b ∙ ap (gathered s (bytes "UUID") ds) a; places = x ∙ ap₂ (λ (u : Option Uuid) (l : List ℕ). places_by s u ds l) (b ∙ ap (gathered s (bytes "UUID") ds) a) a }
 
-  module _ {ps m : List ℕ} (a : m ≡ ps) {header : Header} where
-    pub described_at : {table : ℕ} → header ≡ H.At table → {exit : List ℕ} {uuid : Option Uuid} → Described (H.At table) s ds m exit uuid → Described header s ds ps exit uuid
+  module _ {ps m : List ℕ} (a : m ≡ ps) {header : Option ℕ} where
+    pub described_at : {table : ℕ} → header ≡ Some table → {exit : List ℕ} {uuid : Option Uuid} → Described (Some table) s ds m exit uuid → Described header s ds ps exit uuid
     described_at {table} e {exit} {uuid} d =
-        subst (λ h. Described h s ds ps exit uuid) (sym e) (subst (λ l. Described (H.At table) s ds l exit uuid) a d)
+        subst (λ h. Described h s ds ps exit uuid) (sym e) (subst (λ l. Described (Some table) s ds l exit uuid) a d)
 
-    pub described_missing : header ≡ H.Missing → Described header s ds ps m None
-    described_missing e = record { uuid = rw e; places = a ∙ rw e }
-
-    pub described_unasked : header ≡ H.Unasked → Described header s ds ps m None
-    described_unasked e = record { uuid = rw e; places = a ∙ rw e }
+    pub described_none : header ≡ None → Described header s ds ps m None
+    described_none e = record { uuid = rw e; places = a ∙ rw e }
 
 -- ---- what was opened
 
@@ -199,11 +194,11 @@ module _ (kind : ℕ) (s : List ℕ) (count room : ℕ) where
 
 module _ (kind : ℕ) (s ds : List ℕ) {t : Tables} {room : ℕ} (o : Open kind s (length ds) room t) where
   -- kinds 8 and 9 have the header table, all others none
-  header_at_lem : (b : Bool) → is_xdomain kind ≡ b → t.header ≡ cond b (H.At (header_at s)) H.Unasked
+  header_at_lem : (b : Bool) → is_xdomain kind ≡ b → t.header ≡ cond b (Some (header_at s)) None
   unfolding header_for header_at
   header_at_lem true x = o.header ∙ rw x (by (uuid_table s zero_uuid) (subst (λ b. (b && is_nothing (uuid_table s zero_uuid)) ≡ false) x o.there))
     where
-      by : (f : Option ℕ) → is_nothing f ≡ false → header_of f ≡ H.At (place_of f)
+      by : (f : Option ℕ) → is_nothing f ≡ false → f ≡ Some (place_of f)
       by (Some p) e = refl
       by None e = absurd (let q : ◌≡◌ {A = ℕ} 0 1 = cc in omega arith)
   header_at_lem false x = o.header ∙ rw x
@@ -216,12 +211,12 @@ module _ (kind : ℕ) (s ds : List ℕ) {t : Tables} {room : ℕ} (o : Open kind
       × (uuid_with t.header s ds (control_places s t.control ds) ≡ uuid_of kind s ds)
   unfolding places_of uuid_of step_one
   with_header true x = (
-    ap₂ (λ (h : Header) (l : List ℕ). places_with h s ds l) (header_at_lem true x) control_is ∙ rw x,
-    ap₂ (λ (h : Header) (l : List ℕ). uuid_with h s ds l) (header_at_lem true x) control_is ∙ rw x,
+    ap₂ (λ (h : Option ℕ) (l : List ℕ). places_with h s ds l) (header_at_lem true x) control_is ∙ rw x,
+    ap₂ (λ (h : Option ℕ) (l : List ℕ). uuid_with h s ds l) (header_at_lem true x) control_is ∙ rw x,
   )
   with_header false x = (
-    ap₂ (λ (h : Header) (l : List ℕ). places_with h s ds l) (header_at_lem false x) control_is ∙ rw x,
-    ap₂ (λ (h : Header) (l : List ℕ). uuid_with h s ds l) (header_at_lem false x) control_is ∙ rw x,
+    ap₂ (λ (h : Option ℕ) (l : List ℕ). places_with h s ds l) (header_at_lem false x) control_is ∙ rw x,
+    ap₂ (λ (h : Option ℕ) (l : List ℕ). uuid_with h s ds l) (header_at_lem false x) control_is ∙ rw x,
   )
 
   pub described_places : places_with t.header s ds (control_places s t.control ds) ≡ places_of kind s ds

@@ -2,7 +2,7 @@
 -- Assumes nothing.
 use Rattle.book.specs.declared.Uuid.{Uuid}
 use Rattle.std.specs.Prelude.{ℕ, zero, suc, ◌≤◌, ◌≡◌, Bool, true, false, cond, ◌&&◌, List, [], eqb, ltb, length, get_or, set, replicate, None, Option, Some}
-use Rattle.text.specs.Told.{Told, is, unless}
+use Rattle.text.specs.Told.{Told, is, refused, unless}
 use Rattle.text.specs.Quote.{bytes}
 use Rattle.text.specs.Same.{same_text}
 use Rattle.tlv.specs.Number.{number}
@@ -10,15 +10,13 @@ use Rattle.book.specs.declared.seek.Want.{Want}
 use Rattle.book.specs.declared.seek.Want.TheVariants as W
 use Rattle.book.specs.Search.{first_wanted}
 use Rattle.book.specs.Finders.{place_of, type_of, uuid_table}
-use Rattle.packet.specs.declared.Header.{Header}
-use Rattle.packet.specs.declared.Header.TheVariants as H
 use Rattle.packet.specs.declared.Tables.{Tables}
 use Rattle.packet.specs.declared.Packet.{Packet}
 use Rattle.packet.specs.declared.fill.Pick.{Pick}
 use Rattle.packet.specs.declared.fill.Pick.TheVariants.{Any, Typed}
 use Rattle.packet.specs.Field.{name_in}
 use Rattle.packet.specs.Steps.{entry_of, filled, control_places, header_places, gathered, uuid_places, latch_behind}
-use Rattle.packet.specs.Packet.{is_xdomain, zero_uuid, control_at, number_checked, view_from, word}
+use Rattle.packet.specs.Packet.{is_xdomain, is_nothing, zero_uuid, control_at, number_checked, view_from, word}
 
 -- ---- one walk over a table
 
@@ -67,17 +65,13 @@ pub record Latched (s : List ℕ) (table latched found entry dword : ℕ) (typed
 
 -- ---- the tables of a kind
 
-abbrev pub header_of : Option ℕ → Header
-header_of (Some table) = H.At table
-header_of None = H.Missing
+-- the header table of a kind that asks for it; said of books that have it, as 23 sees to
+unfoldable pub header_for : ℕ → List ℕ → Option ℕ
+header_for kind s = cond (is_xdomain kind) (uuid_table s zero_uuid) None
 
-unfoldable pub header_for : ℕ → List ℕ → Header
-header_for kind s = cond (is_xdomain kind) (header_of (uuid_table s zero_uuid)) H.Unasked
-
-abbrev pub is_missing : Header → Bool
-is_missing (H.At table) = false
-is_missing H.Missing = true
-is_missing H.Unasked = false
+-- what is told of it: 23 where it is asked for and not there
+unfoldable pub header_of : ℕ → List ℕ → Told (Option ℕ)
+header_of kind s = cond (is_xdomain kind && is_nothing (uuid_table s zero_uuid)) (refused 23) (is (header_for kind s))
 
 -- the tables of a kind
 abbrev pub tables_of : ℕ → List ℕ → Tables
@@ -88,17 +82,15 @@ unfoldable pub open_of : ℕ → List ℕ → ℕ → ℕ → Told Tables
 open_of kind s count room = unless (number_checked kind s count room) (is (tables_of kind s))
 
 -- the places and the UUID by given tables
-abbrev pub places_with : Header → List ℕ → List ℕ → List ℕ → List ℕ
-places_with (H.At table) s ds ps = uuid_places s ds (header_places s table ps)
-places_with H.Missing s ds ps = ps
-places_with H.Unasked s ds ps = ps
+abbrev pub places_with : Option ℕ → List ℕ → List ℕ → List ℕ → List ℕ
+places_with (Some table) s ds ps = uuid_places s ds (header_places s table ps)
+places_with None s ds ps = ps
 
-abbrev pub uuid_with : Header → List ℕ → List ℕ → List ℕ → Option Uuid
-uuid_with (H.At table) s ds ps = gathered s (bytes "UUID") ds (header_places s table ps)
-uuid_with H.Missing s ds ps = None
-uuid_with H.Unasked s ds ps = None
+abbrev pub uuid_with : Option ℕ → List ℕ → List ℕ → List ℕ → Option Uuid
+uuid_with (Some table) s ds ps = gathered s (bytes "UUID") ds (header_places s table ps)
+uuid_with None s ds ps = None
 
-pub record Described (header : Header) (s ds ps exit : List ℕ) (r : Option Uuid) : Type 0 where
+pub record Described (header : Option ℕ) (s ds ps exit : List ℕ) (r : Option Uuid) : Type 0 where
   pub uuid : r ≡ uuid_with header s ds ps
   pub places : exit ≡ places_with header s ds ps
 

@@ -23,23 +23,15 @@ use crate::steps::describe;
 use book::Uuid;
 use refusal::Refusal;
 
-// The header table, which kinds 8 and 9 ask for and no other.
-#[derive(Clone, Copy)]
-pub enum Header {
-    At(usize),
-    Missing,
-    Unasked,
-}
-
-// The tables that a packet of some kind is described by.
-#[derive(Clone, Copy)]
+// The tables that a packet of some kind is described by. Kinds 8 and 9 have the header table, and no other.
+#[derive(Clone, Copy, Debug, PartialEq, Eq, Hash)]
 pub struct Tables {
     pub control: usize,
-    pub header: Header,
+    pub header: Option<usize>,
 }
 
 // A packet: its kind, how many dwords it has, the UUID that they hold, and where its data view starts.
-#[derive(Clone, Copy)]
+#[derive(Clone, Copy, Debug, PartialEq, Eq, Hash)]
 pub struct Packet {
     pub kind: u8,
     pub dwords: usize,
@@ -83,11 +75,8 @@ pub fn parse_over(
         return Err(Refusal::BadBook);
     }
     let n = dwords.len();
-    let opened = open(kind, book, n, places.len());
-    match opened {
-        Ok(tables) => Ok(make(kind, book, tables, dwords, &mut places[..n])),
-        Err(number) => Err(number),
-    }
+    let tables = open(kind, book, n, places.len())?;
+    Ok(make(kind, book, tables, dwords, &mut places[..n]))
 }
 
 // The packet by its tables, a place for each dword.

@@ -3,48 +3,40 @@ ghost use Rattle.std.specs.Prelude.{◌≡◌, ◌&&◌, ltb};
 ghost use Rattle.refusal.specs.Told.{told};
 ghost use Rattle.book.specs.Finders.{entry_count};
 ghost use Rattle.packet.specs.Packet.{is_read_response_or_write_request, is_xdomain, control_at, view_from, word};
-ghost use Rattle.packet.specs.Inner.{header_for, is_missing, open_of};
+ghost use Rattle.packet.specs.Inner.{header_of, open_of};
 
+use crate::Tables;
 use crate::field::Ask;
 use crate::seek::first_asked;
-use crate::{Header, Tables};
 use book::{Uuid, find};
 use refusal::Refusal;
 
 // Read responses and write requests: the data view starts behind the control entries.
+#[tactic(auto, unfolding(crate::specs::Packet::is_read_response_or_write_request))]
 pub fn is_read_response_or_write_request(kind: u8) -> bool
     ensures { result ≡ is_read_response_or_write_request kind }
 {
-    if kind == 2 {
-        return true;
-    }
-    kind == 3
+    kind == 2 || kind == 3
 }
 
 // Inter-domain requests and responses.
+#[tactic(auto, unfolding(crate::specs::Packet::is_xdomain))]
 pub fn is_xdomain_kind(kind: u8) -> bool
     ensures { result ≡ is_xdomain kind }
 {
-    if kind == 8 {
-        return true;
-    }
-    kind == 9
+    kind == 8 || kind == 9
 }
 
 // The tables of a packet with so many dwords and places, or the number that refuses it.
+#[tactic(auto, using(crate::proofs::Opening::open_21, crate::proofs::Opening::open_22), unfolding(crate::specs::Inner::open_of))]
 pub fn open(kind: u8, book: &[u8], count: usize, room: usize) -> Result<Tables, Refusal>
     ensures { told result ≡ open_of kind book.now count room }
 {
     if kind == 0 {
         return Err(Refusal::NoKind);
     }
-    let Some(control) = find::control_table(book, kind) else {
-        return Err(Refusal::NoTable);
-    };
-    let header = header_for(kind, book);
-    if is_missing(header) {
-        return Err(Refusal::NoHeaderTable);
-    }
+    let control = find::control_table(book, kind).ok_or(Refusal::NoTable)?;
+    let header = header_for(kind, book)?;
     if 256 < count {
         return Err(Refusal::LongPacket);
     }
@@ -58,46 +50,22 @@ pub fn open(kind: u8, book: &[u8], count: usize, room: usize) -> Result<Tables, 
 }
 
 // The header table, where the kind asks for it.
-fn header_for(kind: u8, book: &[u8]) -> Header
-    ensures { result ≡ header_for kind book.now }
+#[tactic(auto, unfolding(crate::specs::Inner::header_of, crate::specs::Inner::header_for))]
+fn header_for(kind: u8, book: &[u8]) -> Result<Option<usize>, Refusal>
+    ensures { told result ≡ header_of kind book.now }
 {
     if !is_xdomain_kind(kind) {
-        return Header::Unasked;
+        return Ok(None);
     }
-    let found = find::uuid_table(
-        book,
-        Uuid {
-            first: 0,
-            second: 0,
-            third: 0,
-            fourth: 0,
-        },
-    );
-    match found {
-        Some(table) => Header::At(table),
-        None => Header::Missing,
-    }
-}
-
-// Is the header table asked for and not there?
-fn is_missing(header: Header) -> bool
-    ensures { result ≡ is_missing header }
-{
-    match header {
-        Header::At(_) => false,
-        Header::Missing => true,
-        Header::Unasked => false,
-    }
+    let table = find::uuid_table(book, Uuid::ZERO).ok_or(Refusal::NoHeaderTable)?;
+    Ok(Some(table))
 }
 
 // Has a packet with a data view fewer dwords than its table has entries?
 fn is_short(kind: u8, book: &[u8], control: usize, count: usize) -> bool
     ensures { result ≡ (is_read_response_or_write_request kind && ltb count (entry_count book.now control)) }
 {
-    if !is_read_response_or_write_request(kind) {
-        return false;
-    }
-    count < find::count_entries(book, control)
+    is_read_response_or_write_request(kind) && count < find::count_entries(book, control)
 }
 
 // Where the data view starts, cut to 16 bits.
@@ -112,9 +80,6 @@ pub fn start_of(kind: u8, book: &[u8], control: usize, places: &[u32]) -> Option
     if !is_xdomain_kind(kind) {
         return None;
     }
-    let found = first_asked(book, Ask::Holds, b"Properties Block Generation", places, 0);
-    match found {
-        Some(i) => Some(((i + 1) % 65_536) as u16),
-        None => None,
-    }
+    let i = first_asked(book, Ask::Holds, b"Properties Block Generation", places, 0)?;
+    Some(((i + 1) % 65_536) as u16)
 }

@@ -17,51 +17,37 @@ pub fn first_asked(
 ) -> Option<usize>
     ensures { result ≡ first_from (asks ask book.now name.now) start (drop start places.now) }
 {
-    let mut i = start;
-    while i < places.len() {
+    for i in start..places.len() {
         if is_asked(book, ask, name, wide(places[i])) {
             return Some(i);
         }
-        i += 1;
     }
     None
 }
 
-// The first index behind `i` at which the entry has that name.
-fn next_named(book: &[u8], name: &[u8], places: &[u32], i: usize) -> Option<usize>
-    ensures { result ≡ first_from (asks Ask.Named book.now name.now) (i + 1) (drop (i + 1) places.now) }
-{
-    if places.len() <= i {
-        return None;
-    }
-    first_asked(book, Ask::Named, name, places, i + 1)
-}
-
-// The values of the dwords of that name, if there are exactly four.
+// The values of the dwords of that name, if there are exactly four. A dword without a place, or a place without a dword, counts for nothing.
 pub fn gather(book: &[u8], name: &[u8], dwords: &[u32], places: &[u32]) -> Option<Uuid>
-    requires { length places.now ≡ length dwords.now }
     ensures { result ≡ gathered book.now name.now dwords.now places.now }
 {
-    let Some(a) = first_asked(book, Ask::Named, name, places, 0) else {
+    let mut values = [0u32; 4];
+    let mut n: usize = 0;
+    for i in 0..dwords.len().min(places.len()) {
+        if is_asked(book, Ask::Named, name, wide(places[i])) {
+            if 3 < n {
+                return None;
+            }
+            values[n] = dwords[i];
+            n += 1;
+        }
+    }
+    if n < 4 {
         return None;
-    };
-    let Some(b) = next_named(book, name, places, a) else {
-        return None;
-    };
-    let Some(c) = next_named(book, name, places, b) else {
-        return None;
-    };
-    let Some(d) = next_named(book, name, places, c) else {
-        return None;
-    };
-    let None = next_named(book, name, places, d) else {
-        return None;
-    };
+    }
     Some(Uuid {
-        first: dword_at(dwords, a),
-        second: dword_at(dwords, b),
-        third: dword_at(dwords, c),
-        fourth: dword_at(dwords, d),
+        first: values[0],
+        second: values[1],
+        third: values[2],
+        fourth: values[3],
     })
 }
 

@@ -1,12 +1,12 @@
 // The steps that describe a packet's dwords: control table, header table, UUID, protocol table.
-ghost use Rattle.std.specs.Prelude.{◌≡◌, ◌≤◌, length, replicate};
+ghost use Rattle.std.specs.Prelude.{◌≡◌, ◌≤◌, length, Some};
 ghost use Rattle.packet.specs.Steps.{control_places, places_by, protocol_places, type_in};
 ghost use Rattle.packet.specs.Inner.{Spread, Latched, Described};
 
+use crate::Tables;
 use crate::field::{name_in, named_in, or_else, range_in};
 use crate::fill::{Pick, fill};
 use crate::seek::gather;
-use crate::{Header, Tables};
 use book::{Uuid, find};
 
 // The place of each dword's entry, 0 for none, and the UUID that the fields named so make.
@@ -14,20 +14,16 @@ pub fn describe(book: &[u8], tables: Tables, dwords: &[u32], places: &mut [u32])
     requires { (length book.now ≤ 65535) × (length dwords.now ≤ 256) × (length places.old ≡ length dwords.now) }
     ensures { Described tables.header book.now dwords.now (control_places book.now tables.control dwords.now) places.new result }
 {
-    clear(places);
+    places.fill(0);
     fill(book, tables.control, Pick::Any, b"", places);
-    let header = tables.header;
-    match header {
-        Header::At(table) => describe_xdomain(book, table, dwords, places),
-        Header::Unasked => None,
-        Header::Missing => None,
-    }
+    let header = tables.header?;
+    describe_xdomain(book, header, dwords, places)
 }
 
 // Kinds 8 and 9 go on with the header table and the table of their UUID.
 fn describe_xdomain(book: &[u8], header: usize, dwords: &[u32], places: &mut [u32]) -> Option<Uuid>
     requires { (length book.now ≤ 65535) × (length dwords.now ≤ 256) × (length places.old ≡ length dwords.now) }
-    ensures { Described (Header.At header) book.now dwords.now places.old places.new result }
+    ensures { Described (Some header) book.now dwords.now places.old places.new result }
 {
     fill(book, header, Pick::Typed, b"", places);
     let uuid = gather(book, b"UUID", dwords, places);
@@ -74,13 +70,11 @@ fn latch_over(
     ensures { places.new ≡ protocol_places book.now table dwords.now places.old }
 {
     let mut latched: usize = 0;
-    let mut i = 0;
-    while i < dwords.len() {
+    for i in 0..dwords.len() {
         let found = or_else(typed[i], plain[i]);
         let entry = or_else(places[i], found);
         places[i] = entry;
         latched = latch(book, table, latched, found, entry, dwords[i], typed);
-        i += 1;
     }
 }
 
@@ -116,14 +110,4 @@ fn type_in(book: &[u8], entry: usize, dword: u32) -> usize
     ensures { result ≡ type_in book.now entry dword }
 {
     named_in(book, range_in(book, b"Packet Type", entry), dword)
-}
-
-fn clear(places: &mut [u32])
-    ensures { places.new ≡ replicate (length places.old) 0 }
-{
-    let mut i = 0;
-    while i < places.len() {
-        places[i] = 0;
-        i += 1;
-    }
 }

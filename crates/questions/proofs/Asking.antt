@@ -73,30 +73,6 @@ pub type_named : {w v : ℕ} (p : ℕ) → (p ≡ 0 → ⊥) → w ≡ v → is 
 type_named zero n e = absurd (n refl)
 type_named (suc p) n e = λ i. is (record { value = e i; name = record { at = suc p } })
 
--- ---- dwords without places, and places without dwords, name nothing
-
-module _ (s name : List ℕ) where
-  fewer_places : (ds ps : List ℕ) → values_named s name ds (take (length ds) ps) ≡ values_named s name ds ps
-  unfolding values_named
-  fewer_places [] ps = refl
-  fewer_places (d ∷ ds) [] = refl
-  fewer_places (d ∷ ds) (p ∷ ps) = ap (λ (l : List ℕ). cond (asks Named s name p) (d ∷ l) l) (fewer_places ds ps)
-
-  fewer_dwords : (ds ps : List ℕ) → values_named s name (take (length ps) ds) ps ≡ values_named s name ds ps
-  unfolding values_named
-  fewer_dwords [] [] = refl
-  fewer_dwords [] (p ∷ ps) = refl
-  fewer_dwords (d ∷ ds) [] = refl
-  fewer_dwords (d ∷ ds) (p ∷ ps) = ap (λ (l : List ℕ). cond (asks Named s name p) (d ∷ l) l) (fewer_dwords ds ps)
-
-  pub gathered_places : (ds ps : List ℕ) → gathered s name ds (take (length ds) ps) ≡ gathered s name ds ps
-  unfolding gathered
-  gathered_places ds ps = ap exactly_four (fewer_places ds ps)
-
-  pub gathered_dwords : (ds ps : List ℕ) → gathered s name (take (length ps) ds) ps ≡ gathered s name ds ps
-  unfolding gathered
-  gathered_dwords ds ps = ap exactly_four (fewer_dwords ds ps)
-
 -- ---- what was found, and what a closure made of it
 
 -- a value that was asked, cut

@@ -128,12 +128,7 @@ pub fn uuid_in(
 ) -> Result<Option<Uuid>, Refusal>
     ensures { told_maybe result ≡ uuid_in book.now dwords.now places.now name.now }
 {
-    let n = dwords.len();
-    let m = places.len();
-    if n < m {
-        return Ok(gather(book, name, dwords, &places[..n]));
-    }
-    Ok(gather(book, name, &dwords[..m], places))
+    Ok(gather(book, name, dwords, places))
 }
 
 // The packet type: of the first dword with such a range, whether its value has a name or not.

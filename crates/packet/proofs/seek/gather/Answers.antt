@@ -1,25 +1,35 @@
--- `packet::seek::gather` meets its contract: four are found, and no fifth. Assumes nothing.
-use Rattle.std.specs.Prelude.{Some}
-use Rattle.packet.proofs.Gathering.{gathers_none, gathers_one, gathers-two, gathers-three, gathers-four, gathers-more}
-use mathlib.Core.Path.{sym, ◌∙◌}
+-- `packet::seek::gather` meets its contract: the values so far, and those that are left. Assumes nothing.
+use Rattle.packet.proofs.Gathering.{gather_start, gather_next, gather_pass, gather_more, gather_few, gather_four}
+use Rattle.packet.specs.Field.{asks}
+use Rattle.packet.specs.declared.field.Ask.TheVariants.{Named}
+use mathlib.Core.Path.{sym, ap, ◌∙◌}
+use native.Mathlib.Omega.{arith}
+use Prim.Native.Nat.{◌<◌}
+use lib.ListN.{length}
+use Rattle.packet.proofs.seek.gather.Goals.{then-is_asked+else-n-gt3, else-is_asked}
 use Rattle.packet.proofs.seek.gather.Goals as goal
 
-pub returns-in_default : goal.returns-in_default
-returns-in_default c = gathers_none c.args.book.now c.args.name.now c.args.dwords.now c.args.places.now c.requires (sym c.first_asked.ensures ∙ c.in_default.is)
+pub loop-i-init : goal.loop-i-init
+loop-i-init c = gather_start c.args.book.now c.args.name.now c.args.dwords.now c.args.places.now
 
-pub returns-in_default-next_named : goal.returns-in_default-next_named
-returns-in_default-next_named c = gathers_one c.args.book.now c.args.name.now c.args.dwords.now c.args.places.now c.requires (sym c.first_asked.ensures ∙ c.in-Some.is) (sym c.next_named.ensures ∙ c.in_default-next_named.is)
+pub returns-then-n-gt3 : goal.returns-then-n-gt3
+returns-then-n-gt3 c =
+    gather_more c.args.book.now c.args.name.now c.args.dwords.now c.args.places.now c.loop-i.invariant (omega (arith, c.loop-i-test.true, c.min-i-end.ensures)) (omega (arith, c.loop-i-test.true, c.min-i-end.ensures)) (ap (asks Named c.args.book.now c.args.name.now) (sym c.wide.ensures) ∙ sym c.is_asked.ensures ∙ c.if-is_asked.true) c.if-n-gt3.true
 
-pub returns-in_default-next_named-2 : goal.returns-in_default-next_named-2
-returns-in_default-next_named-2 c = gathers-two c.args.book.now c.args.name.now c.args.dwords.now c.args.places.now c.requires (sym c.first_asked.ensures ∙ c.in-Some.is) (sym c.next_named.ensures ∙ c.in-Some-next_named.is) (sym c.next_named-2.ensures ∙ c.in_default-next_named-2.is)
+pub loop-i-preserved : goal.loop-i-preserved
+loop-i-preserved c =
+    let in_dwords : c.loop-i.i < length c.args.dwords.now = omega (arith, c.loop-i-test.true, c.min-i-end.ensures) in
+    let in_places : c.loop-i.i < length c.args.places.now = omega (arith, c.loop-i-test.true, c.min-i-end.ensures) in
+    let asked = ap (asks Named c.args.book.now c.args.name.now) (sym c.wide.ensures) ∙ sym c.is_asked.ensures in
+    elim c.if-is_asked.branch [
+      | then-is_asked+else-n-gt3 w ↦ rw (w.values-is, w.n-is)
+          (gather_next c.args.book.now c.args.name.now c.args.dwords.now c.args.places.now c.loop-i.invariant in_dwords in_places (asked ∙ w.if-is_asked.true) (omega (arith, w.if-n-gt3.false)))
+      | else-is_asked w ↦ rw (w.values-is, w.n-is)
+          (gather_pass c.args.book.now c.args.name.now c.args.dwords.now c.args.places.now c.loop-i.invariant in_dwords in_places (asked ∙ w.if-is_asked.false))
+    ]
 
-pub returns-in_default-next_named-3 : goal.returns-in_default-next_named-3
-returns-in_default-next_named-3 c = gathers-three c.args.book.now c.args.name.now c.args.dwords.now c.args.places.now c.requires (sym c.first_asked.ensures ∙ c.in-Some.is) (sym c.next_named.ensures ∙ c.in-Some-next_named.is) (sym c.next_named-2.ensures ∙ c.in-Some-next_named-2.is) (sym c.next_named-3.ensures ∙ c.in_default-next_named-3.is)
-
-pub returns-in_default-next_named-4 : goal.returns-in_default-next_named-4
-returns-in_default-next_named-4 c = gathers-more c.args.book.now c.args.name.now c.args.dwords.now c.args.places.now c.requires (sym c.first_asked.ensures ∙ c.in-Some.is) (sym c.next_named.ensures ∙ c.in-Some-next_named.is) (sym c.next_named-2.ensures ∙ c.in-Some-next_named-2.is) (sym c.next_named-3.ensures ∙ c.in-Some-next_named-3.is) (sym c.next_named-4.ensures ∙ c.in_default-next_named-4.is)
+pub returns-then-n-lt4 : goal.returns-then-n-lt4
+returns-then-n-lt4 c = gather_few c.args.book.now c.args.name.now c.args.dwords.now c.args.places.now c.loop-i.invariant (omega (arith, c.loop-i-test.false, c.min-i-end.ensures)) c.if-n-lt4.true
 
 pub returns : goal.returns
-returns c =
-    (λ i. Some (record { first = c.dword_at.ensures i; second = c.dword_at-2.ensures i; third = c.dword_at-3.ensures i; fourth = c.dword_at-4.ensures i }))
-    ∙ gathers-four c.args.book.now c.args.name.now c.args.dwords.now c.args.places.now c.requires (sym c.first_asked.ensures ∙ c.in-Some.is) (sym c.next_named.ensures ∙ c.in-Some-next_named.is) (sym c.next_named-2.ensures ∙ c.in-Some-next_named-2.is) (sym c.next_named-3.ensures ∙ c.in-Some-next_named-3.is) (sym c.next_named-4.ensures ∙ c.in-None.is)
+returns c = gather_four c.args.book.now c.args.name.now c.args.dwords.now c.args.places.now c.loop-i.invariant (omega (arith, c.loop-i-test.false, c.min-i-end.ensures)) c.if-n-lt4.false

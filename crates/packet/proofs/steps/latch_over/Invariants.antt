@@ -1,11 +1,7 @@
 -- `packet::steps::latch_over` meets its contract: offset by offset, the places so far and the latch say the same as step 3 does. Assumes nothing.
-use Prim.Native.Nat.{◌-◌}
 use Rattle.packet.proofs.Latching.{Through}
 use lib.ListN.{length}
 use Rattle.packet.proofs.steps.latch_over.Given as goal
 
 abbrev pub invariant-loop-i : goal.invariant-loop-i
 invariant-loop-i l = Through l.book l.table l.dwords l.initial.places l.plain l.typed l.latched l.i l.places
-
-abbrev pub decreases-loop-i : goal.decreases-loop-i
-decreases-loop-i l = length l.dwords - l.i

@@ -1,7 +1,6 @@
 -- `questions::described::word_asked` meets its contract: the value that was asked, cut. Assumes nothing.
 use Rattle.std.proofs.Common.{rules}
 use Rattle.questions.proofs.Asking.{cut_is}
-
 use Rattle.questions.proofs.described.word_asked.Goals as goal
 
 pub returns : goal.returns

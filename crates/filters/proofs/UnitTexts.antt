@@ -13,117 +13,58 @@ use Rattle.entry.specs.declared.Entry.{Entry}
 use Rattle.scan.specs.declared.Pieces.{Pieces}
 use Rattle.scan.specs.declared.Pieces.TheVariants.{Lenient}
 use Rattle.scan.specs.Parse.{parse_of}
-use Rattle.scan.specs.Parse as ScanParse
 use Rattle.writer.specs.Writing.{bytes_of}
 use Rattle.units.specs.declared.Unit.{Unit}
 use Rattle.units.specs.declared.Unit.TheVariants as U
 use Rattle.units.specs.Feeding.{text_length}
-use Rattle.stream.specs.Answers.{answer_told}
+use Rattle.refusal.specs.Number.{number_of}
+use Rattle.refusal.specs.Told.{told_maybe}
 use Rattle.stream.specs.Feeding.{unit_told}
 use Rattle.listing_rows.specs.Rows.{Put, word_and_number, refused_row, entry_row, totals_row}
 use Rattle.listing_rows.proofs.Putting.{decimal_length, word_length}
 use Rattle.filters.specs.declared.Filter.TheVariants as F
 use Rattle.filters.specs.declared.Counts.{Counts}
 use Rattle.filters.specs.declared.Run.{Run}
-use Rattle.filters.specs.declared.row.Seen.{Seen}
-use Rattle.filters.specs.declared.row.Seen.TheVariants as S
-use Rattle.filters.specs.Texts.{seen_by, seen_line, row_of, record_by, told_by, line_told, cut_told}
+use Rattle.filters.specs.Seen.{Seen}
+use Rattle.filters.specs.Seen as S
+use Rattle.filters.specs.Texts.{seen_by, row_of, record_by, told_by, line_told, cut_told}
 use Rattle.filters.specs.Filter.{one_more, counted, out_by, tell_by, last_out, last_told}
 use Rattle.filters.specs.Rows.{RowPut, Told, Recorded, RecordPut}
 use Rattle.filters.specs.Calls.{CutPut, LastPut}
 use Rattle.filters.proofs.Parts.{put_none}
 
--- what a row says, from the answer of a reader
-module _ {k : ℕ} (enough : k ≡ 256) where
-  pub text_entry : (u : List ℕ) {r : Result Entry Refusal} {e : Entry} → ScanParse.answer_told r ≡ parse_of Lenient u k → r ≡ Ok e → S.Entry e.kind e.dwords ≡ seen_line Lenient u
-  unfolding seen_line seen_by
-  text_entry u a q = rw (← enough, ← a, q)
+-- what is told of a unit, from the answer with an array of 256 slots
+module _ {k : ℕ} (enough : k ≡ 256) (pieces : Pieces) (cut : Unit) (rest : List ℕ) {r : Result (Option Entry) Refusal} (a : told_maybe r ≡ unit_told pieces cut rest k) where
+  pub unit_is : {e : Entry} → r ≡ Ok (Some e) → unit_told pieces cut rest 256 ≡ T.is e
+  unit_is q = rw (← enough, ← a, q)
 
-  pub text_refused : (u : List ℕ) {r : Result Entry Refusal} {n : ℕ} → ScanParse.answer_told r ≡ parse_of Lenient u k → r ≡ Err n → S.Refused n ≡ seen_line Lenient u
-  unfolding seen_line seen_by
-  text_refused u a q = rw (← enough, ← a, q)
+  pub unit_refused : {n : Refusal} → r ≡ Err n → unit_told pieces cut rest 256 ≡ T.refused (number_of n)
+  unit_refused q = rw (← enough, ← a, q)
 
-  module _ (pieces : Pieces) (cut : Unit) (rest : List ℕ) {r : Result (Option Entry) Refusal} (a : answer_told r ≡ unit_told pieces cut rest k) where
-    pub unit_is : {e : Entry} → r ≡ Ok (Some e) → unit_told pieces cut rest 256 ≡ T.is e
-    unit_is q = rw (← enough, ← a, q)
-
-    pub unit_refused : {n : ℕ} → r ≡ Err n → unit_told pieces cut rest 256 ≡ T.refused n
-    unit_refused q = rw (← enough, ← a, q)
-
-    pub unit_none : r ≡ (Ok None) → unit_told pieces cut rest 256 ≡ T.absent
-    unit_none q = rw (← enough, ← a, q)
-
--- and from what is told
-pub seen_is : {t : T.Told Entry} {e : Entry} → t ≡ T.is e → S.Entry e.kind e.dwords ≡ seen_by t
-unfolding seen_by
-seen_is q = rw q
-
-pub seen_refused : {t : T.Told Entry} {k : ℕ} → t ≡ T.refused k → S.Refused k ≡ seen_by t
-unfolding seen_by
-seen_refused q = rw q
-
-pub seen_none : {t : T.Told Entry} → t ≡ T.absent → S.Nothing ≡ seen_by t
-unfolding seen_by
-seen_none q = rw q
+  pub unit_none : r ≡ Ok None → unit_told pieces cut rest 256 ≡ T.absent
+  unit_none q = rw (← enough, ← a, q)
 
 -- a line that was cut off
-module _ {cut : Unit} (rest : List ℕ) where
-  pub line_text : {n : ℕ} → cut ≡ U.Text n → {seen : Seen} → seen ≡ seen_line Lenient (take n rest) → seen ≡ seen_by (line_told cut rest)
-  unfolding line_told seen_line
-  line_text q e = e ∙ rw q
-
-  pub line_fits : {n : ℕ} → cut ≡ U.Text n → text_length cut ≤ length rest → n ≤ length rest
+module _ {cut : Unit} (rest : List ℕ) {n : ℕ} (q : cut ≡ U.Text n) where
+  pub line_fits : text_length cut ≤ length rest → n ≤ length rest
   unfolding text_length
-  line_fits q h = rw q at h
+  line_fits h = rw q at h
 
-  pub line_long : cut ≡ U.Long → S.Nothing ≡ seen_by (line_told cut rest)
-  unfolding line_told seen_by
-  line_long q = rw q
+  pub line_text : {k : ℕ} → k ≡ 256 → {t : T.Told Entry} → t ≡ parse_of Lenient (take n rest) k → t ≡ line_told cut rest
+  unfolding line_told
+  line_text enough e = e ∙ rw (enough, q)
 
-  pub line_cut : cut ≡ U.Cut → S.Nothing ≡ seen_by (line_told cut rest)
-  unfolding line_told seen_by
-  line_cut q = rw q
-
-  pub line_open : cut ≡ U.Open → S.Nothing ≡ seen_by (line_told cut rest)
-  unfolding line_told seen_by
-  line_open q = rw q
-
-  pub line_alien : cut ≡ U.Alien → S.Nothing ≡ seen_by (line_told cut rest)
-  unfolding line_told seen_by
-  line_alien q = rw q
-
--- how many bytes stand there to be read
-pub size_text : {cut : Unit} {n : ℕ} → cut ≡ U.Text n → n ≡ text_length cut
-unfolding text_length
-size_text q = rw q
-
-pub size_long : {cut : Unit} → cut ≡ U.Long → 0 ≡ text_length cut
-unfolding text_length
-size_long q = rw q
-
-pub size_cut : {cut : Unit} → cut ≡ U.Cut → 0 ≡ text_length cut
-unfolding text_length
-size_cut q = rw q
-
-pub size_open : {cut : Unit} → cut ≡ U.Open → 0 ≡ text_length cut
-unfolding text_length
-size_open q = rw q
-
-pub size_alien : {cut : Unit} → cut ≡ U.Alien → 0 ≡ text_length cut
-unfolding text_length
-size_alien q = rw q
+pub line_none : (cut : Unit) (rest : List ℕ) → ((n : ℕ) → cut ≡ U.Text n → ⊥) → T.absent ≡ line_told cut rest
+unfolding line_told
+line_none (U.Text n) rest h = absurd (h n refl)
+line_none U.Long rest h = refl
+line_none U.Cut rest h = refl
+line_none U.Open rest h = refl
+line_none U.Alien rest h = refl
 
 -- one unit more
 module _ (c : Counts) {seen : Seen} where
-  pub count_entry : {kind dwords n m : ℕ} → seen ≡ S.Entry kind dwords → n ≡ one_more c.units → m ≡ one_more c.entries → ◌≡◌ {A = Counts} (record { units = n; entries = m }) (counted c seen)
-  unfolding counted
-  count_entry q a b = rw (q, a, b)
-
-  pub count_refused : {k n : ℕ} → seen ≡ S.Refused k → n ≡ one_more c.units → ◌≡◌ {A = Counts} (record { units = n; entries = c.entries }) (counted c seen)
-  unfolding counted
-  count_refused q a = rw (q, a)
-
-  pub count_none : seen ≡ S.Nothing → c ≡ counted c seen
+  count_none : seen ≡ S.Nothing → c ≡ counted c seen
   unfolding counted
   count_none q = rw q
 
@@ -152,40 +93,54 @@ refused_short n k =
     two : (x y : List ℕ) → length x ≤ 20 → length y ≤ 9 + 20 → length (x ++ (y ++ (10 ∷ []))) ≤ 75
     two x y a b = omega (arith, length-append x (y ++ (10 ∷ [])), length-append y (10 ∷ []))
 
--- the row of a unit
-module _ (seen : Seen) (out : List ℕ) (run : Run) (out' : List ℕ) {next : Counts} (count : next ≡ counted run.counts seen) (r : ℕ) where
+-- the row of a unit, by its answer
+module _ (out : List ℕ) (run : Run) (out' : List ℕ) (answer : Result (Option Entry) Refusal) {next : Counts}
+  (count : next ≡ counted run.counts (seen_by (told_maybe answer))) (r : ℕ) where
   abbrev with_row : Run
   with_row = record { from = run.from; state = run.state; at = r; told = run.told; counts = next }
 
-  pub entry_row_put : {kind dwords : ℕ} → seen ≡ S.Entry kind dwords → Put out run.at (entry_row next.units kind dwords) out' r → RowPut seen out run out' with_row
-  unfolding row_of
-  entry_row_put {kind} {dwords} q p =
+  pub entry_row_put : {e : Entry} → answer ≡ Ok (Some e) → Put out run.at (entry_row next.units e.kind e.dwords) out' r
+      → RowPut (seen_by (told_maybe answer)) out run out' with_row
+  unfolding row_of seen_by
+  entry_row_put {e} q p =
+      let seen : seen_by (told_maybe answer) ≡ S.Entry e.kind e.dwords = rw q in
+      let units : next.units ≡ one_more run.counts.units = units_entry run.counts count seen in
       record {
         from_is = refl;
         state_is = refl;
         counts_is = count;
         told_is = refl;
-        put = rw (q, ← units_entry run.counts count q) p;
-        short = omega (arith, p.place, entry_short next.units kind dwords);
+        put = rw (q, ← units) p;
+        short = omega (arith, p.place, entry_short next.units e.kind e.dwords);
       }
 
-  pub refused_row_put : {k : ℕ} → seen ≡ S.Refused k → Put out run.at (refused_row next.units k) out' r → RowPut seen out run out' with_row
-  unfolding row_of
+  pub refused_row_put : {k : Refusal} → answer ≡ Err k → Put out run.at (refused_row next.units (number_of k)) out' r
+      → RowPut (seen_by (told_maybe answer)) out run out' with_row
+  unfolding row_of seen_by
   refused_row_put {k} q p =
+      let seen : seen_by (told_maybe answer) ≡ S.Refused (number_of k) = rw q in
+      let units : next.units ≡ one_more run.counts.units = units_refused run.counts count seen in
       record {
         from_is = refl;
         state_is = refl;
         counts_is = count;
         told_is = refl;
-        put = rw (q, ← units_refused run.counts count q) p;
-        short = omega (arith, p.place, refused_short next.units k);
+        put = rw (q, ← units) p;
+        short = omega (arith, p.place, refused_short next.units (number_of k));
       }
 
--- no row where no unit ended
-pub no_row_put : (seen : Seen) (out : List ℕ) (run : Run) → run.at ≤ length out → seen ≡ S.Nothing → RowPut seen out run out run
-unfolding row_of
-no_row_put seen out run room q =
-    record { from_is = refl; state_is = refl; counts_is = count_none run.counts q; told_is = refl; put = rw q (put_none out run.at room); short = omega arith }
+  -- no row where no unit ended
+  pub no_row_put : answer ≡ Ok None → out' ≡ out → r ≡ run.at → run.at ≤ length out → RowPut (seen_by (told_maybe answer)) out run out' with_row
+  unfolding row_of seen_by
+  no_row_put q same place room =
+      record {
+        from_is = refl;
+        state_is = refl;
+        counts_is = count;
+        told_is = refl;
+        put = rw (q, same, place) (put_none out run.at room);
+        short = omega (arith, place);
+      }
 
 -- what is told of a unit without a record
 module _ (told : List ℕ) (run : Run) (told' : List ℕ) {next : Counts} (r : ℕ) where
@@ -285,10 +240,10 @@ module _ (out told : List ℕ) (run : Run) (at_room : run.at ≤ length out) (to
   last_pack pieces p = record { counts_is = refl; put = put_none out run.at at_room; tells = p }
 
 -- the size of a record that was written
-pub bytes_size : {m n : ℕ} → Ok m ≡ Ok n → m ≡ n
+pub bytes_size : {m n : ℕ} → ◌≡◌ {A = Result ℕ Refusal} (Ok m) (Ok n) → m ≡ n
 bytes_size e = cc
 
 -- a record that was put
-pub record_unit : (text : List ℕ) (e : Entry) (dwords out : List ℕ) (run : Run) (out' : List ℕ) (n : ℕ) {next : Counts} → next ≡ counted run.counts (S.Entry e.kind e.dwords) → Ok (length (bytes_of text e dwords)) ≡ Ok n → Put out run.at (bytes_of text e dwords) out' (run.at + length (bytes_of text e dwords)) → RecordPut text e dwords out run out' (record { from = run.from; state = run.state; at = run.at + n; told = run.told; counts = next })
+pub record_unit : (text : List ℕ) (e : Entry) (dwords out : List ℕ) (run : Run) (out' : List ℕ) (n : ℕ) {next : Counts} → next ≡ counted run.counts (S.Entry e.kind e.dwords) → ◌≡◌ {A = Result ℕ Refusal} (Ok (length (bytes_of text e dwords))) (Ok n) → Put out run.at (bytes_of text e dwords) out' (run.at + length (bytes_of text e dwords)) → RecordPut text e dwords out run out' (record { from = run.from; state = run.state; at = run.at + n; told = run.told; counts = next })
 record_unit text e dwords out run out' n count q p =
     record { from_is = refl; state_is = refl; counts_is = count; told_is = refl; put = rw (← bytes_size q) p }

@@ -6,8 +6,8 @@ use Rattle.listing_rows.specs.Rows.{totals_row}
 use Rattle.filters.specs.declared.Filter.{Filter}
 use Rattle.filters.specs.declared.Filter.TheVariants as F
 use Rattle.filters.specs.declared.Counts.{Counts}
-use Rattle.filters.specs.declared.row.Seen.{Seen}
-use Rattle.filters.specs.declared.row.Seen.TheVariants as S
+use Rattle.filters.specs.Seen.{Seen}
+use Rattle.filters.specs.Seen as S
 use Rattle.filters.specs.Texts.{answer_by, seen_by, row_of, record_by, told_by}
 
 -- one more, in 64 bits

@@ -1,4 +1,5 @@
 -- What the filters put out: of each unit, and of each call.
+pub mod Seen
 pub mod Texts
 pub mod Bounds
 pub mod Filter

@@ -5,8 +5,8 @@ use Rattle.entry.specs.declared.Entry.{Entry}
 use Rattle.writer.specs.Writing.{write_of, bytes_of}
 use Rattle.listing_rows.specs.Rows.{Put}
 use Rattle.filters.specs.declared.Run.{Run}
-use Rattle.filters.specs.declared.row.Seen.{Seen}
-use Rattle.filters.specs.declared.row.Seen.TheVariants as S
+use Rattle.filters.specs.Seen.{Seen}
+use Rattle.filters.specs.Seen as S
 use Rattle.filters.specs.Texts.{row_of, told_by}
 use Rattle.filters.specs.Filter.{one_more, counted}
 

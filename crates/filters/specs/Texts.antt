@@ -15,8 +15,8 @@ use Rattle.stream.specs.Answers.{answer_of, said_by, records_of}
 use Rattle.stream.specs.Feeding.{unit_told}
 use Rattle.filters.specs.declared.Filter.{Filter}
 use Rattle.filters.specs.declared.Filter.TheVariants as F
-use Rattle.filters.specs.declared.row.Seen.{Seen}
-use Rattle.filters.specs.declared.row.Seen.TheVariants as S
+use Rattle.filters.specs.Seen.{Seen}
+use Rattle.filters.specs.Seen as S
 
 -- how a filter's input is cut into units, and how what it puts out is
 abbrev pub framing_of : Filter → Framing

@@ -9,17 +9,22 @@ mod packing;
 mod row;
 
 ghost use Rattle.std.specs.Prelude.{◌≡◌, true, ◌+◌, ◌≤◌, ◌<◌, length};
+ghost use Rattle.refusal.specs.Told.{told_maybe};
 ghost use Rattle.units.specs.Kept.{is_kept};
 ghost use Rattle.units.specs.Feeding.{text_length};
 ghost use Rattle.units.specs.Counting.{Ended};
 ghost use Rattle.filters.specs.Bounds.{Room, Within, Goes, Stops};
-ghost use Rattle.filters.specs.Texts.{framing_of, put_framing};
+ghost use Rattle.filters.specs.Texts.{framing_of, put_framing, seen_by};
+ghost use Rattle.filters.specs.Filter.{counted};
 ghost use Rattle.filters.specs.Calls.{CutPut, LastPut, Took, Finished};
 
 use crate::packing::pack_unit;
-use crate::row::{put_row, see_line, see_unit};
+use crate::row::{put_row, read_line};
+use entry::Entry;
 use listing_rows::at::put_totals;
+use refusal::Refusal;
 use scan::Pieces;
+use stream::read_unit;
 use units::{Framing, State, Unit, feed_on, units_in};
 
 // The listing reads lines leniently, always. What is packed, and what is listed of lines and records, is read by a choice.
@@ -31,7 +36,7 @@ pub enum Filter {
 }
 
 // How many units there were, and how many of them were entries.
-#[derive(Clone, Copy)]
+#[derive(Clone, Copy, Debug, PartialEq, Eq)]
 pub struct Counts {
     pub units: u64,
     pub entries: u64,
@@ -47,23 +52,44 @@ pub struct Run {
     pub counts: Counts,
 }
 
-pub fn start() -> Counts
-    ensures { (result.units ≡ 0) × (result.entries ≡ 0) }
-{
-    Counts {
-        units: 0,
-        entries: 0,
+impl Counts {
+    pub fn start() -> Counts
+        ensures { (result.units ≡ 0) × (result.entries ≡ 0) }
+    {
+        Counts {
+            units: 0,
+            entries: 0,
+        }
+    }
+
+    // The counts with one unit more, if one ended, by its answer; no count leaves its type.
+    #[tactic(auto, unfolding(crate::specs::Filter::counted, crate::specs::Filter::one_more, crate::specs::Texts::seen_by))]
+    fn with(self, answer: Result<Option<Entry>, Refusal>) -> Counts
+        ensures { result ≡ counted self (seen_by (told_maybe answer)) }
+    {
+        match answer {
+            Ok(Some(_)) => Counts {
+                units: self.units.saturating_add(1),
+                entries: self.entries.saturating_add(1),
+            },
+            Err(_) => Counts {
+                units: self.units.saturating_add(1),
+                ..self
+            },
+            Ok(None) => self,
+        }
     }
 }
 
-// What a filter's input is made of.
-fn framing_of(filter: Filter) -> Framing
-    ensures { result ≡ framing_of filter }
-{
-    match filter {
-        Filter::Listing => Framing::Lines,
-        Filter::Pack(_) => Framing::Both,
-        Filter::Unpack(_) => Framing::Both,
+impl Filter {
+    // What the input is made of.
+    fn framing(self) -> Framing
+        ensures { result ≡ framing_of self }
+    {
+        match self {
+            Filter::Listing => Framing::Lines,
+            Filter::Pack(_) | Filter::Unpack(_) => Framing::Both,
+        }
     }
 }
 
@@ -72,9 +98,8 @@ pub fn whole_in(filter: Filter, put: &[u8]) -> usize
     ensures { Ended (put_framing filter) put.now result }
 {
     match filter {
-        Filter::Listing => units_in(Framing::Lines, put),
+        Filter::Listing | Filter::Unpack(_) => units_in(Framing::Lines, put),
         Filter::Pack(_) => units_in(Framing::Both, put),
-        Filter::Unpack(_) => units_in(Framing::Lines, put),
     }
 }
 
@@ -91,9 +116,12 @@ fn put_unit(
     ensures { CutPut filter cut unit.now out.old told.old run out.new told.new result }
 {
     match filter {
-        Filter::Listing => put_row(see_line(cut, unit), out, run),
+        Filter::Listing => put_row(read_line(cut, unit), out, run),
         Filter::Pack(pieces) => pack_unit(cut, pieces, unit, out, told, run),
-        Filter::Unpack(pieces) => put_row(see_unit(cut, pieces, unit), out, run),
+        Filter::Unpack(pieces) => {
+            let mut slots = [0u32; 256];
+            put_row(read_unit(cut, pieces, unit, &mut slots), out, run)
+        }
     }
 }
 
@@ -109,18 +137,13 @@ fn turn(
     requires { (run.from < length part.now) × (is_kept (framing_of filter) unit.old run.state.held run.state.passed ≡ true) × (Room (length out.old) (length told.old) run) }
     ensures { (Took filter part.now unit.old out.old told.old run unit.new out.new told.new result) × (run.from < result.from) }
 {
-    let fed = feed_on(framing_of(filter), run.state, part, run.from, unit);
-    let state = fed.state;
-    let cut = fed.unit;
-    let counts = run.counts;
+    let fed = feed_on(filter.framing(), run.state, part, run.from, unit);
     let next = Run {
         from: fed.at,
-        state: state,
-        at: run.at,
-        told: run.told,
-        counts: counts,
+        state: fed.state,
+        ..run
     };
-    put_unit(filter, cut, unit, out, told, next)
+    put_unit(filter, fed.unit, unit, out, told, next)
 }
 
 // What the units of a part put out, for as much of it as there is room for: until the part is used up, or an output has less room than a
@@ -157,7 +180,7 @@ pub fn finish(filter: Filter, unit: &[u8], out: &mut [u8], told: &mut [u8], run:
     requires { (is_kept (framing_of filter) unit.now run.state.held run.state.passed ≡ true) × (Room (length out.old) (length told.old) run) }
     ensures { Finished filter unit.now out.old told.old run out.new told.new result }
 {
-    let cut = units::finish(framing_of(filter), run.state, unit);
+    let cut = units::finish(filter.framing(), run.state, unit);
     let put = put_unit(filter, cut, unit, out, told, run);
     put_last(filter, out, told, put)
 }
@@ -167,21 +190,15 @@ fn put_last(filter: Filter, out: &mut [u8], told: &mut [u8], run: Run) -> Run
     requires { (run.at + 64 ≤ length out.old) × (run.told + 64 ≤ length told.old) }
     ensures { LastPut filter out.old told.old run out.new told.new result }
 {
-    let units = run.counts.units;
-    let entries = run.counts.entries;
-    let mut done = run;
+    let Counts { units, entries } = run.counts;
     match filter {
-        Filter::Listing => {
-            done.at = put_totals(out, run.at, units, entries);
-            return done;
-        }
-        Filter::Unpack(_) => {
-            done.at = put_totals(out, run.at, units, entries);
-            return done;
-        }
-        Filter::Pack(_) => {
-            done.told = put_totals(told, run.told, units, entries);
-            return done;
-        }
+        Filter::Listing | Filter::Unpack(_) => Run {
+            at: put_totals(out, run.at, units, entries),
+            ..run
+        },
+        Filter::Pack(_) => Run {
+            told: put_totals(told, run.told, units, entries),
+            ..run
+        },
     }
 }

@@ -1,16 +1,17 @@
 // A unit packed: the record of its entry, or the row that tells why there is none.
 ghost use Rattle.std.specs.Prelude.{◌≡◌, ◌+◌, ◌≤◌, length};
+ghost use Rattle.refusal.specs.Number.{number_of};
 ghost use Rattle.units.specs.Feeding.{text_length};
 ghost use Rattle.filters.specs.declared.Filter.TheVariants as F;
-ghost use Rattle.filters.specs.declared.row.Seen.TheVariants as S;
+ghost use Rattle.filters.specs.Seen as S;
 ghost use Rattle.filters.specs.Bounds.{Room};
 ghost use Rattle.filters.specs.Rows.{Told, RecordPut, Recorded};
 ghost use Rattle.filters.specs.Calls.{CutPut};
 
 use crate::Run;
-use crate::row::{Seen, count};
 use entry::Entry;
 use listing_rows::at::put_refused;
+use refusal::Refusal;
 use scan::Pieces;
 use stream::read_unit;
 use units::Unit;
@@ -33,21 +34,19 @@ pub fn pack_unit(
     let mut slots = [0u32; 256];
     match read_unit(cut, pieces, unit, &mut slots) {
         Ok(Some(e)) => put_record(&unit[..size], e, &slots, out, run),
-        Err(number) => tell(told, run, number),
+        Err(refusal) => tell(told, run, refusal),
         Ok(None) => run,
     }
 }
 
 // How many bytes of a unit stand in the buffer to be read.
+#[tactic(auto, unfolding(units::specs::Feeding::text_length))]
 fn text_size(cut: Unit) -> usize
     ensures { result ≡ text_length cut }
 {
     match cut {
         Unit::Text(n) => n,
-        Unit::Long => 0,
-        Unit::Cut => 0,
-        Unit::Open => 0,
-        Unit::Alien => 0,
+        Unit::Long | Unit::Cut | Unit::Open | Unit::Alien => 0,
     }
 }
 
@@ -57,33 +56,26 @@ fn put_record(text: &[u8], e: Entry, dwords: &[u32], out: &mut [u8], run: Run) -
     ensures { RecordPut text.now e dwords.now out.old run out.new result }
 {
     let at = run.at;
-    let mut done = run;
-    match write(text, e, dwords, &mut out[at..]) {
-        Ok(n) => {
-            done.at = at + n;
-            done.counts = count(
-                run.counts,
-                Seen::Entry {
-                    kind: e.kind,
-                    dwords: e.dwords,
-                },
-            );
-            return done;
-        }
-        Err(_) => {
-            return done;
-        }
+    let Ok(n) = write(text, e, dwords, &mut out[at..]) else {
+        return run;
+    };
+    Run {
+        at: at + n,
+        counts: run.counts.with(Ok(Some(e))),
+        ..run
     }
 }
 
 // The row of a unit that is refused.
-fn tell(told: &mut [u8], run: Run, number: u8) -> Run
+fn tell(told: &mut [u8], run: Run, refusal: Refusal) -> Run
     requires { run.told + 64 ≤ length told.old }
-    ensures { Told (S.Refused number) told.old run told.new result }
+    ensures { Told (S.Refused (number_of refusal)) told.old run told.new result }
 {
-    let next = count(run.counts, Seen::Refused(number));
-    let mut done = run;
-    done.told = put_refused(told, run.told, next.units, number);
-    done.counts = next;
-    done
+    let counts = run.counts.with(Err(refusal));
+    let end = put_refused(told, run.told, counts.units, refusal.number());
+    Run {
+        told: end,
+        counts,
+        ..run
+    }
 }

@@ -1,7 +1,7 @@
 // Where a program stands between two calls.
 ghost use Rattle.moving.specs.Steps.{Begun, Shut, Over, Runs, Kept};
 
-use filters::{Counts, Run, start};
+use filters::{Counts, Run};
 
 // The filter's run, what is kept of the open unit as two numbers; how many rows or records were written whole; 0 or the errno of the write to standard output that failed; whether one to
 // standard error did; 0 or the errno of the read that failed; and whether there may be more input.
@@ -23,7 +23,7 @@ pub struct State {
 pub fn begin() -> State
     ensures { Begun result }
 {
-    let counts = start();
+    let counts = Counts::start();
     State {
         from: 0,
         held: 0,

@@ -46,7 +46,7 @@ use Rattle.intake.specs.Intake.{starts_a1, taken_of, taken_dwords}
 use Rattle.intake.specs.Packets.{packet_by, packet_taken}
 use Rattle.intake.specs.What.{grammar_of, what_of}
 use Rattle.intake.proofs.WhatItIs.{record_number_range}
-use Rattle.filters.specs.declared.row.Seen.TheVariants as S
+use Rattle.filters.specs.Seen as S
 use Rattle.scan.specs.declared.Pieces.TheVariants.{Lenient}
 use Rattle.filters.specs.declared.Filter.{Filter}
 use Rattle.filters.specs.declared.Filter.TheVariants as F

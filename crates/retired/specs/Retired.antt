@@ -22,8 +22,8 @@ use Rattle.intake.specs.declared.What.TheVariants as Is
 use Rattle.intake.specs.Intake.{Taken}
 use Rattle.intake.specs.Packets.{PacketTaken}
 use Rattle.intake.specs.What.{what_of}
-use Rattle.filters.specs.declared.row.Seen.{Seen}
-use Rattle.filters.specs.declared.row.Seen.TheVariants as S
+use Rattle.filters.specs.Seen.{Seen}
+use Rattle.filters.specs.Seen as S
 use Rattle.filters.specs.declared.Filter.{Filter}
 use Rattle.filters.specs.Texts.{seen_line, seen_of}
 use Rattle.unanswered_rows.specs.declared.Row.{Row}

@@ -23,8 +23,8 @@ use Rattle.stream.specs.Answers.{answer_of, said_by, said_of, records_of}
 use Rattle.filters.specs.declared.Filter.{Filter}
 use Rattle.filters.specs.declared.Filter.TheVariants as F
 use Rattle.filters.specs.declared.Counts.{Counts}
-use Rattle.filters.specs.declared.row.Seen.{Seen}
-use Rattle.filters.specs.declared.row.Seen.TheVariants as S
+use Rattle.filters.specs.Seen.{Seen}
+use Rattle.filters.specs.Seen as S
 use Rattle.filters.specs.Texts.{answer_by, seen_by, seen_of, row_of, is_entry, record_by, told_by}
 use Rattle.filters.specs.Filter.{one_more, counted, out_by, tell_by, out_text, told_text, next_counts, last_out, last_told, after, texts}
 use Rattle.whole_output.specs.Output.{rows_from, entries_in, listed, refused_rows, packing_of, packing_tells}

@@ -17,8 +17,8 @@ use Rattle.stream.specs.Answers.{said_of, records_of}
 use Rattle.stream.proofs.Records.{said_ranged, records_units, records_say}
 use Rattle.stream.proofs.FedAgain.{units_bytes}
 use Rattle.filters.specs.declared.Filter.TheVariants as F
-use Rattle.filters.specs.declared.row.Seen.{Seen}
-use Rattle.filters.specs.declared.row.Seen.TheVariants as S
+use Rattle.filters.specs.Seen.{Seen}
+use Rattle.filters.specs.Seen as S
 use Rattle.filters.specs.Texts.{seen_of, row_of, is_entry, told_by}
 use Rattle.whole_output.specs.Output.{rows_from, entries_in, listed, refused_rows, unpacking_of, packing_of, packing_tells}
 use Rattle.whole_output.specs.Chains.{Went}

@@ -30,7 +30,7 @@ use Rattle.units.proofs.Streams.{not_both}
 use Rattle.stream.specs.Answers.{answer_of, said_by, said_of, records_of}
 use Rattle.stream.proofs.Records.{record_answer, record_is_bytes, said_belongs, unit_says}
 use Rattle.filters.specs.declared.Filter.TheVariants as F
-use Rattle.filters.specs.declared.row.Seen.TheVariants as S
+use Rattle.filters.specs.Seen as S
 use Rattle.filters.specs.Texts.{answer_by, seen_by, seen_of, seen_line, seen_record, record_by}
 use Rattle.whole_output.specs.Output.{packing_of}
 use Rattle.whole_output.specs.Meaning.{Tells, TextsMean}

@@ -11,7 +11,7 @@ use Rattle.scan.specs.Frame.{idle, first_high, frame_colon, frame_ascii, frame_o
 use Rattle.scan.specs.Parse.{with_frame, parse_of}
 use Rattle.scan.proofs.Cases.{fwd}
 use Rattle.listing_rows.specs.Rows.{word_and_number, refused_row, entry_row, totals_row}
-use Rattle.filters.specs.declared.row.Seen.TheVariants as S
+use Rattle.filters.specs.Seen as S
 use Rattle.filters.specs.Texts.{answer_by, seen_by, seen_of, seen_line, row_of, is_entry}
 use Rattle.whole_output.specs.Output.{rows_from, entries_in, listed, listing_of}
 

@@ -13,7 +13,7 @@ use Rattle.units.specs.declared.Framing.{Framing}
 use Rattle.units.specs.Units.{stated, Units, Open}
 use Rattle.stream.specs.Answers.{answer_of}
 use Rattle.filters.specs.declared.Filter.TheVariants as F
-use Rattle.filters.specs.declared.row.Seen.TheVariants as S
+use Rattle.filters.specs.Seen as S
 use Rattle.filters.specs.Texts.{seen_of, seen_line, seen_record, record_by}
 use Rattle.whole_output.specs.Output.{packing_of}
 

@@ -5,7 +5,7 @@ use Rattle.listing_rows.specs.Rows.{totals_row}
 use Rattle.scan.specs.declared.Pieces.{Pieces}
 use Rattle.stream.specs.Answers.{said_of, records_of}
 use Rattle.filters.specs.declared.Filter.TheVariants as F
-use Rattle.filters.specs.declared.row.Seen.{Seen}
+use Rattle.filters.specs.Seen.{Seen}
 use Rattle.filters.specs.Texts.{seen_of, row_of, is_entry, told_by}
 
 module _ (see : List ℕ → Seen) where

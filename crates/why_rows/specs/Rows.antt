@@ -1,11 +1,12 @@
 -- The rows of `why`, each with its newlines.
-use Rattle.std.specs.Prelude.{ℕ, ◌+◌, ◌≤◌, ◌<◌, ◌≡◌, List, [], ◌∷◌, ◌++◌, replicate}
+use Rattle.std.specs.Prelude.{ℕ, ◌+◌, ◌<◌, ◌≡◌, List, [], ◌∷◌, ◌++◌, replicate}
 use Rattle.text.specs.Quote.{bytes}
-use Rattle.listing_rows.specs.Rows.{word_and_number}
+use Rattle.listing_rows.specs.Rows.{Room, word_and_number}
 use Rattle.escape.specs.Escape.{escaped}
 use Rattle.why_rows.specs.declared.What.{What}
-use Rattle.why_rows.specs.declared.Reason.{Reason}
-use Rattle.why_rows.specs.declared.Reason.TheVariants as R
+use Rattle.text.specs.declared.number.BadNumber.{BadNumber}
+use Rattle.text.specs.declared.number.BadNumber.TheVariants as R
+use Rattle.print.specs.declared.page.Page.{Page}
 use Rattle.why_rows.specs.declared.tally.Counts.{Counts}
 use Rattle.why_rows.specs.Names.{name_text, bits_of}
 
@@ -22,7 +23,7 @@ unfoldable pub width_text : ℕ → List ℕ
 width_text bits = word_and_number (bytes "too wide for ") bits ++ (bytes " bits" ++ (10 ∷ []))
 
 -- why it is none
-unfoldable pub reason_text : What → Reason → List ℕ
+unfoldable pub reason_text : What → BadNumber → List ℕ
 reason_text what R.Empty = bytes "empty" ++ (10 ∷ [])
 reason_text what (R.BadDigit k) = place_text k
 reason_text what R.TooWide = width_text (bits_of what)
@@ -37,13 +38,13 @@ unfoldable pub mark_text : ℕ → List ℕ
 mark_text k = bytes "    " ++ (replicate k 32 ++ (bytes "^" ++ (10 ∷ [])))
 
 -- a bad digit has a mark, and no other reason does
-unfoldable pub caret_text : Reason → List ℕ
+unfoldable pub caret_text : BadNumber → List ℕ
 caret_text R.Empty = []
 caret_text (R.BadDigit k) = mark_text k
 caret_text R.TooWide = []
 
 -- the row of an unreadable number of a line
-unfoldable pub row_text : ℕ → What → List ℕ → Reason → List ℕ
+unfoldable pub row_text : ℕ → What → List ℕ → BadNumber → List ℕ
 row_text line what text reason = head_text line what ++ (reason_text what reason ++ (shown_text text ++ caret_text reason))
 
 -- `: empty E, bad digit B, too wide W`
@@ -61,9 +62,9 @@ totals_text c =
 -- ---- what is asked of callers
 
 -- a bad digit is in a text of n bytes
-abbrev pub PlaceWithin : Reason → ℕ → Type 0
+abbrev pub PlaceWithin : BadNumber → ℕ → Type 0
 PlaceWithin reason n = (k : ℕ) → reason ≡ R.BadDigit k → k < n
 
--- there is room for the mark from a place on
-abbrev pub CaretRoom : Reason → ℕ → ℕ → Type 0
-CaretRoom reason at n = (k : ℕ) → reason ≡ R.BadDigit k → at + k + 6 ≤ n
+-- there is room for the mark on a page
+abbrev pub CaretRoom : BadNumber → Page → Type 0
+CaretRoom reason p = (k : ℕ) → reason ≡ R.BadDigit k → Room p (k + 6)

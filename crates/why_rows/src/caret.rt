@@ -1,42 +1,36 @@
 // The mark below a bad digit. Before that digit stand only hex digits and `0x`, which are shown as they are, so the mark is below it.
-ghost use Rattle.std.specs.Prelude.{◌≡◌, ℕ, ◌+◌, ◌≤◌, length, replicate};
-ghost use Rattle.listing_rows.specs.Rows.{Put};
-ghost use Rattle.unanswered_rows.specs.Parts.{Part};
+ghost use Rattle.std.specs.Prelude.{◌+◌, replicate};
+ghost use Rattle.listing_rows.specs.Rows.{Room, PutOn};
 ghost use Rattle.why_rows.specs.Rows.{CaretRoom, caret_text, mark_text};
 
-use crate::Reason;
-use print::put::put;
+use print::page::Page;
+use text::number::BadNumber;
 use unanswered_rows::parts::put_text;
 
-pub fn put_caret(out: &mut [u8], at: usize, reason: Reason) -> usize
-    requires { (at ≤ length out.old) × (CaretRoom reason at (length out.old)) }
-    ensures { Put out.old at (caret_text reason) out.new result }
+#[tactic(auto, using(crate::proofs::Rowing::nothing_on), unfolding(crate::specs::Rows::caret_text))]
+pub fn put_caret(page: &mut Page, reason: BadNumber)
+    requires { CaretRoom reason page.old }
+    ensures { PutOn page.old (caret_text reason) page.new }
 {
-    match reason {
-        Reason::Empty => at,
-        Reason::BadDigit(place) => put_mark(out, at, place),
-        Reason::TooWide => at,
+    if let BadNumber::BadDigit(place) = reason {
+        put_mark(page, place);
     }
 }
 
-fn put_mark(out: &mut [u8], at: usize, place: usize) -> usize
-    requires { at + place + 6 ≤ length out.old }
-    ensures { Put out.old at (mark_text place) out.new result }
+fn put_mark(page: &mut Page, place: usize)
+    requires { Room page.old (place + 6) }
+    ensures { PutOn page.old (mark_text place) page.new }
 {
-    let a = put_text(out, at, b"    ");
-    let b = put_blanks(out, a, place);
-    put_text(out, b, b"^\n")
+    put_text(page, b"    ");
+    put_blanks(page, place);
+    put_text(page, b"^\n");
 }
 
-fn put_blanks(out: &mut [u8], at: usize, n: usize) -> usize
-    requires { at + n ≤ length out.old }
-    ensures { Put out.old at (replicate n 32) out.new result }
+fn put_blanks(page: &mut Page, n: usize)
+    requires { Room page.old n }
+    ensures { PutOn page.old (replicate n 32) page.new }
 {
-    let mut i: usize = 0;
-    let mut behind = at;
-    while i < n {
-        behind = put(out, behind, b" ");
-        i += 1;
+    for i in 0..n {
+        page.put(b" ");
     }
-    behind
 }

@@ -8,111 +8,108 @@ mod caret;
 mod name;
 pub mod tally;
 
-ghost use Rattle.std.specs.Prelude.{◌≡◌, ◌+◌, ◌*◌, ◌≤◌, ◌<◌, length};
-ghost use Rattle.listing_rows.specs.Rows.{Put};
-ghost use Rattle.unanswered_rows.specs.Parts.{Part};
+ghost use Rattle.std.specs.Prelude.{◌+◌, ◌*◌, length};
+ghost use Rattle.listing_rows.specs.Rows.{Room, PutOn};
+ghost use Rattle.unanswered_rows.specs.Parts.{PartOn};
 ghost use Rattle.why_rows.specs.Rows.{PlaceWithin, row_text, head_text, reason_text, place_text, width_text, shown_text, totals_text, reasons_text};
 
 use crate::caret::put_caret;
-use crate::name::{bits_of, put_name};
+use crate::name::put_name;
 use crate::tally::Counts;
-use escape::at::put_escaped;
+use escape::put_escaped;
+use print::page::Page;
 use reasons::Key;
+use text::number::BadNumber;
 use unanswered_rows::parts::{put_number, put_text};
 
 // Which number of a line: the value of a key, or the piece of its data of that number, from 0.
-#[derive(Clone, Copy)]
+#[derive(Clone, Copy, Debug, PartialEq, Eq, Hash)]
 pub enum What {
     Key(Key),
     Piece(u64),
 }
 
-// Why it is none. A bad digit's place counts from the text's start, a leading `0x` counted.
-#[derive(Clone, Copy)]
-pub enum Reason {
-    Empty,
-    BadDigit(usize),
-    TooWide,
-}
-
-// The row of a number of the line with that number. Asked for: room, and a bad digit that is in the text, both of which `say_row` of the program has.
-pub fn put_row(out: &mut [u8], line: u64, what: What, text: &[u8], reason: Reason) -> usize
-    requires { (256 + 5 * length text.now ≤ length out.old) × (PlaceWithin reason (length text.now)) }
-    ensures { Put out.old 0 (row_text line what text.now reason) out.new result }
+// The row of a number of the line with that number, and why it is none. A bad digit's place counts from the text's start, a leading `0x` counted. Asked
+// for: room, and a bad digit that is in the text, both of which `say_row` of the program has.
+pub fn put_row(page: &mut Page, line: u64, what: What, text: &[u8], reason: BadNumber)
+    requires room { Room page.old (256 + 5 * length text.now) }
+    requires within { PlaceWithin reason (length text.now) }
+    ensures { PutOn page.old (row_text line what text.now reason) page.new }
 {
-    let a = put_head(out, line, what);
-    let b = put_reason(out, a, what, reason);
-    let c = put_shown(out, b, text);
-    put_caret(out, c, reason)
+    put_head(page, line, what);
+    put_reason(page, what, reason);
+    put_shown(page, text);
+    put_caret(page, reason);
 }
 
-fn put_head(out: &mut [u8], line: u64, what: What) -> usize
-    requires { 256 ≤ length out.old }
-    ensures { Part out.old 0 (head_text line what) out.new result 63 }
+fn put_head(page: &mut Page, line: u64, what: What)
+    requires { Room page.old 63 }
+    ensures { PartOn page.old (head_text line what) page.new 63 }
 {
-    let a = put_number(out, 0, b"line ", line);
-    let b = put_text(out, a, b", ");
-    let c = put_name(out, b, what);
-    put_text(out, c, b": ")
+    put_number(page, b"line ", line);
+    put_text(page, b", ");
+    put_name(page, what);
+    put_text(page, b": ");
 }
 
-fn put_reason(out: &mut [u8], at: usize, what: What, reason: Reason) -> usize
-    requires { at + 40 ≤ length out.old }
-    ensures { Part out.old at (reason_text what reason) out.new result 40 }
+#[tactic(auto, using(unanswered_rows::proofs::Joining::on_longer), unfolding(crate::specs::Rows::reason_text))]
+fn put_reason(page: &mut Page, what: What, reason: BadNumber)
+    requires { Room page.old 40 }
+    ensures { PartOn page.old (reason_text what reason) page.new 40 }
 {
     match reason {
-        Reason::Empty => put_text(out, at, b"empty\n"),
-        Reason::BadDigit(place) => put_place(out, at, place as u64),
-        Reason::TooWide => put_width(out, at, bits_of(what)),
+        BadNumber::Empty => put_text(page, b"empty\n"),
+        BadNumber::BadDigit(place) => put_place(page, place as u64),
+        BadNumber::TooWide => put_width(page, what.bits()),
     }
 }
 
-fn put_place(out: &mut [u8], at: usize, place: u64) -> usize
-    requires { at + 40 ≤ length out.old }
-    ensures { Part out.old at (place_text place) out.new result 40 }
+fn put_place(page: &mut Page, place: u64)
+    requires { Room page.old 40 }
+    ensures { PartOn page.old (place_text place) page.new 40 }
 {
-    let a = put_number(out, at, b"bad digit at place ", place);
-    put_text(out, a, b"\n")
+    put_number(page, b"bad digit at place ", place);
+    put_text(page, b"\n");
 }
 
-fn put_width(out: &mut [u8], at: usize, bits: u64) -> usize
-    requires { at + 40 ≤ length out.old }
-    ensures { Part out.old at (width_text bits) out.new result 39 }
+fn put_width(page: &mut Page, bits: u64)
+    requires { Room page.old 39 }
+    ensures { PartOn page.old (width_text bits) page.new 39 }
 {
-    let a = put_number(out, at, b"too wide for ", bits);
-    put_text(out, a, b" bits\n")
+    put_number(page, b"too wide for ", bits);
+    put_text(page, b" bits\n");
 }
 
 // The text itself, unless it has no byte.
-fn put_shown(out: &mut [u8], at: usize, text: &[u8]) -> usize
-    requires { at + (4 * length text.now + 5) ≤ length out.old }
-    ensures { Part out.old at (shown_text text.now) out.new result (4 * length text.now + 5) }
+fn put_shown(page: &mut Page, text: &[u8])
+    requires { Room page.old (4 * length text.now + 5) }
+    ensures { PartOn page.old (shown_text text.now) page.new (4 * length text.now + 5) }
 {
-    if text.len() == 0 {
-        return at;
+    if text.is_empty() {
+        return;
     }
-    let a = put_text(out, at, b"    ");
-    let b = put_escaped(out, a, text);
-    put_text(out, b, b"\n")
+    put_text(page, b"    ");
+    put_escaped(page, text);
+    put_text(page, b"\n");
 }
 
 // The last row.
-pub fn put_totals(out: &mut [u8], counts: Counts) -> usize
-    requires { 256 ≤ length out.old }
-    ensures { Put out.old 0 (totals_text counts) out.new result }
+pub fn put_totals(page: &mut Page, counts: Counts)
+    requires { Room page.old 256 }
+    ensures { PutOn page.old (totals_text counts) page.new }
 {
-    let a = put_number(out, 0, b"lines ", counts.lines);
-    let b = put_number(out, a, b" payloads ", counts.payloads);
-    let c = put_number(out, b, b" unreadable ", counts.unreadable);
-    put_reasons(out, c, counts)
+    put_number(page, b"lines ", counts.lines);
+    put_number(page, b" payloads ", counts.payloads);
+    put_number(page, b" unreadable ", counts.unreadable);
+    put_reasons(page, counts);
 }
 
-fn put_reasons(out: &mut [u8], at: usize, counts: Counts) -> usize
-    requires { at + 92 ≤ length out.old }
-    ensures { Part out.old at (reasons_text counts) out.new result 92 }
+fn put_reasons(page: &mut Page, counts: Counts)
+    requires { Room page.old 92 }
+    ensures { PartOn page.old (reasons_text counts) page.new 92 }
 {
-    let a = put_number(out, at, b": empty ", counts.empty);
-    let b = put_number(out, a, b", bad digit ", counts.bad);
-    let c = put_number(out, b, b", too wide ", counts.wide);
-    put_text(out, c, b"\n")
+    put_number(page, b": empty ", counts.empty);
+    put_number(page, b", bad digit ", counts.bad);
+    put_number(page, b", too wide ", counts.wide);
+    put_text(page, b"\n");
 }

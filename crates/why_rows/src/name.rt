@@ -1,61 +1,60 @@
 // What a number is called, and how wide it may be.
-ghost use Rattle.std.specs.Prelude.{◌≡◌, ◌+◌, ◌≤◌, length};
+ghost use Rattle.std.specs.Prelude.{◌≡◌};
+ghost use Rattle.listing_rows.specs.Rows.{Room};
 ghost use Rattle.reasons.specs.Reasons.{name_of};
-ghost use Rattle.unanswered_rows.specs.Parts.{Part};
+ghost use Rattle.unanswered_rows.specs.Parts.{PartOn};
 ghost use Rattle.why_rows.specs.Names.{name_text, piece_text, bits_of, key_bits};
 
 use crate::What;
+use print::page::Page;
 use reasons::Key;
 use unanswered_rows::parts::{put_number, put_text};
 
-pub fn put_name(out: &mut [u8], at: usize, what: What) -> usize
-    requires { at + 34 ≤ length out.old }
-    ensures { Part out.old at (name_text what) out.new result 34 }
+#[tactic(auto, using(unanswered_rows::proofs::Joining::on_longer), unfolding(crate::specs::Names::name_text))]
+pub fn put_name(page: &mut Page, what: What)
+    requires { Room page.old 34 }
+    ensures { PartOn page.old (name_text what) page.new 34 }
 {
     match what {
-        What::Key(key) => put_key(out, at, key),
-        What::Piece(i) => put_piece(out, at, i),
+        What::Key(key) => put_key(page, key),
+        What::Piece(i) => put_piece(page, i),
     }
 }
 
-fn put_key(out: &mut [u8], at: usize, key: Key) -> usize
-    requires { at + 34 ≤ length out.old }
-    ensures { Part out.old at (name_of key) out.new result 6 }
+fn put_key(page: &mut Page, key: Key)
+    requires { Room page.old 6 }
+    ensures { PartOn page.old (name_of key) page.new 6 }
 {
-    match key {
-        Key::Route => put_text(out, at, b"route"),
-        Key::Offset => put_text(out, at, b"offset"),
-        Key::Error => put_text(out, at, b"error"),
-        Key::Config => put_text(out, at, b"config"),
-        Key::Unplug => put_text(out, at, b"unplug"),
+    put_text(page, key.name());
+}
+
+fn put_piece(page: &mut Page, i: u64)
+    requires { Room page.old 34 }
+    ensures { PartOn page.old (piece_text i) page.new 34 }
+{
+    put_number(page, b"piece ", i);
+    put_text(page, b" of data");
+}
+
+impl What {
+    #[tactic(auto, unfolding(crate::specs::Names::bits_of))]
+    pub fn bits(self) -> u64
+        ensures { result ≡ bits_of self }
+    {
+        match self {
+            What::Key(key) => key_bits(key),
+            What::Piece(_) => 32,
+        }
     }
 }
 
-fn put_piece(out: &mut [u8], at: usize, i: u64) -> usize
-    requires { at + 34 ≤ length out.old }
-    ensures { Part out.old at (piece_text i) out.new result 34 }
-{
-    let a = put_number(out, at, b"piece ", i);
-    put_text(out, a, b" of data")
-}
-
-pub fn bits_of(what: What) -> u64
-    ensures { result ≡ bits_of what }
-{
-    match what {
-        What::Key(key) => key_bits(key),
-        What::Piece(_) => 32,
-    }
-}
-
+#[tactic(auto, unfolding(crate::specs::Names::key_bits))]
 fn key_bits(key: Key) -> u64
     ensures { result ≡ key_bits key }
 {
     match key {
         Key::Route => 64,
         Key::Offset => 16,
-        Key::Error => 8,
-        Key::Config => 8,
-        Key::Unplug => 8,
+        Key::Error | Key::Config | Key::Unplug => 8,
     }
 }

@@ -1,10 +1,10 @@
 // How many lines, payloads and unreadable numbers there were. No count passes the end of its type.
 ghost use Rattle.std.specs.Prelude.{◌≡◌};
-ghost use Rattle.why_rows.specs.Tally.{up, with_line, with_payload, tally};
+ghost use Rattle.why_rows.specs.Tally.{no_counts, with_line, with_payload, tally};
 
-use crate::Reason;
+use text::number::BadNumber;
 
-#[derive(Clone, Copy)]
+#[derive(Clone, Copy, Debug, PartialEq, Eq, Hash)]
 pub struct Counts {
     pub lines: u64,
     pub payloads: u64,
@@ -14,51 +14,47 @@ pub struct Counts {
     pub wide: u64,
 }
 
-// One more line.
-pub fn count_line(counts: Counts) -> Counts
-    ensures { result ≡ with_line counts }
-{
-    let mut next = counts;
-    next.lines = raise(counts.lines);
-    next
-}
-
-// It has a payload.
-pub fn count_payload(counts: Counts) -> Counts
-    ensures { result ≡ with_payload counts }
-{
-    let mut next = counts;
-    next.payloads = raise(counts.payloads);
-    next
-}
-
-// One more number that is unreadable for that reason.
-pub fn count_reason(counts: Counts, reason: Reason) -> Counts
-    ensures { result ≡ tally counts reason }
-{
-    let mut next = counts;
-    next.unreadable = raise(counts.unreadable);
-    match reason {
-        Reason::Empty => {
-            next.empty = raise(counts.empty);
-            next
-        }
-        Reason::BadDigit(_) => {
-            next.bad = raise(counts.bad);
-            next
-        }
-        Reason::TooWide => {
-            next.wide = raise(counts.wide);
-            next
+impl Counts {
+    // Nothing was counted.
+    pub fn new() -> Counts
+        ensures { result ≡ no_counts }
+    {
+        Counts {
+            lines: 0,
+            payloads: 0,
+            unreadable: 0,
+            empty: 0,
+            bad: 0,
+            wide: 0,
         }
     }
-}
 
-fn raise(n: u64) -> u64
-    ensures { result ≡ up n }
-{
-    if n == u64::MAX {
-        return n;
+    // One more line.
+    #[tactic(auto, unfolding(crate::specs::Tally::with_line, crate::specs::Tally::up))]
+    pub fn count_line(&mut self)
+        ensures { self.new ≡ with_line self.old }
+    {
+        self.lines = self.lines.saturating_add(1);
     }
-    n + 1
+
+    // It has a payload.
+    #[tactic(auto, unfolding(crate::specs::Tally::with_payload, crate::specs::Tally::up))]
+    pub fn count_payload(&mut self)
+        ensures { self.new ≡ with_payload self.old }
+    {
+        self.payloads = self.payloads.saturating_add(1);
+    }
+
+    // One more number that is unreadable for that reason.
+    #[tactic(auto, unfolding(crate::specs::Tally::tally, crate::specs::Tally::up))]
+    pub fn count_reason(&mut self, reason: BadNumber)
+        ensures { self.new ≡ tally self.old reason }
+    {
+        self.unreadable = self.unreadable.saturating_add(1);
+        match reason {
+            BadNumber::Empty => self.empty = self.empty.saturating_add(1),
+            BadNumber::BadDigit(_) => self.bad = self.bad.saturating_add(1),
+            BadNumber::TooWide => self.wide = self.wide.saturating_add(1),
+        }
+    }
 }

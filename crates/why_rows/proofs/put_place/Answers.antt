@@ -1,8 +1,8 @@
 -- `put_place` meets its contract: its parts one behind the other. Assumes nothing.
-use Rattle.unanswered_rows.proofs.Joining.{part_then}
+use Rattle.unanswered_rows.proofs.Joining.{on_then}
 use Rattle.why_rows.specs.Rows.{place_text}
 use Rattle.why_rows.proofs.put_place.Goals as goal
 
 pub returns : goal.returns
 unfolding place_text
-returns c = part_then c.put_number-a.ensures c.put_text.ensures
+returns c = on_then c.put_number.ensures c.put_text.ensures

@@ -111,7 +111,7 @@ module _ (t : List ℕ) where
   key_numbered_lem None =
       then_numbered (payload_place t) (λ place. absent) payload_numbered (λ p k e. absurd (let z : ◌≡◌ {A = ℕ} 0 1 = cc in omega arith))
 
-  key_upright : (key : Option Key) → Upright (key_told t key)
+  pub key_upright : (key : Option Key) → Upright (key_told t key)
   unfolding key_told other_key
   key_upright (Some key) = λ text e. (key_in_line t key text e).0
   key_upright None = λ text e. never (payload_place t) text e

@@ -1,4 +1,4 @@
--- A stream's answer as a plain struct, by its case; and that there is one. Assumes nothing.
+-- There is one answer of a stream as a plain struct. Assumes nothing.
 use Rattle.std.specs.Prelude.{Err, None, Ok, Option, Result, Some}
 use Rattle.refusal.specs.declared.Refusal.{Refusal}
 use Prim.Native.Nat.{ℕ}
@@ -17,31 +17,6 @@ use Rattle.refusal.specs.Told.{told_maybe}
 use Rattle.capi.specs.declared.streams.StreamAnswer.{StreamAnswer}
 use Rattle.capi.specs.Calls.{blank_entry}
 use Rattle.capi.specs.Streams.{ended_by, stream_by, StreamFed, StreamEnded}
-
-pub ended_none : {k : ℕ} → k ≡ 53 → 0 ≡ ended_by k
-unfolding ended_by
-ended_none e = rw e
-
-pub ended_unit : {k : ℕ} → (k ≡ 53 → ⊥) → 1 ≡ ended_by k
-unfolding ended_by
-ended_unit e = rw (ne_eqb _ _ e)
-
--- the struct of these fields
-abbrev pub told : ℕ → State → ℕ → ℕ → Flat → StreamAnswer
-told at st number ended entry = record { number = number; ended = ended; at = at; state = st; entry = entry }
-
-module _ (at : ℕ) (st : State) {answer : Result (Option Entry) Refusal} {flat : Flat} where
-  pub stream_entry : {e : Entry} → answer ≡ Ok (Some e) → flat ≡ flat_of e → told at st 0 1 flat ≡ stream_by at st (told_maybe answer)
-  unfolding stream_by
-  stream_entry q h = rw q (ap (told at st 0 1) h)
-
-  pub stream_refused : {k ended : ℕ} → answer ≡ Err k → ended ≡ ended_by k → flat ≡ blank_entry → told at st k ended flat ≡ stream_by at st (told_maybe answer)
-  unfolding stream_by
-  stream_refused {k} q n h = rw q (ap (λ (m : ℕ). told at st k m flat) n ∙ ap (told at st k (ended_by k)) h)
-
-  pub stream_nothing : answer ≡ (Ok None) → flat ≡ blank_entry → told at st 0 0 flat ≡ stream_by at st (told_maybe answer)
-  unfolding stream_by
-  stream_nothing q h = rw q (ap (told at st 0 0) h)
 
 -- no second answer keeps the contract of a call that feeds
 pub no_second_fed : (pieces : Pieces) (s rest slots : List ℕ) (st : State) (rest' slots' rest'' slots'' : List ℕ) (r q : StreamAnswer) → StreamFed pieces s rest slots st rest' slots' r → StreamFed pieces s rest slots st rest'' slots'' q → (r ≡ q) × (rest' ≡ rest'') × (slots' ≡ slots'')

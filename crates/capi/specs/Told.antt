@@ -28,6 +28,12 @@ value_by (is v) = record { number = 0; present = 1; value = v }
 value_by absent = record { number = 0; present = 0; value = 0 }
 value_by (refused k) = record { number = k; present = 0; value = 0 }
 
+-- the same where the value is a number by a conversion
+abbrev pub ValueOf : {A : Type 0} → (A → ℕ → Type 0) → Told A → ValueTold → Type 0
+ValueOf converts (is a) r = (v : ℕ) × converts a v × (r ≡ value_by (is v))
+ValueOf converts absent r = r ≡ value_by absent
+ValueOf converts (refused k) r = r ≡ value_by (refused k)
+
 -- yes is 1, no is 0
 abbrev pub as_number : Told Bool → Told ℕ
 as_number (is b) = is (flag_number b)

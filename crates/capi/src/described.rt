@@ -4,10 +4,7 @@ ghost use Rattle.std.specs.Prelude.{◌≡◌};
 ghost use Rattle.questions.specs.Described.{route_in, top_bit, asked, adapter_in, address_in, size_in, uuid_in, type_in, field_at, field_with};
 ghost use Rattle.capi.specs.Told.{value_by, as_number, uuid_by, type_by, field_by};
 
-use crate::told::{
-    FieldTold, TypeTold, UuidTold, ValueTold, tell_byte, tell_dword, tell_field, tell_flag,
-    tell_type, tell_uuid, tell_wide, tell_word,
-};
+use crate::told::{FieldTold, TypeTold, UuidTold, ValueTold};
 use packet::field::Ask;
 use questions::described;
 
@@ -15,42 +12,42 @@ use questions::described;
 pub fn ck_described_route(dwords: &[u32]) -> ValueTold
     ensures { result ≡ value_by (route_in dwords.now) }
 {
-    tell_wide(described::route_in(dwords))
+    ValueTold::of(described::route_in(dwords))
 }
 
 // The top bit of the route.
 pub fn ck_described_cm(dwords: &[u32]) -> ValueTold
     ensures { result ≡ value_by (as_number (top_bit (route_in dwords.now))) }
 {
-    tell_flag(described::cm_in(dwords))
+    ValueTold::of(described::cm_in(dwords))
 }
 
 // The value of the first bit range of that name.
 pub fn ck_described_value(book: &[u8], dwords: &[u32], places: &[u32], name: &[u8]) -> ValueTold
     ensures { result ≡ value_by (asked book.now dwords.now places.now name.now) }
 {
-    tell_dword(described::value_asked(book, name, dwords, places))
+    Ok(described::value_asked(book, name, dwords, places)).into()
 }
 
 // The adapter number, cut to 8 bits.
 pub fn ck_described_adapter_num(book: &[u8], dwords: &[u32], places: &[u32]) -> ValueTold
     ensures { result ≡ value_by (adapter_in book.now dwords.now places.now) }
 {
-    tell_byte(described::adapter_in(book, dwords, places))
+    described::adapter_in(book, dwords, places).into()
 }
 
 // The address, or for kinds 8 and 9 the offset, cut to 16 bits.
 pub fn ck_described_data_address(kind: u8, book: &[u8], dwords: &[u32], places: &[u32]) -> ValueTold
     ensures { result ≡ value_by (address_in book.now dwords.now places.now kind) }
 {
-    tell_word(described::address_in(kind, book, dwords, places))
+    described::address_in(kind, book, dwords, places).into()
 }
 
 // The size that the kind has, cut to 16 bits.
 pub fn ck_described_data_size(kind: u8, book: &[u8], dwords: &[u32], places: &[u32]) -> ValueTold
     ensures { result ≡ value_by (size_in book.now dwords.now places.now kind) }
 {
-    tell_word(described::size_in(kind, book, dwords, places))
+    described::size_in(kind, book, dwords, places).into()
 }
 
 // The values of the dwords of that name, if there are exactly four.
@@ -62,14 +59,14 @@ pub fn ck_described_uuid_by_name(
 ) -> UuidTold
     ensures { result ≡ uuid_by (uuid_in book.now dwords.now places.now name.now) }
 {
-    tell_uuid(described::uuid_in(book, name, dwords, places))
+    described::uuid_in(book, name, dwords, places).into()
 }
 
 // The packet type; 28 where its value has no name.
 pub fn ck_described_type(book: &[u8], dwords: &[u32], places: &[u32]) -> TypeTold
     ensures { result ≡ type_by (type_in book.now dwords.now places.now) }
 {
-    tell_type(described::type_in(book, dwords, places))
+    described::type_in(book, dwords, places).into()
 }
 
 // The field at an offset.
@@ -82,7 +79,7 @@ pub fn ck_described_field(
 ) -> FieldTold
     ensures { result ≡ field_by (field_at book.now dwords.now places.now kind offset) }
 {
-    tell_field(described::field_at(kind, book, dwords, places, offset))
+    described::field_at(kind, book, dwords, places, offset).into()
 }
 
 // The first field of that name.
@@ -95,7 +92,7 @@ pub fn ck_described_field_by_name(
 ) -> FieldTold
     ensures { result ≡ field_by (field_with book.now dwords.now places.now Ask.Named kind name.now) }
 {
-    tell_field(described::field_with(Ask::Named, kind, book, name, dwords, places))
+    described::field_with(Ask::Named, kind, book, name, dwords, places).into()
 }
 
 // The first field with a bit range of that name.
@@ -108,5 +105,5 @@ pub fn ck_described_field_by_range(
 ) -> FieldTold
     ensures { result ≡ field_by (field_with book.now dwords.now places.now Ask.Holds kind name.now) }
 {
-    tell_field(described::field_with(Ask::Holds, kind, book, name, dwords, places))
+    described::field_with(Ask::Holds, kind, book, name, dwords, places).into()
 }

@@ -5,7 +5,7 @@ ghost use Rattle.field.specs.Source.{field_of};
 ghost use Rattle.field.specs.Ranges.{range_count, nth_range, range_named, value_place, value_name};
 ghost use Rattle.capi.specs.Told.{whole_field, field_with, range_with, range_by, NamePart, Copied};
 
-use crate::told::{FieldTold, NameTold, RangeTold, tell_range, whole_field};
+use crate::told::{FieldTold, NameTold, RangeTold};
 use field::{Field, Place, Range, Source};
 use packet::field::name_in;
 use print::put::put;
@@ -14,7 +14,7 @@ use print::put::put;
 pub fn ck_field(kind: u8, book: &[u8], offset: u16, dword: u32, entry: usize) -> FieldTold
     ensures { result ≡ whole_field (field_of kind book.now offset dword entry) }
 {
-    whole_field(field::field_of(kind, book, offset, dword, entry))
+    field::field_of(kind, book, offset, dword, entry).into()
 }
 
 // How many bit ranges the entry has.
@@ -28,14 +28,14 @@ pub fn ck_range_count(book: &[u8], entry: usize) -> usize
 pub fn ck_range(book: &[u8], entry: usize, dword: u32, k: usize) -> RangeTold
     ensures { result ≡ range_by (nth_range book.now (field_with entry dword) k) }
 {
-    tell_range(field::nth_range(book, field_with(entry, dword), k))
+    field::nth_range(book, field_with(entry, dword), k).into()
 }
 
 // The entry's first bit range of that name, likewise.
 pub fn ck_range_named(book: &[u8], entry: usize, dword: u32, name: &[u8]) -> RangeTold
     ensures { result ≡ range_by (range_named book.now (field_with entry dword) name.now) }
 {
-    tell_range(field::range_named(book, field_with(entry, dword), name))
+    field::range_named(book, field_with(entry, dword), name).into()
 }
 
 // Ranges are asked of a field; its offset and table do not matter to them.
@@ -53,11 +53,7 @@ fn field_with(entry: usize, value: u32) -> Field
 pub fn ck_name_at(book: &[u8], place: usize) -> NameTold
     ensures { NamePart book.now place result }
 {
-    let span = field::name_at(book, place);
-    NameTold {
-        at: span.at,
-        len: span.len,
-    }
+    field::name_at(book, place).into()
 }
 
 // The place of the value that a bit range gives to a number, 0 for none.
@@ -72,16 +68,20 @@ pub fn ck_value_at(book: &[u8], range: usize, number: u32) -> usize
 pub fn ck_name(book: &[u8], place: usize, out: &mut [u8]) -> usize
     ensures { Copied (name_in book.now place) out.old out.new result }
 {
-    let name = name_in(book, place);
-    put(out, 0, name);
-    name.len()
+    copy_name(name_in(book, place), out)
 }
 
 // The name that a bit range gives to a number, likewise.
 pub fn ck_value_name(book: &[u8], range: usize, number: u32, out: &mut [u8]) -> usize
     ensures { Copied (value_name book.now (range_with range number)) out.old out.new result }
 {
-    let name = field::value_name(book, range_with(range, number));
+    copy_name(field::value_name(book, range_with(range, number)), out)
+}
+
+// A name into the first bytes of the buffer, if all of it fits; its length.
+pub(crate) fn copy_name(name: &[u8], out: &mut [u8]) -> usize
+    ensures { Copied name.now out.old out.new result }
+{
     put(out, 0, name);
     name.len()
 }

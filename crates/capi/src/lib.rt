@@ -35,8 +35,9 @@ ghost use Rattle.c_entry.specs.Flat.{byte_of};
 ghost use Rattle.capi.specs.Told.{as_number, flat_told};
 ghost use Rattle.capi.specs.Calls.{Read, LineRead, EitherRead, Wrote, answer_by, what_by, written_by, name_by, blank_entry};
 
-use book::{Checked, check};
+use book::check;
 use c_entry::{ABSENT, Flat, or_absent};
+use entry::Entry;
 use entry::events::{Event, Name};
 use intake::{What, what_is};
 use refusal::Refusal;
@@ -79,24 +80,21 @@ pub struct EventName {
 pub fn ck_parse(line: &[u8], slots: &mut [u32]) -> EntryAnswer
     ensures { LineRead P.Strict line.now slots.old slots.new result }
 {
-    answer_of(parse(line, Pieces::Strict, slots))
+    parse(line, Pieces::Strict, slots).into()
 }
 
 // The same, but bad pieces are left out.
 pub fn ck_parse_lenient(line: &[u8], slots: &mut [u32]) -> EntryAnswer
     ensures { LineRead P.Lenient line.now slots.old slots.new result }
 {
-    answer_of(parse(line, Pieces::Lenient, slots))
+    parse(line, Pieces::Lenient, slots).into()
 }
 
 // The entry of a record, its dwords in the first slots.
 pub fn ck_record_read(text: &[u8], slots: &mut [u32]) -> EntryAnswer
     ensures { Read (read_of text.now (length slots.old)) (dwords_of text.now) slots.old slots.new result }
 {
-    match record::read(text, slots) {
-        Ok(e) => answer_of(Ok(e)),
-        Err(number) => answer_of(Err(number)),
-    }
+    record::read(text, slots).into()
 }
 
 // The entry of a text that is a record if it starts with A1, else a line. A bad piece of a line's data refuses it: 18.
@@ -117,7 +115,7 @@ pub fn ck_read_lenient(text: &[u8], slots: &mut [u32]) -> EntryAnswer
 fn read_by(text: &[u8], pieces: Pieces, slots: &mut [u32]) -> EntryAnswer
     ensures { EitherRead pieces text.now slots.old slots.new result }
 {
-    answer_of(intake::read(text, pieces, slots))
+    intake::read(text, pieces, slots).into()
 }
 
 // What a text is, by the strict grammar of lines.
@@ -135,6 +133,7 @@ pub fn ck_what_lenient(text: &[u8]) -> WhatAnswer
 }
 
 // What a text is, by the choice.
+#[tactic(auto, unfolding(crate::specs::Calls::what_by))]
 fn tell_what(text: &[u8], pieces: Pieces) -> WhatAnswer
     ensures { result ≡ what_by (what_of pieces text.now) }
 {
@@ -153,8 +152,8 @@ pub fn ck_record_write(text: &[u8], entry: Flat, dwords: &[u32], out: &mut [u8])
     ensures { Wrote text.now entry dwords.now out.old out.new result }
 {
     match entry.raise() {
-        Some(e) => written_of(write(text, e, dwords, out)),
-        None => written_of(Err(Refusal::BadEntry)),
+        Some(e) => write(text, e, dwords, out).into(),
+        None => WriteAnswer::from(Err(Refusal::BadEntry)),
     }
 }
 
@@ -163,12 +162,13 @@ pub fn ck_book_check(book: &[u8]) -> u8
     ensures { result ≡ number_in (check_of book.now) }
 {
     match check(book) {
-        Checked::Accepted => 0,
-        Checked::Refused(number) => number,
+        Ok(()) => 0,
+        Err(refusal) => refusal.number(),
     }
 }
 
 // The name of an event's code.
+#[tactic(auto, unfolding(crate::specs::Calls::name_by))]
 pub fn ck_event_name(code: u8) -> EventName
     ensures { result ≡ name_by code }
 {
@@ -190,33 +190,36 @@ pub fn ck_unplug(entry: Flat) -> u32
     or_absent(entry.entry().unplug())
 }
 
-fn answer_of(answer: Result<Entry, Refusal>) -> EntryAnswer
-    ensures { result ≡ answer_by (told answer) }
-{
-    match answer {
-        Ok(e) => EntryAnswer {
-            number: 0,
-            entry: e.into(),
-        },
-        Err(number) => EntryAnswer {
-            number: number,
-            entry: blank_entry(),
-        },
+impl From<Result<Entry, Refusal>> for EntryAnswer {
+    ghost from_gives = { λ answer r. r ≡ answer_by (told answer) };
+
+    #[tactic(auto, unfolding(crate::specs::Calls::answer_by))]
+    fn from(answer: Result<Entry, Refusal>) -> EntryAnswer {
+        match answer {
+            Ok(e) => EntryAnswer {
+                number: 0,
+                entry: e.into(),
+            },
+            Err(refusal) => EntryAnswer {
+                number: refusal.number(),
+                entry: blank_entry(),
+            },
+        }
     }
 }
 
-fn written_of(written: Result<usize, Refusal>) -> WriteAnswer
-    ensures { result ≡ written_by (told written) }
-{
-    match written {
-        Ok(bytes) => WriteAnswer {
-            number: 0,
-            bytes: bytes,
-        },
-        Err(number) => WriteAnswer {
-            number: number,
-            bytes: 0,
-        },
+impl From<Result<usize, Refusal>> for WriteAnswer {
+    ghost from_gives = { λ answer r. r ≡ written_by (told answer) };
+
+    #[tactic(auto, unfolding(crate::specs::Calls::written_by))]
+    fn from(answer: Result<usize, Refusal>) -> WriteAnswer {
+        match answer {
+            Ok(bytes) => WriteAnswer { number: 0, bytes },
+            Err(refusal) => WriteAnswer {
+                number: refusal.number(),
+                bytes: 0,
+            },
+        }
     }
 }
 

@@ -4,13 +4,13 @@ ghost use Rattle.std.specs.Prelude.{◌≡◌, length};
 ghost use Rattle.scan.specs.declared.Pieces.TheVariants as P;
 ghost use Rattle.packet.specs.Packet.{parse_of, over_of, places_of};
 ghost use Rattle.batch.specs.Batch.{Batch};
-ghost use Rattle.capi.specs.Packets.{Described, packet_by, made_by, uuid_by, of_packet, text_by, TextRead};
+ghost use Rattle.capi.specs.Packets.{Described, packet_by, uuid_by, text_by, TextRead};
 
 use book::Uuid;
 use c_entry::or_absent;
 use packet::Packet;
-use scan::Pieces;
 use refusal::Refusal;
+use scan::Pieces;
 
 // Number 0 and the packet, or the number that refuses it, no start and no UUID. A start is a word or ABSENT; `has_uuid` is 1 where the four
 // dwords are a UUID, else 0, and they are 0.
@@ -30,14 +30,14 @@ pub struct PacketAnswer {
 pub fn ck_packet(kind: u8, book: &[u8], dwords: &[u32], places: &mut [u32]) -> PacketAnswer
     ensures { Described (parse_of kind book.now dwords.now (length places.old)) (places_of kind book.now dwords.now) places.old places.new result }
 {
-    packet_answer(packet::parse(kind, book, dwords, places))
+    packet::parse(kind, book, dwords, places).into()
 }
 
 // The same over a book that was checked before, and is not again. Any other book is taken too.
 pub fn ck_checked_packet(kind: u8, book: &[u8], dwords: &[u32], places: &mut [u32]) -> PacketAnswer
     ensures { Described (over_of kind book.now dwords.now (length places.old)) (places_of kind book.now dwords.now) places.old places.new result }
 {
-    packet_answer(packet::parse_over(kind, book, dwords, places))
+    packet::parse_over(kind, book, dwords, places).into()
 }
 
 // Many packets over one book, which is checked once.
@@ -54,53 +54,43 @@ pub fn ck_packet_all(
     batch::parse_all(book, kinds, counts, dwords, places, codes)
 }
 
-pub fn packet_answer(answer: Result<Packet, Refusal>) -> PacketAnswer
-    ensures { result ≡ packet_by (told answer) }
-{
-    match answer {
-        Ok(p) => made(p),
-        Err(number) => with_uuid(number, None, None),
-    }
-}
-
-fn made(p: Packet) -> PacketAnswer
-    ensures { result ≡ made_by p }
-{
-    let start = p.start;
-    let uuid = p.uuid;
-    with_uuid(0, start, uuid)
-}
-
-fn with_uuid(number: u8, start: Option<u16>, uuid: Option<Uuid>) -> PacketAnswer
-    ensures { result ≡ uuid_by number start uuid }
-{
-    match uuid {
-        Some(u) => whole(number, or_absent(start), 1, u),
-        None => whole(
-            number,
-            or_absent(start),
-            0,
-            Uuid {
+impl PacketAnswer {
+    fn new(number: u8, start: Option<u16>, uuid: Option<Uuid>) -> PacketAnswer
+        ensures { result ≡ uuid_by number start uuid }
+    {
+        let start = or_absent(start);
+        match uuid {
+            Some(uuid) => PacketAnswer {
+                number,
+                start,
+                has_uuid: 1,
+                first: uuid.first,
+                second: uuid.second,
+                third: uuid.third,
+                fourth: uuid.fourth,
+            },
+            None => PacketAnswer {
+                number,
+                start,
+                has_uuid: 0,
                 first: 0,
                 second: 0,
                 third: 0,
                 fourth: 0,
             },
-        ),
+        }
     }
 }
 
-fn whole(number: u8, start: u32, has_uuid: u8, u: Uuid) -> PacketAnswer
-    ensures { result ≡ record { number = number; start = start; has_uuid = has_uuid; first = u.first; second = u.second; third = u.third; fourth = u.fourth } }
-{
-    PacketAnswer {
-        number,
-        start,
-        has_uuid,
-        first: u.first,
-        second: u.second,
-        third: u.third,
-        fourth: u.fourth,
+impl From<Result<Packet, Refusal>> for PacketAnswer {
+    ghost from_gives = { λ answer r. r ≡ packet_by (told answer) };
+
+    #[tactic(auto, unfolding(crate::specs::Packets::packet_by, crate::specs::Packets::made_by))]
+    fn from(answer: Result<Packet, Refusal>) -> PacketAnswer {
+        match answer {
+            Ok(packet) => PacketAnswer::new(0, packet.start, packet.uuid),
+            Err(refusal) => PacketAnswer::new(refusal.number(), None, None),
+        }
     }
 }
 
@@ -143,30 +133,22 @@ fn read_packet_by(
 ) -> TextPacket
     ensures { TextRead pieces text.now book.now slots.old slots.new places.old places.new result }
 {
-    text_packet(intake::packet(text, pieces, book, slots, places))
+    intake::packet(text, pieces, book, slots, places).into()
 }
 
-fn text_packet(answer: Result<Packet, Refusal>) -> TextPacket
-    ensures { result ≡ text_by (told answer) }
-{
-    match answer {
-        Ok(p) => of_packet(p),
-        Err(number) => TextPacket {
-            kind: 0,
-            dwords: 0,
-            packet: packet_answer(Err(number)),
-        },
-    }
-}
+impl From<Result<Packet, Refusal>> for TextPacket {
+    ghost from_gives = { λ answer r. r ≡ text_by (told answer) };
 
-fn of_packet(p: Packet) -> TextPacket
-    ensures { result ≡ of_packet p }
-{
-    let kind = p.kind;
-    let dwords = p.dwords;
-    TextPacket {
-        kind,
-        dwords,
-        packet: made(p),
+    #[tactic(auto, unfolding(crate::specs::Packets::text_by, crate::specs::Packets::of_packet, crate::specs::Packets::packet_by))]
+    fn from(answer: Result<Packet, Refusal>) -> TextPacket {
+        let (kind, dwords) = match answer {
+            Ok(packet) => (packet.kind, packet.dwords),
+            Err(_) => (0, 0),
+        };
+        TextPacket {
+            kind,
+            dwords,
+            packet: answer.into(),
+        }
     }
 }

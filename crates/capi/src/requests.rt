@@ -2,7 +2,7 @@
 ghost use Rattle.std.specs.Prelude.{◌≡◌, length, replicate};
 ghost use Rattle.slots.specs.Decide.{free_slot};
 ghost use Rattle.refusal.specs.Told.{told, told_maybe};
-ghost use Rattle.capi.specs.Requests.{word_at, step_by, count_by, place_by, Stepped, Counted, Placed};
+ghost use Rattle.capi.specs.Requests.{step_by, count_by, place_by, Stepped, Counted, Placed};
 
 use c_entry::Flat;
 use pending::{clear, oldest, step, waiting};
@@ -12,7 +12,7 @@ use slots::decide::Report;
 
 // Number 0, the report and, where it is taken or answered, the slot's place; or the number that refuses the table, and zeros.
 #[repr(C)]
-#[derive(Clone, Copy)]
+#[derive(Clone, Copy, Default)]
 pub struct StepAnswer {
     pub number: u8,
     pub report: u8,
@@ -21,7 +21,7 @@ pub struct StepAnswer {
 
 // Number 0 and how many wait, or the number that refuses the table and 0.
 #[repr(C)]
-#[derive(Clone, Copy)]
+#[derive(Clone, Copy, Default)]
 pub struct CountAnswer {
     pub number: u8,
     pub count: u32,
@@ -29,7 +29,7 @@ pub struct CountAnswer {
 
 // Number 0 and, where there is such a slot, 1 and its place; or the number that refuses the table, and zeros.
 #[repr(C)]
-#[derive(Clone, Copy)]
+#[derive(Clone, Copy, Default)]
 pub struct PlaceAnswer {
     pub number: u8,
     pub present: u8,
@@ -47,90 +47,84 @@ pub fn ck_pending_clear(slots: &mut [Slot])
 pub fn ck_pending_step(f: Flat, slots: &mut [Slot]) -> StepAnswer
     ensures { Stepped f slots.old result slots.new }
 {
-    step_answer(step(f.entry(), slots))
+    step(f.entry(), slots).into()
 }
 
 // How many requests wait.
 pub fn ck_pending_waiting(slots: &[Slot]) -> CountAnswer
     ensures { Counted slots.now result }
 {
-    let count = waiting(slots);
-    count_answer(count)
+    waiting(slots).into()
 }
 
 // Where the k-th oldest of them lies.
 pub fn ck_pending_oldest(slots: &[Slot], k: u32) -> PlaceAnswer
     ensures { Placed slots.now k result }
 {
-    let place = oldest(slots, k);
-    place_answer(place)
+    oldest(slots, k).into()
 }
 
-#[tactic(auto, unfolding(crate::specs::Requests::step_by))]
-fn step_answer(answer: Result<Report, Refusal>) -> StepAnswer
-    ensures { result ≡ step_by answer }
-{
-    match answer {
-        Ok(Report::Dropped) => reported(1, 0),
-        Ok(Report::Other) => reported(2, 0),
-        Ok(Report::NoSeq) => reported(3, 0),
-        Ok(Report::Taken(place)) => reported(4, place),
-        Ok(Report::TurnedAway) => reported(5, 0),
-        Ok(Report::Answered(place)) => reported(6, place),
-        Ok(Report::Stray) => reported(7, 0),
-        Err(refusal) => StepAnswer {
-            number: refusal.number(),
-            report: 0,
-            place: 0,
-        },
+impl From<Result<Report, Refusal>> for StepAnswer {
+    ghost from_gives = { λ answer r. r ≡ step_by answer };
+
+    #[tactic(auto, unfolding(crate::specs::Requests::step_by))]
+    fn from(answer: Result<Report, Refusal>) -> StepAnswer {
+        match answer {
+            Ok(reported) => {
+                let (report, place) = match reported {
+                    Report::Dropped => (1, 0),
+                    Report::Other => (2, 0),
+                    Report::NoSeq => (3, 0),
+                    Report::Taken(place) => (4, place),
+                    Report::TurnedAway => (5, 0),
+                    Report::Answered(place) => (6, place),
+                    Report::Stray => (7, 0),
+                };
+                StepAnswer {
+                    number: 0,
+                    report,
+                    place,
+                }
+            }
+            Err(refusal) => StepAnswer {
+                number: refusal.number(),
+                ..StepAnswer::default()
+            },
+        }
     }
 }
 
-fn reported(report: u8, place: usize) -> StepAnswer
-    ensures { result ≡ word_at report place }
-{
-    StepAnswer {
-        number: 0,
-        report: report,
-        place: place,
+impl From<Result<u32, Refusal>> for CountAnswer {
+    ghost from_gives = { λ answer r. r ≡ count_by (told answer) };
+
+    #[tactic(auto, unfolding(crate::specs::Requests::count_by))]
+    fn from(answer: Result<u32, Refusal>) -> CountAnswer {
+        match answer {
+            Ok(count) => CountAnswer { number: 0, count },
+            Err(refusal) => CountAnswer {
+                number: refusal.number(),
+                ..CountAnswer::default()
+            },
+        }
     }
 }
 
-#[tactic(auto, unfolding(crate::specs::Requests::count_by))]
-fn count_answer(count: Result<u32, Refusal>) -> CountAnswer
-    ensures { result ≡ count_by (told count) }
-{
-    match count {
-        Ok(n) => CountAnswer {
-            number: 0,
-            count: n,
-        },
-        Err(refusal) => CountAnswer {
-            number: refusal.number(),
-            count: 0,
-        },
-    }
-}
+impl From<Result<Option<usize>, Refusal>> for PlaceAnswer {
+    ghost from_gives = { λ answer r. r ≡ place_by (told_maybe answer) };
 
-#[tactic(auto, unfolding(crate::specs::Requests::place_by))]
-fn place_answer(place: Result<Option<usize>, Refusal>) -> PlaceAnswer
-    ensures { result ≡ place_by (told_maybe place) }
-{
-    match place {
-        Ok(Some(at)) => PlaceAnswer {
-            number: 0,
-            present: 1,
-            place: at,
-        },
-        Ok(None) => PlaceAnswer {
-            number: 0,
-            present: 0,
-            place: 0,
-        },
-        Err(refusal) => PlaceAnswer {
-            number: refusal.number(),
-            present: 0,
-            place: 0,
-        },
+    #[tactic(auto, unfolding(crate::specs::Requests::place_by))]
+    fn from(answer: Result<Option<usize>, Refusal>) -> PlaceAnswer {
+        match answer {
+            Ok(Some(place)) => PlaceAnswer {
+                number: 0,
+                present: 1,
+                place,
+            },
+            Ok(None) => PlaceAnswer::default(),
+            Err(refusal) => PlaceAnswer {
+                number: refusal.number(),
+                ..PlaceAnswer::default()
+            },
+        }
     }
 }

@@ -2,13 +2,14 @@
 ghost use Rattle.std.specs.Prelude.{◌≡◌};
 ghost use Rattle.scan.specs.declared.Pieces.TheVariants as P;
 ghost use Rattle.refusal.specs.Told.{told_maybe};
-ghost use Rattle.capi.specs.Streams.{StreamFed, StreamEnded, stream_by, ended_by};
+ghost use Rattle.capi.specs.Streams.{StreamFed, StreamEnded, stream_by};
 
 use crate::blank_entry;
 use c_entry::Flat;
+use entry::Entry;
 use refusal::Refusal;
 use scan::Pieces;
-use stream::{feed, finish};
+use stream::{Fed, Finished, feed, finish};
 use units::State;
 
 // Number 0, that a unit ended and its entry; the number that refuses the unit that ended; number 0 and no unit; or number 53 and nothing. Then where the
@@ -65,55 +66,44 @@ fn feed_by(
 ) -> StreamAnswer
     ensures { StreamFed pieces part.now rest.old slots.old state rest.new slots.new result }
 {
-    let fed = feed(state, pieces, part, rest, slots);
-    let next = fed.state;
-    let answer = fed.answer;
-    stream_answer(fed.at, next, answer)
+    let Fed { at, state, answer } = feed(state, pieces, part, rest, slots);
+    stream_answer(at, state, answer)
 }
 
 fn finish_by(state: State, pieces: Pieces, rest: &[u8], slots: &mut [u32]) -> StreamAnswer
     ensures { StreamEnded pieces rest.now slots.old state slots.new result }
 {
-    let finished = finish(state, pieces, rest, slots);
-    let next = finished.state;
-    let answer = finished.answer;
-    stream_answer(0, next, answer)
+    let Finished { state, answer } = finish(state, pieces, rest, slots);
+    stream_answer(0, state, answer)
 }
 
+// Every refusal but 53 is that of a unit that ended.
+#[tactic(auto, unfolding(crate::specs::Streams::stream_by, crate::specs::Streams::ended_by))]
 fn stream_answer(at: usize, state: State, answer: Result<Option<Entry>, Refusal>) -> StreamAnswer
     ensures { result ≡ stream_by at state (told_maybe answer) }
 {
+    let blank = StreamAnswer {
+        number: 0,
+        ended: 0,
+        at,
+        state,
+        entry: blank_entry(),
+    };
     match answer {
         Ok(Some(e)) => StreamAnswer {
-            number: 0,
             ended: 1,
-            at: at,
-            state: state,
             entry: e.into(),
+            ..blank
         },
-        Err(number) => StreamAnswer {
-            number: number,
-            ended: ended_with(number),
-            at: at,
-            state: state,
-            entry: blank_entry(),
+        Ok(None) => blank,
+        Err(Refusal::NoStream) => StreamAnswer {
+            number: Refusal::NoStream.number(),
+            ..blank
         },
-        Ok(None) => StreamAnswer {
-            number: 0,
-            ended: 0,
-            at: at,
-            state: state,
-            entry: blank_entry(),
+        Err(refusal) => StreamAnswer {
+            number: refusal.number(),
+            ended: 1,
+            ..blank
         },
     }
-}
-
-// Every number but 53 refuses a unit.
-fn ended_with(number: u8) -> u8
-    ensures { result ≡ ended_by number }
-{
-    if number == NO_STREAM {
-        return 0;
-    }
-    1
 }

@@ -1,16 +1,17 @@
 // What a question is told, as plain structs. In each, number 0 with `present` 1 and the answer; 0 and 0 where there is none; or the number that
-// refuses the packet. What is not there is 0.
+// refuses the packet. What is not there is 0. C has no Option and no Result: these structs are its layout, and stand in include/chomkadieu.h.
 ghost use Rattle.std.specs.Prelude.{◌≡◌};
-ghost use Rattle.field.specs.Ranges.{range_told};
-ghost use Rattle.questions.specs.Answers.{byte_told, word_told, wide_told, flag_told, uuid_told, type_told, field_told, dword_told};
-ghost use Rattle.capi.specs.Told.{value_by, as_number, uuid_by, type_by, field_by, whole_field, source_number, range_by};
+ghost use Rattle.text.specs.Told.{maybe};
+ghost use Rattle.refusal.specs.Told.{told, told_maybe};
+ghost use Rattle.capi.specs.Told.{ValueOf, uuid_by, type_by, field_by, whole_field, source_number, range_by, name_by};
 
 use book::Uuid;
-use field::{Field, Source, entry_of};
+use field::{Field, Range, Source, Span, entry_of};
+use questions::PacketType;
 use refusal::Refusal;
 
 #[repr(C)]
-#[derive(Clone, Copy)]
+#[derive(Clone, Copy, Default)]
 pub struct ValueTold {
     pub number: u8,
     pub present: u8,
@@ -18,7 +19,7 @@ pub struct ValueTold {
 }
 
 #[repr(C)]
-#[derive(Clone, Copy)]
+#[derive(Clone, Copy, Default)]
 pub struct UuidTold {
     pub number: u8,
     pub present: u8,
@@ -30,7 +31,7 @@ pub struct UuidTold {
 
 // A packet type's value, and the place in the book of the value that names it.
 #[repr(C)]
-#[derive(Clone, Copy)]
+#[derive(Clone, Copy, Default)]
 pub struct TypeTold {
     pub number: u8,
     pub present: u8,
@@ -40,7 +41,7 @@ pub struct TypeTold {
 
 // A dword's offset and value, the table that describes it (0 none, 1 control, 2 header, 3 protocol), and the place of its entry.
 #[repr(C)]
-#[derive(Clone, Copy)]
+#[derive(Clone, Copy, Default)]
 pub struct FieldTold {
     pub number: u8,
     pub present: u8,
@@ -52,7 +53,7 @@ pub struct FieldTold {
 
 // A bit range: its bits, their value, and its place. There is no number: a range is there or not.
 #[repr(C)]
-#[derive(Clone, Copy)]
+#[derive(Clone, Copy, Default)]
 pub struct RangeTold {
     pub present: u8,
     pub low: u8,
@@ -63,158 +64,109 @@ pub struct RangeTold {
 
 // A part of the book that is a name: where it starts, and how many bytes it has; both are 0 where there is none.
 #[repr(C)]
-#[derive(Clone, Copy)]
+#[derive(Clone, Copy, Default)]
 pub struct NameTold {
     pub at: usize,
     pub len: usize,
 }
 
-pub fn tell_byte(answer: Result<Option<u8>, Refusal>) -> ValueTold
-    ensures { result ≡ value_by (byte_told answer) }
-{
-    match answer {
-        Ok(Some(v)) => value_of(0, 1, v as u64),
-        Ok(None) => value_of(0, 0, 0),
-        Err(number) => value_of(number, 0, 0),
+impl<T: Into<u64>> From<Result<Option<T>, Refusal>> for ValueTold {
+    ghost from_gives = { λ answer r. ValueOf T.converts (told_maybe answer) r };
+
+    fn from(answer: Result<Option<T>, Refusal>) -> ValueTold {
+        match answer {
+            Ok(Some(v)) => ValueTold {
+                number: 0,
+                present: 1,
+                value: v.into(),
+            },
+            Ok(None) => ValueTold::default(),
+            Err(refusal) => ValueTold {
+                number: refusal.number(),
+                ..ValueTold::default()
+            },
+        }
     }
 }
 
-pub fn tell_word(answer: Result<Option<u16>, Refusal>) -> ValueTold
-    ensures { result ≡ value_by (word_told answer) }
-{
-    match answer {
-        Ok(Some(v)) => value_of(0, 1, v as u64),
-        Ok(None) => value_of(0, 0, 0),
-        Err(number) => value_of(number, 0, 0),
+impl ValueTold {
+    // Of a question that never answers none.
+    pub fn of<T: Into<u64>>(answer: Result<T, Refusal>) -> ValueTold
+        ensures { ValueOf T.converts (told answer) result }
+    {
+        answer.map(Some).into()
     }
 }
 
-pub fn tell_wide(answer: Result<u64, Refusal>) -> ValueTold
-    ensures { result ≡ value_by (wide_told answer) }
-{
-    match answer {
-        Ok(v) => value_of(0, 1, v),
-        Err(number) => value_of(number, 0, 0),
+impl From<Result<Option<Uuid>, Refusal>> for UuidTold {
+    ghost from_gives = { λ answer r. r ≡ uuid_by (told_maybe answer) };
+
+    fn from(answer: Result<Option<Uuid>, Refusal>) -> UuidTold {
+        match answer {
+            Ok(Some(uuid)) => UuidTold {
+                number: 0,
+                present: 1,
+                first: uuid.first,
+                second: uuid.second,
+                third: uuid.third,
+                fourth: uuid.fourth,
+            },
+            Ok(None) => UuidTold::default(),
+            Err(refusal) => UuidTold {
+                number: refusal.number(),
+                ..UuidTold::default()
+            },
+        }
     }
 }
 
-pub fn tell_flag(answer: Result<bool, Refusal>) -> ValueTold
-    ensures { result ≡ value_by (as_number (flag_told answer)) }
-{
-    match answer {
-        Ok(b) => value_of(0, 1, b as u64),
-        Err(number) => value_of(number, 0, 0),
+impl From<Result<Option<PacketType>, Refusal>> for TypeTold {
+    ghost from_gives = { λ answer r. r ≡ type_by (told_maybe answer) };
+
+    fn from(answer: Result<Option<PacketType>, Refusal>) -> TypeTold {
+        match answer {
+            Ok(Some(found)) => TypeTold {
+                number: 0,
+                present: 1,
+                value: found.value,
+                name: found.name.at,
+            },
+            Ok(None) => TypeTold::default(),
+            Err(refusal) => TypeTold {
+                number: refusal.number(),
+                ..TypeTold::default()
+            },
+        }
     }
 }
 
-pub fn tell_dword(answer: Option<u32>) -> ValueTold
-    ensures { result ≡ value_by (dword_told answer) }
-{
-    match answer {
-        Some(v) => value_of(0, 1, v as u64),
-        None => value_of(0, 0, 0),
+impl From<Field> for FieldTold {
+    ghost from_gives = { λ f r. r ≡ whole_field f };
+
+    fn from(f: Field) -> FieldTold {
+        FieldTold {
+            number: 0,
+            present: 1,
+            offset: f.offset,
+            value: f.value,
+            source: source_number(f.source),
+            entry: entry_of(f),
+        }
     }
 }
 
-fn value_of(number: u8, present: u8, value: u64) -> ValueTold
-    ensures { result ≡ record { number = number; present = present; value = value } }
-{
-    ValueTold {
-        number,
-        present,
-        value,
-    }
-}
+impl From<Result<Option<Field>, Refusal>> for FieldTold {
+    ghost from_gives = { λ answer r. r ≡ field_by (told_maybe answer) };
 
-pub fn tell_uuid(answer: Result<Option<Uuid>, Refusal>) -> UuidTold
-    ensures { result ≡ uuid_by (uuid_told answer) }
-{
-    match answer {
-        Ok(Some(u)) => uuid_of(0, 1, u),
-        Ok(None) => uuid_of(0, 0, no_uuid()),
-        Err(number) => uuid_of(number, 0, no_uuid()),
-    }
-}
-
-fn no_uuid() -> Uuid
-    ensures { result ≡ record { first = 0; second = 0; third = 0; fourth = 0 } }
-{
-    Uuid {
-        first: 0,
-        second: 0,
-        third: 0,
-        fourth: 0,
-    }
-}
-
-fn uuid_of(number: u8, present: u8, u: Uuid) -> UuidTold
-    ensures { result ≡ record { number = number; present = present; first = u.first; second = u.second; third = u.third; fourth = u.fourth } }
-{
-    UuidTold {
-        number,
-        present,
-        first: u.first,
-        second: u.second,
-        third: u.third,
-        fourth: u.fourth,
-    }
-}
-
-pub fn tell_type(answer: Result<Option<PacketType>, Refusal>) -> TypeTold
-    ensures { result ≡ type_by (type_told answer) }
-{
-    match answer {
-        Ok(Some(t)) => type_of(0, 1, t.value, t.name.at),
-        Ok(None) => type_of(0, 0, 0, 0),
-        Err(number) => type_of(number, 0, 0, 0),
-    }
-}
-
-fn type_of(number: u8, present: u8, value: u32, name: usize) -> TypeTold
-    ensures { result ≡ record { number = number; present = present; value = value; name = name } }
-{
-    TypeTold {
-        number,
-        present,
-        value,
-        name,
-    }
-}
-
-pub fn tell_field(answer: Result<Option<Field>, Refusal>) -> FieldTold
-    ensures { result ≡ field_by (field_told answer) }
-{
-    match answer {
-        Ok(Some(f)) => whole_field(f),
-        Ok(None) => no_field(0),
-        Err(number) => no_field(number),
-    }
-}
-
-pub fn whole_field(f: Field) -> FieldTold
-    ensures { result ≡ whole_field f }
-{
-    let source = f.source;
-    FieldTold {
-        number: 0,
-        present: 1,
-        offset: f.offset,
-        value: f.value,
-        source: source_number(source),
-        entry: entry_of(f),
-    }
-}
-
-fn no_field(number: u8) -> FieldTold
-    ensures { result ≡ record { number = number; present = 0; offset = 0; value = 0; source = 0; entry = 0 } }
-{
-    FieldTold {
-        number,
-        present: 0,
-        offset: 0,
-        value: 0,
-        source: 0,
-        entry: 0,
+    fn from(answer: Result<Option<Field>, Refusal>) -> FieldTold {
+        match answer {
+            Ok(Some(f)) => f.into(),
+            Ok(None) => FieldTold::default(),
+            Err(refusal) => FieldTold {
+                number: refusal.number(),
+                ..FieldTold::default()
+            },
+        }
     }
 }
 
@@ -229,23 +181,30 @@ fn source_number(source: Source) -> u8
     }
 }
 
-pub fn tell_range(range: Option<Range>) -> RangeTold
-    ensures { result ≡ range_by (range_told range) }
-{
-    match range {
-        Some(g) => RangeTold {
-            present: 1,
-            low: g.low,
-            high: g.high,
-            value: g.value,
-            place: g.place.at,
-        },
-        None => RangeTold {
-            present: 0,
-            low: 0,
-            high: 0,
-            value: 0,
-            place: 0,
-        },
+impl From<Option<Range>> for RangeTold {
+    ghost from_gives = { λ found r. r ≡ range_by (maybe found) };
+
+    fn from(found: Option<Range>) -> RangeTold {
+        match found {
+            Some(range) => RangeTold {
+                present: 1,
+                low: range.low,
+                high: range.high,
+                value: range.value,
+                place: range.place.at,
+            },
+            None => RangeTold::default(),
+        }
+    }
+}
+
+impl From<Span> for NameTold {
+    ghost from_gives = { λ span r. r ≡ name_by span };
+
+    fn from(span: Span) -> NameTold {
+        NameTold {
+            at: span.at,
+            len: span.len,
+        }
     }
 }

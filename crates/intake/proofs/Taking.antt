@@ -14,7 +14,7 @@ use Rattle.record.specs.Reading as Reading
 use Rattle.intake.specs.Intake.{starts_a1, taken_of, taken_dwords, Taken}
 
 -- a record's dwords lie in the slots as a line's do
-same_slots : (a : T.Told Entry) (new slots : List ℕ) → Reading.slots_by a new slots ≡ Line.slots_by a new slots
+pub same_slots : (a : T.Told Entry) (new slots : List ℕ) → Reading.slots_by a new slots ≡ Line.slots_by a new slots
 unfolding Line.slots_by Reading.slots_by
 same_slots (T.is e) new slots = refl
 same_slots T.absent new slots = refl

@@ -1,7 +1,0 @@
--- `capi::packets::ck_packet` meets its contract: what the packet call answers. Assumes nothing.
-use Rattle.capi.proofs.Calling.{described_call}
-use Rattle.packet.specs.Packet.{places_of}
-use Rattle.capi.proofs.packets.ck_packet.Goals as goal
-
-pub returns : goal.returns
-returns c = described_call _ (places_of c.args.kind c.args.book.now c.args.dwords.now) c.args.places.now c.parse.ensures.answer c.parse.ensures.places c.packet_answer.ensures

@@ -1,9 +1,0 @@
--- `capi::told::tell_dword` meets its contract: case by case. Assumes nothing.
-use mathlib.Core.Path.{◌∙◌}
-use Rattle.capi.proofs.told.tell_dword.Goals as goal
-
-pub returns-in-Is : goal.returns-in-Is
-returns-in-Is c = c.value_of.ensures ∙ rw c.in-Is.is
-
-pub returns-in-Absent : goal.returns-in-Absent
-returns-in-Absent c = c.value_of-in-Absent.ensures ∙ rw c.in-Absent.is

@@ -5,17 +5,14 @@ ghost use Rattle.std.specs.Prelude.{◌≡◌, ◌-◌, ◌≤◌, ◌<◌, ◌^
 ghost use Rattle.bits.specs.Range.{range_of};
 
 // The value of bits `low` to `high` of `dword`, and 0 unless low ≤ high ≤ 31. A shift and a mask; no loop.
-#[tactic(auto, using(crate::proofs::Ranges::range_past_the_dword))]
 pub fn range(dword: u32, low: u8, high: u8) -> u32
     ensures { result ≡ range_of dword low high }
 {
-    if high < low {
-        return 0;
+    if low <= high && high <= 31 {
+        (dword >> low) & ones(high - low + 1)
+    } else {
+        0
     }
-    if 31 < high {
-        return 0;
-    }
-    (dword >> low) & ones(high - low + 1)
 }
 
 // The lowest `width` bits set. A width of 32 shifts by 0, so it is no case of its own.

@@ -84,6 +84,7 @@ impl Entry {
     pub fn data<'a>(self, slots: &'a [u32]) -> &'a [u32]
         ensures { OwnPartAt 4 slots.entry 0 self.dwords result }
     {
+        // Not by `get`: its contract does not say where the part lies, and `OwnPartAt` does.
         let n = self.dwords;
         if slots.len() < n {
             return &slots[..0];
@@ -96,12 +97,9 @@ impl Entry {
 fn part<'a>(text: &'a [u8], at: usize, len: usize) -> &'a [u8]
     ensures { OwnPartAt 1 text.entry at len result }
 {
-    if text.len() < at {
+    // Not by `get`, as in `data`.
+    if text.len() < at || text.len() - at < len {
         return &text[..0];
     }
-    if text.len() - at < len {
-        return &text[..0];
-    }
-    let end = at + len;
-    &text[at..end]
+    &text[at..at + len]
 }

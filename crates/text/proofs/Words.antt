@@ -110,6 +110,35 @@ module _ (s : List ℕ) where
       let z : i + 8 - i ≡ 8 = omega arith in
       rw z at (rw e at r.word)
 
+  -- the bytes of n from k on make w
+  pub record WordTo (n i w k : ℕ) : Type 0 where
+    pub within : k ≤ n
+    pub word : Word (n - k) s (i + k) w
+
+  pub word_start : (n i : ℕ) → WordTo n i 0 n
+  unfolding word_at
+  word_start n i = let z : n - n ≡ 0 = omega arith in record { within = omega arith; word = rw z (record { is = refl; bytes = λ k h. absurd (omega arith) }) }
+
+  pub word_fit : {n i w k : ℕ} (b : ℕ) → WordTo n i w k → n ≤ 8 → 0 < k → b < 256 → 256 * w + b < 18446744073709551616
+  word_fit {n} {i} {w} {k} b r h a l =
+      let small : w < 256 ^ (n - k) = rw r.word.is (word_below (n - k) (i + k) r.word.bytes) in
+      let p : 256 ^ (n - k) ≤ 256 ^ 7 = pow-le-pow_right {n = 256} (omega arith) {i = n - k} {j = 7} (omega arith) in
+      omega (arith, small, p)
+
+  pub word_step : {n i w k b : ℕ} → WordTo n i w k → 0 < k → b ≡ get_or s (i + (k - 1)) 0 → b < 256 → WordTo n i (256 * w + b) (k - 1)
+  word_step {n} {i} {w} {k} {b} r h e l =
+      let z : i + (k - 1) + 1 ≡ i + k = omega arith in
+      let q : n - k + 1 ≡ n - (k - 1) = omega (arith, r.within) in
+      let x : Word (n - k + 1) s (i + (k - 1)) (b + 256 ^ 1 * w) = word_join (n - k) 1 (word_one e l) (rw z r.word) in
+      let y : b + 256 ^ 1 * w ≡ 256 * w + b = omega arith in
+      record { within = omega (arith, r.within); word = rw (q, y) at x }
+
+  pub word_all : {n i w k : ℕ} → WordTo n i w k → k ≤ 0 → Word n s i w
+  word_all {n} {i} {w} {k} r h =
+      let e : n - k ≡ n = omega arith in
+      let z : i + k ≡ i = omega arith in
+      rw (e, z) at r.word
+
 -- 256^m is a power of two
 power_two : (m : ℕ) → 256 ^ m ≡ 2 ^ (8 * m)
 power_two zero = refl

@@ -8,7 +8,7 @@ pub fn eight(s: &[u8], i: usize) -> u64
     requires { i + 8 ≤ length s.now }
     ensures { Word 8 s.now i result }
 {
-    four(s, i) + 0x1_0000_0000 * four(s, i + 4)
+    word::<8>(s, i)
 }
 
 // The bytes up to the text's end, fewer than eight; those that are missing count as 0.
@@ -17,20 +17,10 @@ pub fn few(s: &[u8], i: usize) -> u64
     ensures { Word 8 s.now i result }
 {
     let mut w: u64 = 0;
-    let mut j = s.len();
-    while i < j {
-        j -= 1;
-        w = 0x100 * w + one(s[j]);
+    for j in (i..s.len()).rev() {
+        w = 0x100 * w + u64::from(s[j]);
     }
     w
-}
-
-// The four bytes from a place on.
-fn four(s: &[u8], i: usize) -> u64
-    requires { i + 4 ≤ length s.now }
-    ensures { (Word 4 s.now i result) × (result < 4294967296) }
-{
-    two(s, i) + 0x1_0000 * two(s, i + 2)
 }
 
 // The two bytes from a place on.
@@ -38,12 +28,24 @@ pub fn two(s: &[u8], i: usize) -> u64
     requires { i + 2 ≤ length s.now }
     ensures { (Word 2 s.now i result) × (result < 65536) }
 {
-    one(s[i]) + 0x100 * one(s[i + 1])
+    word::<2>(s, i)
+}
+
+// The `N` bytes from a place on, at most eight.
+fn word<const N: usize>(s: &[u8], i: usize) -> u64
+    requires { (N ≤ 8) × (i + N ≤ length s.now) }
+    ensures { Word N s.now i result }
+{
+    let mut w: u64 = 0;
+    for k in (0..N).rev() {
+        w = 0x100 * w + u64::from(s[i + k]);
+    }
+    w
 }
 
 // The byte as a number, with its bound.
 pub fn one(b: u8) -> u64
     ensures { (result ≡ b) × (result < 256) }
 {
-    b as u64
+    u64::from(b)
 }

@@ -1,9 +1,9 @@
 -- Numbers of any width, low byte first: a number of j + k bytes is one of j bytes and, times 256 ^ j, one of k bytes behind it. All else is by
 -- one byte at a time. Assumes nothing.
-use Prim.Native.Nat.{ℕ, zero, suc, ◌+◌, ◌*◌, ◌/◌, ◌%◌, ◌^◌, ◌≤◌, ◌<◌}
+use Prim.Native.Nat.{ℕ, zero, suc, ◌+◌, ◌-◌, ◌*◌, ◌/◌, ◌%◌, ◌^◌, ◌≤◌, ◌<◌}
 use mathlib.Core.Path.{◌≡◌, ◌∙◌, sym, ap, refl}
 use mathlib.Core.List.{List, ◌∷◌, ◌++◌}
-use native.Mathlib.Nat.{zero-add, add-zero, suc-add, pow-suc, mul-le-mul_left, mod-lt, div-lt_iff_lt-mul}
+use native.Mathlib.Nat.{zero-add, add-zero, suc-add, pow-suc, mul-le-mul_left, pow-le-pow_right, mod-lt, div-lt_iff_lt-mul}
 use native.Mathlib.Numerals.{add-one}
 use native.Mathlib.Omega.{arith}
 use lib.ListN.{length, get_or, take, drop, get_or-eq_default}
@@ -106,6 +106,37 @@ bytes_hold (suc k) = rw (pow-suc 256 k) (omega (arith, bytes_hold k))
 -- past the end a read answers 0
 pub read_past : (k : ℕ) (s : List ℕ) (i : ℕ) → length s ≤ i → Read k s i 0
 read_past k s i h = record { is = sym (number_past k s i h); fits = bytes_hold k }
+
+-- the bytes of k from j on make n
+pub record ReadTo (k : ℕ) (s : List ℕ) (i n j : ℕ) : Type 0 where
+  pub within : j ≤ k
+  pub read : Read (k - j) s (i + j) n
+
+pub read_start : (k : ℕ) (s : List ℕ) (i : ℕ) → ReadTo k s i 0 k
+unfolding number
+read_start k s i = let z : k - k ≡ 0 = omega arith in record { within = omega arith; read = rw z (record { is = refl; fits = omega arith }) }
+
+pub read_fit : {k : ℕ} {s : List ℕ} {i n j : ℕ} (b : ℕ) → ReadTo k s i n j → k ≤ 8 → 0 < j → b < 256 → 256 * n + b < 18446744073709551616
+read_fit {k} {s} {i} {n} {j} b r h a l =
+    let p : 256 ^ (k - j) ≤ 256 ^ 7 = pow-le-pow_right {n = 256} (omega arith) {i = k - j} {j = 7} (omega arith) in
+    omega (arith, r.read.fits, p)
+
+pub read_step : {k : ℕ} {s : List ℕ} {i n j b : ℕ} → ReadTo k s i n j → 0 < j → (b ≡ get_or s (i + (j - 1)) 0) × (b < 256) → ReadTo k s i (256 * n + b) (j - 1)
+unfolding number
+read_step {k} {s} {i} {n} {j} {b} r h e =
+    let z : i + (j - 1) + 1 ≡ i + j = omega arith in
+    let q : k - (j - 1) ≡ suc (k - j) = omega (arith, r.within) in
+    let m : number (k - j) s (i + (j - 1) + 1) ≡ n = rw z (sym r.read.is) in
+    record {
+      within = omega (arith, r.within);
+      read = rw q (record { is = omega (arith, e.0, m); fits = rw (pow-suc 256 (k - j)) (omega (arith, r.read.fits, e.1)) });
+    }
+
+pub read_all : {k : ℕ} {s : List ℕ} {i n j : ℕ} → ReadTo k s i n j → j ≤ 0 → Read k s i n
+read_all {k} {s} {i} {n} {j} r h =
+    let e : k - j ≡ k = omega arith in
+    let z : i + j ≡ i = omega arith in
+    rw (e, z) at r.read
 
 -- a byte is a read of one byte
 pub read_byte : (s : List ℕ) (i : ℕ) {r : ℕ} → (r ≡ get_or s i 0) × (r < 256) → Read 1 s i r

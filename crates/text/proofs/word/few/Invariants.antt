@@ -4,6 +4,3 @@ use Rattle.text.proofs.word.few.Given as goal
 
 abbrev pub invariant-loop-j : goal.invariant-loop-j
 invariant-loop-j l = FewTo l.s l.i l.w l.j
-
-abbrev pub decreases-loop-j : goal.decreases-loop-j
-decreases-loop-j l = l.j

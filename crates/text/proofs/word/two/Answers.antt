@@ -1,7 +1,7 @@
--- `word::two` meets its contract: two bytes, one behind the other. Assumes nothing.
-use Rattle.text.proofs.Words.{word_one, word_join}
+-- `word::two` meets its contract: two bytes make a number below 256^2. Assumes nothing.
+use Rattle.text.proofs.Words.{word_below}
 use native.Mathlib.Omega.{arith}
 use Rattle.text.proofs.word.two.Goals as goal
 
 pub returns : goal.returns
-returns c = (word_join _ 1 1 (word_one _ c.one.ensures.0 c.one.ensures.1) (word_one _ c.one-2.ensures.0 c.one-2.ensures.1), omega (arith, c.one.ensures.1, c.one-2.ensures.1))
+returns c = (c.word.ensures, omega (arith, c.word.ensures.is, word_below c.args.s.now 2 c.args.i c.word.ensures.bytes))

@@ -1,12 +1,10 @@
 -- Padding copies a text over zeros, and the start of a padded name, as long as it says, is the name. Assumes nothing.
-use native.Mathlib.Nat.{zero-add}
-use Prim.Native.Nat.{ℕ, zero, suc, ◌+◌, ◌-◌, ◌≤◌, ◌<◌}
-use mathlib.Core.Path.{◌≡◌, sym, ap, ◌∙◌}
+use Prim.Native.Nat.{ℕ, zero, suc, ◌-◌, ◌≤◌}
+use mathlib.Core.Path.{◌≡◌}
 use mathlib.Core.List.{List, ◌++◌}
-use native.Mathlib.Numerals.{add-one}
 use native.Mathlib.Omega.{arith}
-use lib.ListN.{length, get_or, take, drop, set, replicate, length-append}
-use lib.Seq.{paste, paste-zero, paste-suc, take-length, take-append_seam}
+use lib.ListN.{length, take, drop, replicate, length-append}
+use lib.Seq.{take-append_seam}
 use Rattle.entry.specs.declared.events.Name.{Name}
 use Rattle.entry.specs.Event.{padded}
 

@@ -9,8 +9,7 @@ use crate::pair::Span;
 use text::number::{MAX_32, hex};
 use text::place::byte_at;
 use text::run::until;
-use text::table::wide;
-use text::word::{one, two};
+use text::word::two;
 
 // A piece by its end and its dword, none where it is bad.
 #[derive(Clone, Copy)]
@@ -117,8 +116,7 @@ fn eight_digits(s: &[u8], t: &[u8; 256], at: usize) -> Option<u32>
     let mut v: u64 = 0;
     let mut sum: u64 = 0;
     for k in 0..8 {
-        let j = wide(s[at + k]);
-        let d = one(t[j]);
+        let d = u64::from(t[s[at + k] as usize]);
         v = v * 16 + d;
         sum += d;
     }

@@ -1,8 +1,7 @@
 -- Hex numbers, and why a text is none: the digits start behind one `0x`, whose `x` is no digit, so each answer is the reading of what stands
 -- there; one proof over the limit serves every width. Assumes nothing.
-use Rattle.std.specs.Prelude.{Err, None, Ok, Result, Some}
+use Rattle.std.specs.Prelude.{Err, Ok, Result, Some}
 use Rattle.text.specs.declared.number.BadNumber.{BadNumber}
-use Rattle.text.specs.declared.number.BadNumber.TheVariants as BadNumber
 use Prim.Native.Nat.{ℕ, ◌≤◌, ◌<◌}
 use mathlib.Core.Path.{◌≡◌, refl, sym, ap, ◌∙◌}
 use mathlib.Core.Bool.{Bool, true, false, cond, ◌&&◌}
@@ -16,7 +15,6 @@ use borrow.Author.Tests.{eq-eqb, ne_eqb, eqb-true}
 use Rattle.text.specs.Class.{between, is_digit}
 use Rattle.text.specs.Place.{is_at}
 use Rattle.text.specs.Number.{digit_of, value, Reads, HexNumber, DigitsFrom, EmptyHex, Means, digits_from, hex_of, hex_number_of}
-use Rattle.std.specs.Result.{result_ok}
 use Rattle.std.specs.List.{starts_with as has_prefix}
 use lib.Dec.{eqb}
 use Rattle.text.proofs.Texts.{both_left, both_right}

@@ -10,7 +10,7 @@ use mathlib.Core.List.{List}
 use native.Mathlib.Omega.{arith}
 use lib.Dec.{ltb}
 use lib.ListN.{length, get_or}
-use borrow.Author.Tests.{lt-ltb, le-ltb, ltb-true, not-true, not-false}
+use borrow.Author.Tests.{ltb-true, not-true, not-false}
 use Rattle.text.specs.Class.{is_word, no_word, other_than}
 use Rattle.text.specs.Place.{Free, is_at, first_of, first_in, found_below, first_place, first_byte, last_place, last_byte}
 use Rattle.text.specs.Run.{Run, RunBack, EndsAt, StartsAt, fails_at, run_end, behind, run_start}

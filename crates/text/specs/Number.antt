@@ -1,6 +1,5 @@
 -- Decimal and hex numbers, for any base up to 16 and any limit: what is meant, why a text is no hex number, and the one answer.
 use Rattle.text.specs.declared.number.BadNumber.{BadNumber}
-use Rattle.text.specs.declared.number.BadNumber.TheVariants as BadNumber
 use Rattle.std.specs.Prelude.{ℕ, ◌+◌, ◌*◌, ◌-◌, ◌≤◌, ◌<◌, ◌≡◌, Bool, true, cond, ◌&&◌, List, [], ◌∷◌, ltb, leb, length, get_or, take, drop, Err, None, Ok, Option, Result, Some}
 use Rattle.std.specs.Result.{result_ok}
 use Rattle.text.specs.Class.{between, is_digit}

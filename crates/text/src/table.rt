@@ -1,7 +1,7 @@
 // One table for digits of either base and word bytes: a digit's entry is its value, another word byte's is 128, any other byte's is more, so each of
 // these classes is one comparison.
 // Right because the entries are computed from the classes, byte by byte. Whoever needs the table writes it out once and lends it.
-ghost use Rattle.std.specs.Prelude.{◌≡◌, ◌<◌, get_or};
+ghost use Rattle.std.specs.Prelude.{◌≡◌, get_or};
 ghost use Rattle.text.specs.Class.{is_word, no_word};
 ghost use Rattle.text.specs.Run.{EndsAt};
 ghost use Rattle.text.specs.Table.{table};
@@ -42,11 +42,4 @@ fn is_word(t: &[u8; 256], b: u8) -> bool
     ensures { result ≡ is_word b }
 {
     t[b as usize] <= WORD
-}
-
-// A byte as a place in the table.
-pub fn wide(b: u8) -> usize
-    ensures { (result ≡ b) × (result < 256) }
-{
-    b as usize
 }

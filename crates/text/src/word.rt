@@ -42,10 +42,3 @@ fn word<const N: usize>(s: &[u8], i: usize) -> u64
     }
     w
 }
-
-// The byte as a number, with its bound.
-pub fn one(b: u8) -> u64
-    ensures { (result ≡ b) × (result < 256) }
-{
-    u64::from(b)
-}

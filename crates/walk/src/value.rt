@@ -11,8 +11,7 @@ ghost use Rattle.walk.specs.Kept.{digits_start, nothing, kept_number, kept_in, v
 use pairs::keys::Form;
 use pairs::pair::value_end;
 use text::number::{SHORT, decimal, digits_from, hex, within};
-use text::table::{is_word_at, wide, word_end};
-use text::word::one;
+use text::table::{is_word_at, word_end};
 
 // What is kept of a value: the number that it says, or where its text starts; and where it ends. An end of 0 keeps nothing.
 #[derive(Clone, Copy)]
@@ -96,8 +95,7 @@ fn digits_at(s: &[u8], t: &[u8; 256], from: usize, base: u64) -> Digits
     let mut value: u64 = 0;
     let mut j = from;
     while j < s.len() {
-        let k = wide(s[j]);
-        let d = one(t[k]);
+        let d = u64::from(t[s[j] as usize]);
         if base <= d {
             break;
         }

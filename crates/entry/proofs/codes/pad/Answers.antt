@@ -1,9 +1,5 @@
 -- `codes::pad` meets its contract: behind the copy stand the zeros that are left. Assumes nothing.
 use Rattle.entry.proofs.Pads.{copied}
-use mathlib.Core.Path.{ap}
-use mathlib.Core.List.{◌++◌}
-use lib.ListN.{length, drop, replicate}
-use Prim.Native.Nat.{ℕ}
 use Rattle.entry.proofs.codes.pad.Goals as goal
 
 pub returns : goal.returns

@@ -1,6 +1,5 @@
 -- `number::digits_from` meets its contract: the prefix says where the digits start. Assumes nothing.
 use Rattle.text.proofs.Hexes.{from_prefix}
-use mathlib.Core.Path.{sym, ◌∙◌}
 use Rattle.text.proofs.number.digits_from.Goals as goal
 
 pub returns-then-starts_with : goal.returns-then-starts_with

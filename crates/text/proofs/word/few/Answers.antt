@@ -1,7 +1,6 @@
 -- `word::few` meets its contract: from the text's end back each byte is put below those read, and past the end all bytes are 0. Assumes nothing.
 use Rattle.text.proofs.Words.{bytes_start, bytes_fit, bytes_step, bytes_all}
 use Prim.Native.Nat.{◌-◌}
-use mathlib.Core.Path.{refl}
 use native.Mathlib.Omega.{arith}
 use Rattle.text.proofs.word.few.Goals as goal
 

@@ -1,7 +1,6 @@
 -- `word::word` meets its contract: each byte is put below those behind it. Assumes nothing.
 use Prim.Native.Nat.{◌+◌, ◌-◌}
 use Rattle.text.proofs.Words.{word_start, word_fit, word_step, word_all}
-use mathlib.Core.Path.{◌∙◌}
 use native.Mathlib.Omega.{arith}
 use Rattle.text.proofs.word.word.Goals as goal
 

@@ -1,6 +1,7 @@
 -- `value::digits_at` meets its contract: what is read so far is a `ReadTo`, which is all that each way out says. Assumes nothing.
 use Rattle.text.proofs.DigitRuns.{read_starts, read_fits, read_steps}
 use Rattle.walk.proofs.Values.{read_all, entry_reads}
+use mathlib.Core.Path.{refl}
 use native.Mathlib.Omega.{arith}
 use Rattle.walk.proofs.value.digits_at.Goals as goal
 
@@ -19,7 +20,7 @@ overflow_add-value c = record { fits = omega (arith, read_fits _ _ _ c.loop-j.in
 pub loop-j-preserved : goal.loop-j-preserved
 loop-j-preserved c =
     read_steps _ _ _ c.loop-j.invariant c.loop-j-test.true c.requires.2
-    (entry_reads c.requires.0 c.wide-k.ensures.0 c.wide-k.ensures.1 c.one-d.ensures.0 c.requires.2 c.if-base-d.false)
+    (entry_reads c.requires.0 refl (omega (arith, c.type_inv.s c.loop-j.j)) c.from-d.ensures c.requires.2 c.if-base-d.false)
     c.if-base-d.false
 
 pub returns-after-loop-j : goal.returns-after-loop-j

@@ -1,11 +1,10 @@
 -- The unreadable hex numbers of a line, in the order of their rows.
 use Rattle.text.specs.declared.number.BadNumber.{BadNumber}
-use Rattle.text.specs.declared.number.BadNumber.TheVariants as BadNumber
-use Rattle.std.specs.Prelude.{ℕ, ◌+◌, ◌-◌, ◌^◌, ◌<◌, ◌≡◌, List, [], ◌∷◌, ◌++◌, Err, Ok, Result, None, Option}
+use Rattle.std.specs.Prelude.{ℕ, ◌+◌, ◌-◌, ◌^◌, ◌<◌, ◌≡◌, List, [], ◌∷◌, ◌++◌, Err, Ok, Result, None, Option, Some}
 use Rattle.text.specs.Told.{Told, is, absent, refused}
 use Rattle.text.specs.Number.{hex_of}
 use Rattle.pairs.specs.declared.pair.Span.{Span}
-use Rattle.pairs.specs.Pair.{part, span}
+use Rattle.pairs.specs.Pair.{part}
 use Rattle.pairs.specs.Data.{cut}
 use Rattle.reasons.specs.declared.Key.{Key}
 use Rattle.reasons.specs.declared.Key.TheVariants as K
@@ -14,24 +13,20 @@ use Rattle.reasons.specs.declared.payload.Place.{Place}
 use Rattle.reasons.specs.Reasons.{payload_place, key_in, data_span}
 use Rattle.why_rows.specs.declared.What.{What}
 use Rattle.why_rows.specs.declared.What.TheVariants as W
-use Rattle.why_rows.specs.declared.Reason.{Reason}
-use Rattle.why_rows.specs.declared.Reason.TheVariants as Y
 
 -- an unreadable number: which it is, its text, and why it is none
 pub record Finding : Type 0 where
   pub what : What
   pub text : List ℕ
-  pub reason : Reason
+  pub reason : BadNumber
 
-abbrev pub finding : What → List ℕ → Reason → Finding
+abbrev pub finding : What → List ℕ → BadNumber → Finding
 finding w s y = record { what = w; text = s; reason = y }
 
 -- what a text's reading leaves to tell: nothing of a number
 unfoldable pub unread : What → List ℕ → Result ℕ BadNumber → List Finding
 unread w s (Ok v) = []
-unread w s (Err BadNumber.Empty) = finding w s Y.Empty ∷ []
-unread w s (Err (BadNumber.BadDigit k)) = finding w s (Y.BadDigit k) ∷ []
-unread w s (Err BadNumber.TooWide) = finding w s Y.TooWide ∷ []
+unread w s (Err y) = finding w s y ∷ []
 
 -- the same of an answer about a part of the text; nothing of one that is absent
 unfoldable pub asked : What → List ℕ → Told HexText → List Finding

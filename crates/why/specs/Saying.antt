@@ -8,7 +8,7 @@ use Rattle.reasons.specs.Reasons.{payload_place}
 use Rattle.why_rows.specs.declared.tally.Counts.{Counts}
 use Rattle.why_rows.specs.Rows.{row_text, totals_text}
 use Rattle.why_rows.specs.Tally.{up, with_line, with_payload, tally}
-use Rattle.why.specs.declared.asking.Done.{Done}
+use Rattle.why.specs.declared.asking.Asking.{Asking}
 use Rattle.why.specs.Finding.{Finding, findings}
 
 -- the rows of the unreadable numbers of the line of that number
@@ -28,22 +28,21 @@ line_counts c absent = with_line c
 line_counts c (refused k) = with_line c
 
 -- each of these rows was said through the sink, in order, and nothing else
-pub data SaidAll (exit : List ℕ) (r : Sink) : List ℕ → Sink → List (List ℕ) → Type 0 where
-  none : {out : List ℕ} {sink : Sink} → exit ≡ out → r ≡ sink → SaidAll exit r out sink []
-  next : {out mid row : List ℕ} {sink m : Sink} {rows : List (List ℕ)} → Said out sink row mid m → SaidAll exit r mid m rows →
-      SaidAll exit r out sink (row ∷ rows)
+pub data SaidAll (r : Sink) : Sink → List (List ℕ) → Type 0 where
+  none : {s : Sink} → r ≡ s → SaidAll r s []
+  next : {row : List ℕ} {s m : Sink} {rows : List (List ℕ)} → Said s row m → SaidAll r m rows → SaidAll r s (row ∷ rows)
 
--- the rows of unreadable numbers were said, and counted
-pub record Gone (n : ℕ) (d : Done) (fs : List Finding) (out exit : List ℕ) (r : Done) : Type 0 where
-  pub says : SaidAll exit r.sink out d.sink (rows_of n fs)
+-- the rows of unreadable numbers of the line that was counted last were said, and counted
+pub record Gone (d : Asking) (fs : List Finding) (r : Asking) : Type 0 where
+  pub says : SaidAll r.sink d.sink (rows_of d.counts.lines fs)
   pub counts : r.counts ≡ tallied d.counts fs
 
 -- the rows of a line's unreadable numbers were said, under the number of the line, and all is counted
-pub record LineSaid (t : List ℕ) (d : Done) (out exit : List ℕ) (r : Done) : Type 0 where
-  pub says : SaidAll exit r.sink out d.sink (rows_of (up d.counts.lines) (findings t))
+pub record LineSaid (t : List ℕ) (d r : Asking) : Type 0 where
+  pub says : SaidAll r.sink d.sink (rows_of (up d.counts.lines) (findings t))
   pub counts : r.counts ≡ tallied (line_counts d.counts (payload_place t)) (findings t)
 
 -- the totals were said
-pub record TotalsSaid (d : Done) (out exit : List ℕ) (r : Done) : Type 0 where
-  pub says : Said out d.sink (totals_text d.counts) exit r.sink
+pub record TotalsSaid (d r : Asking) : Type 0 where
+  pub says : Said d.sink (totals_text d.counts) r.sink
   pub counts : r.counts ≡ d.counts

@@ -1,251 +1,133 @@
 // What is asked of a line and said of it. The payload is found once, and its data once: the pieces are walked, so that the work is that of a line's
 // length.
-ghost use Rattle.std.specs.Prelude.{[], ◌∷◌, ◌++◌, ◌+◌, ◌*◌, ◌≤◌, length};
-ghost use Rattle.why_rows.specs.Rows.{PlaceWithin};
-ghost use Rattle.why.specs.Finding.{finding, unread, key_found, data_found, pieces_found, found_in, ReadingWithin};
-ghost use Rattle.why.specs.Saying.{Gone, LineSaid, TotalsSaid};
-ghost use Rattle.reasons.specs.declared.Key.TheVariants as K;
+ghost use Rattle.std.specs.Prelude.{◌≤◌, length};
+ghost use Rattle.why.specs.Finding.{unread, key_found, data_found, pieces_found, found_in, ReadingWithin};
 ghost use Rattle.reasons.specs.Reasons.{data_span};
 ghost use Rattle.pairs.specs.Data.{cut};
 
-use channel::sink::{Sink, say};
+use channel::sink::Sink;
 use pairs::dwords::piece_end;
 use pairs::pair::Span;
-use reasons::payload::{find_data, payload_of};
+use print::page::Page;
+use reasons::payload::{Place, find_data, payload_of};
 use reasons::{Key, key_in};
-use std::io::Stdout;
-use text::number::{MAX_32, hex};
-use why_rows::tally::{Counts, count_line, count_payload, count_reason};
-use why_rows::{Reason, What, put_row, put_totals};
+use text::number::{BadNumber, MAX_32, hex};
+use why_rows::tally::Counts;
+use why_rows::{What, put_row, put_totals};
 
-// What was said, and what was counted.
-#[derive(Clone, Copy)]
-pub struct Done {
-    pub sink: Sink,
+// What waits to be written, what was counted, and a buffer that has room for a row of the longest line.
+#[derive(Drop)]
+pub struct Asking<'a> {
+    pub sink: Sink<'a>,
     pub counts: Counts,
+    pub row: &'a mut [u8],
+    ghost room: { 20736 ≤ length row.now },
 }
 
-// The rows of a line's unreadable numbers. Asked for: room for a row of the longest line, which `main` lends.
-pub fn say_line(output: Stdout, line: &[u8], row: &mut [u8], out: &mut [u8], done: Done) -> Done
-    requires { 20736 ≤ length row.old }
-    ensures { LineSaid line.now done out.old out.new result }
-{
-    let sink = done.sink;
-    let counts = count_line(done.counts);
-    let n = counts.lines;
-    match payload_of(line) {
-        Ok(place) => {
-            let from = place.from;
-            let to = place.to;
-            let begun = Done {
-                sink: sink,
-                counts: count_payload(counts),
-            };
-            say_payload(output, &line[from..to], n, row, out, begun)
-        }
-        Err(_) => Done {
-            sink: sink,
-            counts: counts,
-        },
-    }
-}
+impl<'a> Asking<'a> {
+    ghost use Rattle.why.specs.Saying.{Gone, LineSaid, TotalsSaid};
 
-// Each key's, then those of the data.
-fn say_payload(
-    output: Stdout,
-    payload: &[u8],
-    n: u64,
-    row: &mut [u8],
-    out: &mut [u8],
-    done: Done,
-) -> Done
-    requires { 256 + 5 * length payload.now ≤ length row.old }
-    ensures { Gone n done (found_in payload.now) out.old out.new result }
-{
-    let a = say_address(output, payload, n, row, out, done);
-    let b = say_small(output, payload, n, row, out, a);
-    say_data(output, payload, n, row, out, b)
-}
-
-// Where a packet goes.
-fn say_address(
-    output: Stdout,
-    payload: &[u8],
-    n: u64,
-    row: &mut [u8],
-    out: &mut [u8],
-    done: Done,
-) -> Done
-    requires { 256 + 5 * length payload.now ≤ length row.old }
-    ensures { Gone n done (key_found payload.now K.Route ++ key_found payload.now K.Offset) out.old out.new result }
-{
-    let a = say_key(output, payload, n, Key::Route, row, out, done);
-    say_key(output, payload, n, Key::Offset, row, out, a)
-}
-
-// The keys of 8 bits.
-fn say_small(
-    output: Stdout,
-    payload: &[u8],
-    n: u64,
-    row: &mut [u8],
-    out: &mut [u8],
-    done: Done,
-) -> Done
-    requires { 256 + 5 * length payload.now ≤ length row.old }
-    ensures { Gone n done (key_found payload.now K.Error ++ (key_found payload.now K.Config ++ key_found payload.now K.Unplug)) out.old out.new result }
-{
-    let a = say_key(output, payload, n, Key::Error, row, out, done);
-    let b = say_key(output, payload, n, Key::Config, row, out, a);
-    say_key(output, payload, n, Key::Unplug, row, out, b)
-}
-
-fn say_key(
-    output: Stdout,
-    payload: &[u8],
-    n: u64,
-    key: Key,
-    row: &mut [u8],
-    out: &mut [u8],
-    done: Done,
-) -> Done
-    requires { 256 + 5 * length payload.now ≤ length row.old }
-    ensures { Gone n done (key_found payload.now key) out.old out.new result }
-{
-    match key_in(payload, 0, key) {
-        Some(text) => {
-            let from = text.from;
-            let to = text.to;
-            let reading = text.reading;
-            say_text(
-                output,
-                &payload[from..to],
-                n,
-                What::Key(key),
-                reading,
-                row,
-                out,
-                done,
-            )
-        }
-        None => done,
-    }
-}
-
-fn say_data(
-    output: Stdout,
-    payload: &[u8],
-    n: u64,
-    row: &mut [u8],
-    out: &mut [u8],
-    done: Done,
-) -> Done
-    requires { 256 + 5 * length payload.now ≤ length row.old }
-    ensures { Gone n done (data_found payload.now (data_span payload.now)) out.old out.new result }
-{
-    match find_data(payload) {
-        Some(Span { from, to }) => say_pieces(output, &payload[from..to], n, row, out, done),
-        None => done,
-    }
-}
-
-fn say_pieces(
-    output: Stdout,
-    inner: &[u8],
-    n: u64,
-    row: &mut [u8],
-    out: &mut [u8],
-    done: Done,
-) -> Done
-    requires { 256 + 5 * length inner.now ≤ length row.old }
-    ensures { Gone n done (pieces_found 0 (cut inner.now)) out.old out.new result }
-{
-    let mut said = done;
-    let mut i: u64 = 0;
-    let mut at: usize = 0;
-    loop {
-        let to = piece_end(inner, at);
-        let reading = hex(&inner[at..to], MAX_32);
-        said = say_text(
-            output,
-            &inner[at..to],
-            n,
-            What::Piece(i),
-            reading,
+    pub fn new(sink: Sink<'a>, row: &'a mut [u8]) -> Asking<'a>
+        requires { 20736 ≤ length row.old }
+    {
+        Asking {
+            sink,
+            counts: Counts::new(),
             row,
-            out,
-            said,
-        );
-        if to == inner.len() {
-            return said;
         }
-        i += 1;
-        at = to + 2;
     }
-}
 
-// A row for a text that is no number, and nothing for one that is.
-fn say_text(
-    output: Stdout,
-    text: &[u8],
-    n: u64,
-    what: What,
-    reading: Result<u64, BadNumber>,
-    row: &mut [u8],
-    out: &mut [u8],
-    done: Done,
-) -> Done
-    requires { (256 + 5 * length text.now ≤ length row.old) × (ReadingWithin reading (length text.now)) }
-    ensures { Gone n done (unread what text.now reading) out.old out.new result }
-{
-    match reading {
-        Ok(_) => done,
-        Err(BadNumber::Empty) => say_row(output, text, n, what, Reason::Empty, row, out, done),
-        Err(BadNumber::BadDigit(place)) => say_row(
-            output,
-            text,
-            n,
-            what,
-            Reason::BadDigit(place),
-            row,
-            out,
-            done,
-        ),
-        Err(BadNumber::TooWide) => say_row(output, text, n, what, Reason::TooWide, row, out, done),
+    // A line that nothing is said of.
+    pub fn count_line(&mut self) {
+        self.counts.count_line();
     }
-}
 
-fn say_row(
-    output: Stdout,
-    text: &[u8],
-    n: u64,
-    what: What,
-    reason: Reason,
-    row: &mut [u8],
-    out: &mut [u8],
-    done: Done,
-) -> Done
-    requires { (256 + 5 * length text.now ≤ length row.old) × (PlaceWithin reason (length text.now)) }
-    ensures { Gone n done (finding what text.now reason ∷ []) out.old out.new result }
-{
-    let end = put_row(row, n, what, text, reason);
-    let sink = say(output, out, done.sink, &row[..end]);
-    Done {
-        sink: sink,
-        counts: count_reason(done.counts, reason),
+    // Writes what waits.
+    pub fn flush(&mut self) {
+        self.sink.flush();
     }
-}
 
-// The totals.
-pub fn say_end(output: Stdout, out: &mut [u8], done: Done) -> Done
-    ensures { TotalsSaid done out.old out.new result }
-{
-    let counts = done.counts;
-    let mut row = [0u8; 256];
-    let end = put_totals(&mut row, counts);
-    let sink = say(output, out, done.sink, &row[..end]);
-    Done {
-        sink: sink,
-        counts: counts,
+    // The rows of a line's unreadable numbers.
+    pub fn say_line(&mut self, line: &[u8])
+        ensures { LineSaid line.now self.old self.new }
+    {
+        self.counts.count_line();
+        if let Ok(Place { from, to }) = payload_of(line) {
+            self.counts.count_payload();
+            self.say_payload(&line[from..to]);
+        }
+    }
+
+    // Each key's, then those of the data.
+    fn say_payload(&mut self, payload: &[u8])
+        requires { length payload.now ≤ 4096 }
+        ensures { Gone self.old (found_in payload.now) self.new }
+    {
+        self.say_key(payload, Key::Route);
+        self.say_key(payload, Key::Offset);
+        self.say_key(payload, Key::Error);
+        self.say_key(payload, Key::Config);
+        self.say_key(payload, Key::Unplug);
+        self.say_data(payload);
+    }
+
+    fn say_key(&mut self, payload: &[u8], key: Key)
+        requires { length payload.now ≤ 4096 }
+        ensures { Gone self.old (key_found payload.now key) self.new }
+    {
+        if let Some(text) = key_in(payload, 0, key) {
+            self.say_text(What::Key(key), &payload[text.from..text.to], text.reading);
+        }
+    }
+
+    fn say_data(&mut self, payload: &[u8])
+        requires { length payload.now ≤ 4096 }
+        ensures { Gone self.old (data_found payload.now (data_span payload.now)) self.new }
+    {
+        if let Some(Span { from, to }) = find_data(payload) {
+            self.say_pieces(&payload[from..to]);
+        }
+    }
+
+    fn say_pieces(&mut self, inner: &[u8])
+        requires { length inner.now ≤ 4096 }
+        ensures { Gone self.old (pieces_found 0 (cut inner.now)) self.new }
+    {
+        let mut i = 0;
+        let mut at = 0;
+        loop {
+            let to = piece_end(inner, at);
+            let piece = &inner[at..to];
+            self.say_text(What::Piece(i), piece, hex(piece, MAX_32));
+            if to == inner.len() {
+                return;
+            }
+            i += 1;
+            at = to + 2;
+        }
+    }
+
+    // A row for a text that is no number, and nothing for one that is.
+    fn say_text(&mut self, what: What, text: &[u8], reading: Result<u64, BadNumber>)
+        requires short { length text.now ≤ 4096 }
+        requires within { ReadingWithin reading (length text.now) }
+        ensures { Gone self.old (unread what text.now reading) self.new }
+    {
+        let Err(reason) = reading else {
+            return;
+        };
+        let mut page = Page::new(self.row);
+        put_row(&mut page, self.counts.lines, what, text, reason);
+        self.sink.say(page.text());
+        self.counts.count_reason(reason);
+    }
+
+    // The totals.
+    pub fn say_end(&mut self)
+        ensures { TotalsSaid self.old self.new }
+    {
+        let mut page = Page::new(self.row);
+        put_totals(&mut page, self.counts);
+        self.sink.say(page.text());
     }
 }

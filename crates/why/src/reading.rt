@@ -1,0 +1,87 @@
+// The input, part after part and line after line.
+ghost use Rattle.std.specs.Prelude.{◌≤◌, length};
+
+use crate::asking::Asking;
+use channel::fault::{Fault, NO_REASON};
+use channel::reading::read_some;
+use framing::{Framing, feed};
+use std::io::Stdin;
+use text::place::byte_at;
+
+// Why the input was left before its end: a read failed, or a line starts with A1.
+#[derive(Clone, Copy, Debug, PartialEq, Eq)]
+pub enum Stop {
+    Unread(Fault),
+    Record,
+}
+
+// What is asked and said, and so many bytes of the open line.
+#[derive(Drop)]
+pub struct Reading<'a> {
+    pub asking: Asking<'a>,
+    pub unit: &'a mut [u8],
+    pub held: usize,
+    ghost room: { 65539 ≤ length unit.now },
+    ghost inside: { held ≤ length unit.now },
+}
+
+impl<'a> Reading<'a> {
+    pub fn new(asking: Asking<'a>, unit: &'a mut [u8]) -> Reading<'a>
+        requires { 65539 ≤ length unit.old }
+    {
+        Reading {
+            asking,
+            unit,
+            held: 0,
+        }
+    }
+
+    // Part after part to the end of the input; after a write that failed nothing more is read. No input lasts for all the turns.
+    pub fn read_all(&mut self, mut from: Stdin, input: &mut [u8]) -> Result<(), Stop> {
+        for _ in 0..u64::MAX {
+            let Some(n) = read_some(&mut from, input).map_err(Stop::Unread)? else {
+                return self.end();
+            };
+            self.take_part(&input[..n])?;
+            if self.asking.sink.fault.is_some() {
+                return Ok(());
+            }
+        }
+        Err(Stop::Unread(NO_REASON))
+    }
+
+    // All lines that end in a part; what is open is held.
+    fn take_part(&mut self, part: &[u8]) -> Result<(), Stop> {
+        let mut from = 0;
+        while from < part.len() && self.asking.sink.fault.is_none() {
+            let fed = feed(Framing::Lines, part, from, self.unit, self.held);
+            from = fed.at;
+            self.held = fed.held;
+            if fed.whole {
+                self.take_line()?;
+            }
+        }
+        Ok(())
+    }
+
+    // The line that is held. One that starts with A1 is a record, and what follows may be pieces of it: nothing more is looked at. It is numbered, for the
+    // sentence that tells of it.
+    fn take_line(&mut self) -> Result<(), Stop> {
+        if byte_at(&self.unit[..self.held], 0) == 0xA1 {
+            self.asking.count_line();
+            return Err(Stop::Record);
+        }
+        self.asking.say_line(&self.unit[..self.held]);
+        self.held = 0;
+        Ok(())
+    }
+
+    // A last line with no newline counts if it has a byte. Then the totals, unless the input stopped at a record.
+    fn end(&mut self) -> Result<(), Stop> {
+        if 0 < self.held {
+            self.take_line()?;
+        }
+        self.asking.say_end();
+        Ok(())
+    }
+}

@@ -13,7 +13,7 @@ pub struct Decision {
     pub name: Name,
 }
 
-// The row that holds the code: its event and its name.
+// The row that holds the code: its event and its name. One arm a row, as the paper's table has it.
 pub fn decide(code: u8) -> Decision
     ensures { (result.event ≡ event_of code) × (result.name ≡ padded (name_at code)) }
 {

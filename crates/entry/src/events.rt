@@ -29,7 +29,8 @@ pub enum Event {
     Unknown(u8),
 }
 
-// The longest name has 14 bytes. What stands behind the name's length is zero.
+// The longest name has 14 bytes. What stands behind the name's length is zero. The two fields are those of C's EventName, and no ghost field bounds the
+// length: `padded`, over which `padded_tells_code` is stated, makes a `Name` of any list.
 #[derive(Clone, Copy, Debug, PartialEq, Eq, Hash)]
 pub struct Name {
     pub bytes: [u8; 14],

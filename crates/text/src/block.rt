@@ -4,6 +4,8 @@ ghost use Rattle.std.specs.Prelude.{◌≡◌, ◌≤◌, ◌+◌, ltb, length};
 ghost use Rattle.text.specs.Place.{is_at, first_of, last_place};
 ghost use Rattle.text.specs.Run.{behind};
 
+// Loops and not `contains` or `position`: those leave at the first hit, and a way out is what makes a branch of every byte.
+
 // So many bytes are a block.
 pub const BLOCK: usize = 16;
 

@@ -57,6 +57,7 @@ pub fn until(s: &[u8], b: u8, from: usize) -> usize
     if n < BLOCK || n - BLOCK < from {
         return end_of(s, from, |x| x != b);
     }
+    // Counted by hand: the step is a block, and the last one is no step but lies where it ends the text.
     let last = n - BLOCK;
     let mut i = from;
     while i < last {
@@ -77,15 +78,12 @@ pub fn behind_last(s: &[u8], b: u8) -> usize
     if i < BLOCK {
         return start_of(s, |x| x != b);
     }
+    // Counted by hand: the step is a block, and the last one is cut to what is left.
     while BLOCK < i {
         if holds(s, i - BLOCK, b) {
             return i - BLOCK + last_of(s, i - BLOCK, b);
         }
-        if i < 2 * BLOCK {
-            i = BLOCK;
-        } else {
-            i -= BLOCK;
-        }
+        i = BLOCK.max(i - BLOCK);
     }
     last_of(s, 0, b)
 }

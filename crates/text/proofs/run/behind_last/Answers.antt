@@ -21,14 +21,6 @@ returns-then-holds c =
     behind_block _ _ 16 _ c.loop-i.invariant.0 c.loop-i.invariant.2
     (sym c.holds.ensures ∙ c.if-holds.true) c.last_of.ensures
 
-pub loop-i-preserved-then-i : goal.loop-i-preserved-then-i
-loop-i-preserved-then-i c = (
-  omega arith,
-  omega arith,
-  behind_down _ _ 16 c.loop-i.invariant.0 (omega arith) (omega arith) c.loop-i.invariant.2
-      (sym c.holds.ensures ∙ c.if-holds.false),
-)
-
 pub loop-i-preserved : goal.loop-i-preserved
 loop-i-preserved c = (
   omega arith,

@@ -12,7 +12,7 @@ use Rattle.text.specs.Told as T
 use Rattle.book.specs.Reading.{check_of}
 use Rattle.packet.specs.Packet.{number_of, parse_of, places_of, list_by}
 use Rattle.packet.proofs.Packets.{length_listed, number_20}
-use Rattle.batch.specs.Batch.{code_of, Job, jobs, answer_of, part_of, codes_of, places_all, Batch, Each, One, Cut}
+use Rattle.batch.specs.Batch.{code_of, Job, jobs, answer_of, part_of, codes_of, places_all, Batch, Each, One}
 
 -- ---- as many packets as kinds, counts and codes
 
@@ -60,6 +60,15 @@ module _ (ks cs ns : List ℕ) (k : ℕ) where
       (length_jobs (drop k ks) (drop k cs) (drop k ns) ∙ rw (length-drop k ks, length-drop k cs, length-drop k ns) (all_under (length ks) (length cs) (length ns) k le))
 
 -- ---- a packet's part of a list
+
+-- so many behind a place, as far as the list goes
+pub record Cut (from count len r : ℕ) : Type 0 where
+  pub is : r ≡ from + min count (len - from)
+  pub up : from ≤ r
+  pub within : r ≤ len
+
+pub cut_is : (from count len : ℕ) {m : ℕ} → from ≤ len → m ≡ min count (len - from) → Cut from count len (from + m)
+cut_is from count len le e = record { is = ap (◌+◌ from) e; up = omega arith; within = omega (arith, e) }
 
 module _ (l : List ℕ) {from count end : ℕ} (c : Cut from count (length l) end) where
   pub part_is : take (end - from) (drop from l) ≡ take count (drop from l)
@@ -220,26 +229,6 @@ module _ (s ks cs ds ps₀ ns : List ℕ) where
       }
 
 -- ---- a book that is refused
-
-replicate_next : (r : ℕ) (m : List ℕ) → r < length m → set (replicate r 65556 ++ drop r m) r 65556 ≡ replicate (r + 1) 65556 ++ drop (r + 1) m
-replicate_next r m lt =
-    let up : suc r ≡ r + 1 = omega arith in
-    ap (λ (l : List ℕ). set (replicate r 65556 ++ l) r 65556) (drop-cons m r 0 lt)
-    ∙ set_at (replicate r 65556) (get_or m r 0) (drop (suc r) m) 65556 r (length-replicate r 65556)
-    ∙ sym (append_snoc (replicate r 65556) 65556 (drop (suc r) m))
-    ∙ ap (λ (l : List ℕ). l ++ drop (suc r) m) (replicate-append-replicate r 1 65556)
-    ∙ ap (λ (k : ℕ). replicate (r + 1) 65556 ++ drop k m) up
-
-pub record Refusing (codes m : List ℕ) (k : ℕ) : Type 0 where
-  pub kept : length m ≡ length codes
-  pub so_far : m ≡ replicate k 65556 ++ drop k codes
-
-pub refusing_next : {codes m : List ℕ} {k : ℕ} → Refusing codes m k → k < length codes → Refusing codes (set m k 65556) (k + 1)
-refusing_next {codes} {m} {k} r lt =
-    record { kept = length-set m k 65556 ∙ r.kept; so_far = ap (λ (l : List ℕ). set l k 65556) r.so_far ∙ replicate_next k codes lt }
-
-pub refusing_end : {kinds counts : ℕ} {codes m : List ℕ} {k r : ℕ} → Refusing codes m k → r ≡ min kinds (min counts (length codes)) → k ≡ r → Each kinds counts codes m r
-refusing_end {kinds} {counts} {codes} f is last = record { packets = is; each = f.so_far ∙ ap (λ (n : ℕ). replicate n 65556 ++ drop n codes) last }
 
 -- over a book that is refused each packet is, with 20, and no place is touched
 module _ (s : List ℕ) (bad : check_of s ≡ T.refused 20) where

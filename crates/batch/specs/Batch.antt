@@ -1,6 +1,6 @@
 -- Many packets over one book: what `packet::parse` answers for each, on its own part of the dwords and of the places.
 -- Assumes nothing.
-use Rattle.std.specs.Prelude.{ℕ, ◌+◌, ◌-◌, ◌≤◌, min, ◌≡◌, List, [], ◌∷◌, ◌++◌, length, take, drop, replicate, None, Option, Some}
+use Rattle.std.specs.Prelude.{ℕ, ◌+◌, min, ◌≡◌, List, [], ◌∷◌, ◌++◌, length, take, drop, replicate, None, Option, Some}
 use Rattle.text.specs.Told.{Told, is, absent, refused}
 use Rattle.packet.specs.declared.Packet.{Packet}
 use Rattle.packet.specs.Packet.{parse_of, places_of, list_by}
@@ -62,9 +62,3 @@ pub record Each (kinds counts : ℕ) (codes codes' : List ℕ) (r : ℕ) : Type 
 pub record One (kind : ℕ) (s ds ps ps' : List ℕ) (r : ℕ) : Type 0 where
   pub code : r ≡ code_of (parse_of kind s ds (length ps))
   pub places : ps' ≡ list_by (parse_of kind s ds (length ps)) (places_of kind s ds) ps
-
--- so many behind a place, as far as the list goes
-pub record Cut (from count len r : ℕ) : Type 0 where
-  pub is : r ≡ from + min count (len - from)
-  pub up : from ≤ r
-  pub within : r ≤ len

@@ -1,16 +1,12 @@
 // Many packets over one book, which is checked once.
 //
 //     parse_all    for each packet what `packet::parse` answers: its places where its dwords stand, and one number
-//     cut          where a packet's part of a list ends
 #![tactic(auto)]
-
-mod cut;
 
 ghost use Rattle.std.specs.Prelude.{◌≡◌};
 ghost use Rattle.book.specs.Reading.{accepted, check_of};
 ghost use Rattle.batch.specs.Batch.{start_code, Batch, Each, One};
 
-use crate::cut::{cut, least, wide};
 use packet::parse_checked;
 
 // Packet k has kind `kinds[k]` and the next `counts[k]` dwords, as far as they go; its places stand where its dwords do. `codes[k]` tells where
@@ -44,18 +40,17 @@ fn parse_each(
     requires { check_of book.now ≡ accepted }
     ensures { Batch book.now kinds.now counts.now dwords.now places.old places.new codes.old codes.new result }
 {
-    let n = least(kinds.len(), least(counts.len(), codes.len()));
+    let n = kinds.len().min(counts.len()).min(codes.len());
     let mut from = 0;
     let mut at = 0;
-    let mut k = 0;
-    while k < n {
-        let count = wide(counts[k]);
-        let end = cut(from, count, dwords.len());
-        let stop = cut(at, count, places.len());
+    for k in 0..n {
+        // As far as the dwords and the places go.
+        let count = counts[k] as usize;
+        let end = from + count.min(dwords.len() - from);
+        let stop = at + count.min(places.len() - at);
         codes[k] = parse_one(kinds[k], book, &dwords[from..end], &mut places[at..stop]);
         from = end;
         at = stop;
-        k += 1;
     }
     n
 }
@@ -64,12 +59,8 @@ fn parse_each(
 fn refuse_each(kinds: usize, counts: usize, codes: &mut [u32]) -> usize
     ensures { Each kinds counts codes.old codes.new result }
 {
-    let n = least(kinds, least(counts, codes.len()));
-    let mut k = 0;
-    while k < n {
-        codes[k] = 65_556;
-        k += 1;
-    }
+    let n = kinds.min(counts).min(codes.len());
+    codes[..n].fill(65_556);
     n
 }
 

@@ -1,6 +1,6 @@
 -- The finders, as functions of places: a table, an entry, a range or a value is the place of its tag byte in the book.
 -- Assumes nothing.
-use Rattle.std.specs.Prelude.{ℕ, zero, suc, ◌+◌, ◌<◌, ◌≡◌, cond, List, [], ◌∷◌, ◌++◌, map, eqb, length, get_or, take, drop, None, Option, Some}
+use Rattle.std.specs.Prelude.{IfSome, ◌≤◌, ℕ, zero, suc, ◌+◌, ◌<◌, ◌≡◌, cond, List, [], ◌∷◌, ◌++◌, map, eqb, length, get_or, take, drop, None, Option, Some}
 use Rattle.text.specs.Part.{Slice, OwnText}
 use Rattle.tlv.specs.Grammar.{Piece, fields_bytes, All}
 use Rattle.tlv.specs.Reading.{Part, Stands, between, piece_of, field_at, parts}
@@ -41,6 +41,11 @@ module _ (s : List ℕ) {X : Type 0} (piece : X → Piece) where
 abbrev pub place_of : Option ℕ → ℕ
 place_of (Some p) = p
 place_of None = 0
+
+-- what a finder answers: nothing where 0 is told, else the place that is told, which is not 0 and no place past the text
+pub record Locates (n told : ℕ) (r : Option ℕ) : Type 0 where
+  pub is : place_of r ≡ told
+  pub stands : IfSome r (λ p. (0 < p) × (p ≤ n))
 
 -- where the fields inside a body start: behind the kind byte, behind the UUID, behind name and type, behind the name
 unfoldable pub inner_from : ℕ → List ℕ → ℕ → ℕ

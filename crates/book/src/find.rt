@@ -1,11 +1,12 @@
-// The finders. A table, an entry, a bit range or a value is the place of its tag byte in the book; 0 is none for all but tables.
+// The finders. A table, an entry, a bit range or a value is the place of its tag byte in the book; nothing but a table stands at 0.
 // Each takes any book and any place; on a checked book each answers the one that document 01 names.
-ghost use Rattle.std.specs.Prelude.{◌≡◌, ◌+◌, ◌≤◌, length, get_or};
+ghost use Rattle.std.specs.Prelude.{◌≡◌, ◌+◌, ◌≤◌, ◌<◌, length, get_or};
 ghost use Rattle.text.specs.Part.{OwnText};
 ghost use Rattle.tlv.specs.Number.{Read};
 ghost use Rattle.tlv.specs.Reading.{parts};
 ghost use Rattle.book.specs.Finders.{
   place_of,
+  Locates,
   inner_from,
   seek_of,
   entry_count,
@@ -43,29 +44,29 @@ pub fn uuid_table(book: &[u8], uuid: Uuid) -> Option<usize>
 }
 
 // The first entry of an offset in a table, whatever its type.
-pub fn entry_of_offset(book: &[u8], table: usize, offset: u16) -> usize
-    ensures { (result ≡ entry_of_offset book.now table offset) × (result ≤ length book.now) }
+pub fn entry_of_offset(book: &[u8], table: usize, offset: u16) -> Option<usize>
+    ensures { Locates (length book.now) (entry_of_offset book.now table offset) result }
 {
     seek(book, table, Want::Offset(offset), b"")
 }
 
 // The first entry of an offset and a type in a table; an empty type asks for the untyped entry.
-pub fn entry_of_type(book: &[u8], table: usize, offset: u16, name: &[u8]) -> usize
-    ensures { (result ≡ entry_of_type book.now table offset name.now) × (result ≤ length book.now) }
+pub fn entry_of_type(book: &[u8], table: usize, offset: u16, name: &[u8]) -> Option<usize>
+    ensures { Locates (length book.now) (entry_of_type book.now table offset name.now) result }
 {
     seek(book, table, Want::Typed(offset), name)
 }
 
 // The first bit range of a name in an entry.
-pub fn range_of_name(book: &[u8], entry: usize, name: &[u8]) -> usize
-    ensures { (result ≡ range_of_name book.now entry name.now) × (result ≤ length book.now) }
+pub fn range_of_name(book: &[u8], entry: usize, name: &[u8]) -> Option<usize>
+    ensures { Locates (length book.now) (range_of_name book.now entry name.now) result }
 {
     seek(book, entry, Want::Range, name)
 }
 
 // The value of a number in a bit range.
-pub fn value_of_number(book: &[u8], range: usize, number: u32) -> usize
-    ensures { (result ≡ value_of_number book.now range number) × (result ≤ length book.now) }
+pub fn value_of_number(book: &[u8], range: usize, number: u32) -> Option<usize>
+    ensures { Locates (length book.now) (value_of_number book.now range number) result }
 {
     seek(book, range, Want::Value(number), b"")
 }
@@ -74,8 +75,7 @@ pub fn value_of_number(book: &[u8], range: usize, number: u32) -> usize
 pub fn count_entries(book: &[u8], table: usize) -> usize
     ensures { result ≡ entry_count book.now table }
 {
-    let step = tlv::field_at(book, table);
-    let Step::Field { tag, from, to } = step else {
+    let Step::Field { tag, from, to } = tlv::field_at(book, table) else {
         return 0;
     };
     let body = &book[..to];
@@ -83,12 +83,11 @@ pub fn count_entries(book: &[u8], table: usize) -> usize
 }
 
 // The bit range of an entry with `k` before it.
-pub fn nth_range(book: &[u8], entry: usize, k: usize) -> usize
-    ensures { (result ≡ nth_range book.now entry k) × (result ≤ length book.now) }
+pub fn nth_range(book: &[u8], entry: usize, k: usize) -> Option<usize>
+    ensures { Locates (length book.now) (nth_range book.now entry k) result }
 {
-    let step = tlv::field_at(book, entry);
-    let Step::Field { tag, from, to } = step else {
-        return 0;
+    let Step::Field { tag, from, to } = tlv::field_at(book, entry) else {
+        return None;
     };
     let body = &book[..to];
     nth(body, inner(body, tag, from), k)
@@ -98,8 +97,7 @@ pub fn nth_range(book: &[u8], entry: usize, k: usize) -> usize
 pub fn name_of(book: &[u8], place: usize) -> &[u8]
     ensures { OwnName book.entry place (name_of book.now place) result }
 {
-    let step = tlv::field_at(book, place);
-    let Step::Field { tag, from, to } = step else {
+    let Step::Field { tag, from, to } = tlv::field_at(book, place) else {
         return &book[..0];
     };
     let body = &book[..to];
@@ -116,8 +114,7 @@ pub fn name_of(book: &[u8], place: usize) -> &[u8]
 pub fn type_of(book: &[u8], entry: usize) -> &[u8]
     ensures { OwnText book.entry (type_place book.now entry) (type_of book.now entry) result }
 {
-    let step = tlv::field_at(book, entry);
-    let Step::Field { tag: _, from, to } = step else {
+    let Step::Field { from, to, .. } = tlv::field_at(book, entry) else {
         return &book[..0];
     };
     type_at(&book[..to], from)
@@ -163,20 +160,15 @@ pub fn number_of(book: &[u8], value: usize) -> u32
     tlv::four_at(book, value + 3)
 }
 
-// The first wanted field inside the field at the place, 0 for none.
-fn seek(book: &[u8], place: usize, want: Want, key: &[u8]) -> usize
-    ensures { (result ≡ place_of (seek_of want key.now book.now place)) × (result ≤ length book.now) }
+// The first wanted field inside the field at the place.
+fn seek(book: &[u8], place: usize, want: Want, key: &[u8]) -> Option<usize>
+    ensures { Locates (length book.now) (place_of (seek_of want key.now book.now place)) result }
 {
-    let step = tlv::field_at(book, place);
-    let Step::Field { tag, from, to } = step else {
-        return 0;
+    let Step::Field { tag, from, to } = tlv::field_at(book, place) else {
+        return None;
     };
     let body = &book[..to];
-    let found = first(body, inner(body, tag, from), want, key);
-    match found {
-        Some(p) => p,
-        None => 0,
-    }
+    first(body, inner(body, tag, from), want, key)
 }
 
 // Where the fields inside a body start: behind kind, UUID, name and type, or name, by the tag. Asked for: a start within the text, which a body
@@ -206,41 +198,26 @@ fn count(s: &[u8], start: usize) -> usize
 {
     let mut n: usize = 0;
     let mut at = start;
-    loop {
-        let step = tlv::field_at(s, at);
-        let Step::Field {
-            tag: _,
-            from: _,
-            to,
-        } = step
-        else {
-            return n;
-        };
+    while let Step::Field { to, .. } = tlv::field_at(s, at) {
         n += 1;
         at = to;
     }
+    n
 }
 
-// The field with `k` before it from the place on, 0 for none.
-fn nth(s: &[u8], start: usize, k: usize) -> usize
-    ensures { (result ≡ nth_place k (parts s.now start)) × (result ≤ length s.now) }
+// The field with `k` before it from the place on.
+fn nth(s: &[u8], start: usize, k: usize) -> Option<usize>
+    requires { 0 < start }
+    ensures { Locates (length s.now) (nth_place k (parts s.now start)) result }
 {
     let mut left = k;
     let mut at = start;
-    loop {
-        let step = tlv::field_at(s, at);
-        let Step::Field {
-            tag: _,
-            from: _,
-            to,
-        } = step
-        else {
-            return 0;
-        };
+    while let Step::Field { to, .. } = tlv::field_at(s, at) {
         if left == 0 {
-            return at;
+            return Some(at);
         }
         left -= 1;
         at = to;
     }
+    None
 }

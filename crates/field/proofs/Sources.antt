@@ -10,7 +10,7 @@ use native.Mathlib.Omega.{arith}
 use borrow.Author.Tests.{le-leb, lt-leb}
 use lib.Dec.{ltb}
 use lib.ListN.{get_or}
-use Rattle.text.specs.Told.{is, absent}
+use Rattle.text.specs.Told.{is, absent, maybe}
 use Rattle.text.proofs.Told.{by_cases, fixed_by_told}
 use Rattle.tlv.specs.declared.Step.TheVariants as T
 use Rattle.tlv.specs.Reading.{field_at}
@@ -20,7 +20,7 @@ use Rattle.packet.specs.Packet.{zero_uuid}
 use Rattle.packet.specs.Field as dword
 use Rattle.field.specs.declared.Source.TheVariants.{Control, Header, Protocol, Bare}
 use Rattle.field.specs.Source.{stands_in, source_of}
-use Rattle.field.specs.Ranges.{range_told, range_at}
+use Rattle.field.specs.Ranges.{range_at}
 
 -- ---- in a table or not
 
@@ -85,9 +85,9 @@ module _ (s : List ℕ) (value : ℕ) where
   range_at_lem (suc p) n l h v = λ i. is (record { low = l i; high = h i; value = v i; place = record { at = suc p } })
 
 -- no second answer to `nth_range` and `range_named`: two answers that tell the same are the same
-pub one_range : (a b : Option Range) → range_told a ≡ range_told b → a ≡ b
-one_range = fixed_by_told range_told (by_cases Some None (λ k. None)) same
+pub one_range : (a b : Option Range) → maybe a ≡ maybe b → a ≡ b
+one_range = fixed_by_told maybe (by_cases Some None (λ k. None)) same
   where
-    same : (a : Option Range) → by_cases Some None (λ k. None) (range_told a) ≡ a
+    same : (a : Option Range) → by_cases Some None (λ k. None) (maybe a) ≡ a
     same (Some range) = refl
     same None = refl

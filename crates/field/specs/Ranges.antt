@@ -1,6 +1,6 @@
 -- What the book says of a field: its name, its bit ranges, and the names of their values. A text is empty for none.
 -- Assumes nothing.
-use Rattle.std.specs.Prelude.{ℕ, zero, suc, ◌+◌, List, get_or, None, Option, Some}
+use Rattle.std.specs.Prelude.{ℕ, zero, suc, ◌+◌, List, get_or}
 use Rattle.text.specs.Told.{Told, is, absent}
 use Rattle.book.specs.Finders as finders
 use Rattle.packet.specs.Field as dword
@@ -15,11 +15,6 @@ field_name s field = dword.name_in s (entry_of field)
 -- how many bit ranges a field has
 unfoldable pub range_count : List ℕ → Field → ℕ
 range_count s field = dword.inside (finders.count_inside s) (entry_of field)
-
--- what each case of a bit range's answer tells: the range, or none
-abbrev pub range_told : Option Range → Told Range
-range_told (Some range) = is range
-range_told None = absent
 
 -- the bit range at a place: low bit, high bit, and the value of the dword between them; none at place 0
 unfoldable pub range_at : List ℕ → ℕ → ℕ → Told Range

@@ -12,11 +12,12 @@
 
 mod table;
 
-ghost use Rattle.std.specs.Prelude.{◌≡◌};
+ghost use Rattle.std.specs.Prelude.{◌≡◌, ◌<◌};
+ghost use Rattle.text.specs.Told.{is, maybe};
 ghost use Rattle.book.specs.Finders.{OwnName};
 ghost use Rattle.field.specs.Source.{source_of, entry_of, field_of};
 ghost use Rattle.field.specs.Names.{Names};
-ghost use Rattle.field.specs.Ranges.{field_name, range_count, range_told, range_at, nth_range, range_named, range_name, value_place, value_name};
+ghost use Rattle.field.specs.Ranges.{field_name, range_count, range_at, nth_range, range_named, range_name, value_place, value_name};
 
 use crate::table::{is_in_control, is_in_header};
 use book::find;
@@ -91,11 +92,8 @@ fn source_of(kind: u8, book: &[u8], entry: usize) -> Source
 pub fn entry_of(field: Field) -> usize
     ensures { result ≡ entry_of field }
 {
-    let source = field.source;
-    match source {
-        Source::Control(place) => place.at,
-        Source::Header(place) => place.at,
-        Source::Protocol(place) => place.at,
+    match field.source {
+        Source::Control(place) | Source::Header(place) | Source::Protocol(place) => place.at,
         Source::Bare => 0,
     }
 }
@@ -120,35 +118,35 @@ pub fn count_ranges(book: &[u8], field: Field) -> usize
 
 // The bit range with `k` before it.
 pub fn nth_range(book: &[u8], field: Field, k: usize) -> Option<Range>
-    ensures { range_told result ≡ nth_range book.now field k }
+    ensures { maybe result ≡ nth_range book.now field k }
 {
     let entry = entry_of(field);
     if entry == 0 {
         return None;
     }
-    range_at(book, find::nth_range(book, entry, k), field.value)
+    let place = find::nth_range(book, entry, k)?;
+    Some(range_at(book, place, field.value))
 }
 
 // The first bit range of a name.
 pub fn range_named(book: &[u8], field: Field, name: &[u8]) -> Option<Range>
-    ensures { range_told result ≡ range_named book.now field name.now }
+    ensures { maybe result ≡ range_named book.now field name.now }
 {
-    range_at(book, range_in(book, name, entry_of(field)), field.value)
+    let place = range_in(book, name, entry_of(field))?;
+    Some(range_at(book, place, field.value))
 }
 
-// The bit range at a place, 0 for none, with its value in a dword.
-fn range_at(book: &[u8], place: usize, dword: u32) -> Option<Range>
-    ensures { range_told result ≡ range_at book.now place dword }
+// The bit range at a place, with its value in a dword.
+fn range_at(book: &[u8], at: usize, dword: u32) -> Range
+    requires { 0 < at }
+    ensures { is result ≡ range_at book.now at dword }
 {
-    if place == 0 {
-        return None;
+    Range {
+        low: find::low_of(book, at),
+        high: find::high_of(book, at),
+        value: value_in(book, at, dword),
+        place: Place { at },
     }
-    Some(Range {
-        low: find::low_of(book, place),
-        high: find::high_of(book, place),
-        value: value_in(book, place, dword),
-        place: Place { at: place },
-    })
 }
 
 // The name of a bit range.
@@ -165,14 +163,14 @@ pub fn value_name(book: &[u8], range: Range) -> &[u8]
     name_in(book, value_at(book, range.place.at, range.value))
 }
 
-// The place of a number among the values of a bit range.
+// The place of a number among the values of a bit range; 0 for none, as C is told.
 pub fn value_at(book: &[u8], range: usize, number: u32) -> usize
     ensures { result ≡ value_place book.now range number }
 {
     if range == 0 {
         return 0;
     }
-    find::value_of_number(book, range, number)
+    find::value_of_number(book, range, number).unwrap_or(0)
 }
 
 // Where the name of the entry, bit range or value at a place stands in the book; at 0 with no byte where there is none.

@@ -18,16 +18,7 @@ pub fn is_in_control(kind: u8, book: &[u8], entry: usize) -> bool
 pub fn is_in_header(book: &[u8], entry: usize) -> bool
     ensures { result ≡ stands_in book.now (uuid_table book.now zero_uuid) entry }
 {
-    let header = find::uuid_table(
-        book,
-        Uuid {
-            first: 0,
-            second: 0,
-            third: 0,
-            fourth: 0,
-        },
-    );
-    is_in(book, header, entry)
+    is_in(book, find::uuid_table(book, Uuid::ZERO), entry)
 }
 
 // Is there a table, and is the place in its body?
@@ -37,12 +28,8 @@ fn is_in(book: &[u8], table: Option<usize>, place: usize) -> bool
     let Some(at) = table else {
         return false;
     };
-    let step = tlv::field_at(book, at);
-    let Step::Field { tag: _, from, to } = step else {
+    let Step::Field { from, to, .. } = tlv::field_at(book, at) else {
         return false;
     };
-    if place < from {
-        return false;
-    }
-    place < to
+    from <= place && place < to
 }

@@ -1,11 +1,15 @@
 -- A place is 0 or it is one: what is found inside it, its name, and which of two places counts. Assumes nothing.
-use Prim.Native.Nat.{ℕ, zero, suc}
-use mathlib.Core.Path.{◌≡◌, refl}
-use mathlib.Core.Bool.{true, false}
+use Rattle.std.specs.Prelude.{IfSome, None, Option, Some}
+use Rattle.std.specs.Option.{is_some, unwrap_or}
+use Prim.Native.Nat.{ℕ, zero, suc, ◌≤◌, ◌<◌}
+use mathlib.Core.Path.{◌≡◌, refl, sym, ap, ◌∙◌}
+use mathlib.Core.Bool.{true, false, not}
 use mathlib.Core.List.{List, [], ◌∷◌}
 use native.Mathlib.Omega.{arith}
+use borrow.Author.Tests.{ne_eqb}
+use lib.Dec.{eqb}
 use lib.ListN.{length}
-use Rattle.book.specs.Finders.{name_of}
+use Rattle.book.specs.Finders.{place_of, Locates, name_of}
 use Rattle.packet.specs.Field.{or_else, inside, name_in, some_byte}
 
 module _ (q : ℕ) where
@@ -50,3 +54,25 @@ no_byte (b ∷ name) e = absurd (omega arith)
 pub some_byte_lem : (name : List ℕ) → (length name ≡ 0 → ⊥) → some_byte name ≡ true
 some_byte_lem [] n = absurd (n refl)
 some_byte_lem (b ∷ name) n = refl
+
+-- ---- what a finder answers
+
+-- something is found just where the place that is told is none's
+pub located : {n told : ℕ} (r : Option ℕ) → Locates n told r → is_some r ≡ not (eqb told 0)
+located (Some p) l = sym (ap (λ (k : ℕ). not (eqb k 0)) (sym l.is) ∙ rw (ne_eqb p 0 (λ e. omega (arith, l.stands.0, e))))
+located None l = ap (λ (k : ℕ). not (eqb k 0)) l.is
+
+-- nothing is found where none is told
+pub nothing_told : {n told : ℕ} {r : Option ℕ} → Locates n told r → r ≡ None → told ≡ 0
+nothing_told {r = r} l e = sym l.is ∙ ap place_of e
+
+-- what is found is what is told, and it is no 0
+pub found_told : {n told p : ℕ} {r : Option ℕ} → Locates n told r → r ≡ Some p → (p ≡ told) × (0 < p)
+found_told {n = n} {p = p} {r = r} l e =
+    let w : IfSome (Some p) (λ q. (0 < q) × (q ≤ n)) = rw e at l.stands in
+    (sym (ap place_of e) ∙ l.is, w.0)
+
+-- 0 for none
+pub or_none : (r : Option ℕ) → unwrap_or r 0 ≡ place_of r
+or_none (Some p) = refl
+or_none None = refl

@@ -46,6 +46,17 @@ first_within ok i j (p ∷ ps) e = by (ok p) (first_within ok (suc i) j ps) e
     by true later e = let same : i ≡ j = cc in omega arith
     by false later e = let w = later e in omega arith
 
+-- what is found is as asked
+pub first_is : (ok : ℕ → Bool) (i j : ℕ) (ps : List ℕ) → first_from ok i ps ≡ Some j → (a : ℕ) × (j ≡ i + a) × (ok (get_or ps a 0) ≡ true)
+unfolding first_from
+first_is ok i j [] e = absurd (let z : ◌≡◌ {A = ℕ} 0 1 = cc in omega arith)
+first_is ok i j (p ∷ ps) e = by (ok p) refl (first_is ok (suc i) j ps) e
+  where
+    by : (b : Bool) → ok p ≡ b → (first_from ok (suc i) ps ≡ Some j → (a : ℕ) × (j ≡ suc i + a) × (ok (get_or ps a 0) ≡ true))
+        → cond b (Some i) (first_from ok (suc i) ps) ≡ Some j → (a : ℕ) × (j ≡ i + a) × (ok (get_or (p ∷ ps) a 0) ≡ true)
+    by true h later e = let same : i ≡ j = cc in (0, omega arith, h)
+    by false h later e = let w = later e in (suc w.0, omega (arith, w.1), w.2)
+
 -- ---- the values
 
 more_than_four : (l : List ℕ) → length l ≡ 4 → (x : ℕ) (later : List ℕ) → exactly_four (l ++ (x ∷ later)) ≡ None

@@ -1,12 +1,17 @@
 -- Step 3 goes from offset to offset: behind each, what is latched and the places so far say the same about the rest as step 3 does about all.
 -- The entries of the latched type are laid out when it is known, so the fitting entry is read off two lists. Assumes nothing.
+use Rattle.std.specs.Prelude.{IfSome, None, Option, Some}
+use Rattle.std.specs.Option.{is_some}
 use Prim.Native.Nat.{ℕ, zero, suc, ◌+◌, ◌≤◌, ◌<◌}
 use mathlib.Core.Path.{◌≡◌, refl, sym, ap, ap₂, ◌∙◌}
+use mathlib.Core.Bool.{Bool, true, false, false≢true}
+use mathlib.Core.Logic.{◌⊎◌, inl, inr}
 use mathlib.Core.List.{List, [], ◌∷◌, ◌++◌, append-nil}
 use native.Mathlib.Omega.{arith}
 use borrow.Author.Tests.{eq-eqb, ne_eqb}
 use lib.ListN.{length, get_or, take, drop, set, replicate, length-append, length-set, length-replicate, get_or-replicate, drop_of_length-le}
 use lib.Seq.{drop-cons, take-suc-set, drop-set-lt, append_snoc, take_all, take_at, length-take-le}
+use Rattle.book.specs.Finders.{place_of}
 use Rattle.packet.specs.declared.fill.Pick.TheVariants.{Typed}
 use Rattle.packet.specs.Field.{or_else, name_in}
 use Rattle.packet.specs.Steps.{map_from, entry_of, filled, fitting, type_in, latch_behind, protocol_from, protocol_places}
@@ -30,6 +35,18 @@ module _ (s : List ℕ) (table found entry dword : ℕ) (typed : List ℕ) where
   none_found (suc l) e f = absurd (omega arith)
 
   -- a value without a name does not latch
+  -- what is latched stays, and where no entry was found nothing is latched
+  pub latch_kept : (o : Option ℕ) → IfSome o (λ p. 0 < p) → {b : Bool} → b ≡ is_some o → (b ≡ true) ⊎ ((b ≡ false) × (found ≡ 0))
+      → Latched s table (place_of o) found entry dword typed typed (place_of o) × IfSome o (λ p. 0 < p)
+  latch_kept (Some p) h e w = (latched_stays p (λ z. omega (arith, h, z)), h)
+  latch_kept None h e (inl t) = absurd (false≢true (sym e ∙ t))
+  latch_kept None h e (inr w) = (none_found 0 refl w.1, tt)
+
+  -- nothing was latched
+  pub not_latched : (o : Option ℕ) → {b : Bool} → b ≡ is_some o → b ≡ false → place_of o ≡ 0
+  not_latched (Some p) e h = absurd (false≢true (sym h ∙ e))
+  not_latched None e h = refl
+
   pub none_named : (latched r : ℕ) → latched ≡ 0 → (found ≡ 0 → ⊥) → r ≡ type_in s entry dword → r ≡ 0
       → Latched s table latched found entry dword typed typed 0
   unfolding latch_behind laid_out

@@ -1,7 +1,7 @@
 // What the book says of one dword. An entry, a bit range or a value is the place of its tag byte in the book, and 0 is none.
 // All are total: they take any book and any place.
-ghost use Rattle.std.specs.Prelude.{◌≡◌, ◌≤◌, length};
-ghost use Rattle.book.specs.Finders.{OwnName};
+ghost use Rattle.std.specs.Prelude.{◌≡◌, length};
+ghost use Rattle.book.specs.Finders.{OwnName, Locates};
 ghost use Rattle.packet.specs.Field.{or_else, name_in, range_in, value_in, named_in, asks};
 
 use book::find;
@@ -38,11 +38,11 @@ pub fn name_in(book: &[u8], place: usize) -> &[u8]
 }
 
 // The first bit range of that name in an entry.
-pub fn range_in(book: &[u8], name: &[u8], entry: usize) -> usize
-    ensures { (result ≡ range_in book.now name.now entry) × (result ≤ length book.now) }
+pub fn range_in(book: &[u8], name: &[u8], entry: usize) -> Option<usize>
+    ensures { Locates (length book.now) (range_in book.now name.now entry) result }
 {
     if entry == 0 {
-        return 0;
+        return None;
     }
     find::range_of_name(book, entry, name)
 }
@@ -55,11 +55,11 @@ pub fn value_in(book: &[u8], range: usize, dword: u32) -> u32
 }
 
 // The value of a bit range in a dword, where the book names it.
-pub fn named_in(book: &[u8], range: usize, dword: u32) -> usize
-    ensures { (result ≡ named_in book.now range dword) × (result ≤ length book.now) }
+pub fn named_in(book: &[u8], range: usize, dword: u32) -> Option<usize>
+    ensures { Locates (length book.now) (named_in book.now range dword) result }
 {
     if range == 0 {
-        return 0;
+        return None;
     }
     find::value_of_number(book, range, value_in(book, range, dword))
 }
@@ -70,7 +70,7 @@ pub fn is_asked(book: &[u8], ask: Ask, name: &[u8], entry: usize) -> bool
 {
     match ask {
         Ask::Named => is_named(book, name, entry),
-        Ask::Holds => range_in(book, name, entry) != 0,
+        Ask::Holds => range_in(book, name, entry).is_some(),
     }
 }
 

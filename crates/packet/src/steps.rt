@@ -1,5 +1,6 @@
 // The steps that describe a packet's dwords: control table, header table, UUID, protocol table.
-ghost use Rattle.std.specs.Prelude.{◌≡◌, ◌≤◌, length, Some};
+ghost use Rattle.std.specs.Prelude.{◌≡◌, ◌≤◌, ◌<◌, length, IfSome, Some};
+ghost use Rattle.book.specs.Finders.{place_of, Locates};
 ghost use Rattle.packet.specs.Steps.{control_places, places_by, protocol_places, type_in};
 ghost use Rattle.packet.specs.Inner.{Spread, Latched, Described};
 
@@ -69,7 +70,7 @@ fn latch_over(
     requires { Spread book.now table dwords.now places.old plain.now typed.old }
     ensures { places.new ≡ protocol_places book.now table dwords.now places.old }
 {
-    let mut latched: usize = 0;
+    let mut latched = None;
     for i in 0..dwords.len() {
         let found = or_else(typed[i], plain[i]);
         let entry = or_else(places[i], found);
@@ -82,32 +83,27 @@ fn latch_over(
 fn latch(
     book: &[u8],
     table: usize,
-    latched: usize,
+    latched: Option<usize>,
     found: u32,
     entry: u32,
     dword: u32,
     typed: &mut [u32],
-) -> usize
-    requires { length book.now ≤ 65535 }
-    ensures { Latched book.now table latched found entry dword typed.old typed.new result }
+) -> Option<usize>
+    requires { (length book.now ≤ 65535) × IfSome latched (λ p. 0 < p) }
+    ensures { Latched book.now table (place_of latched) found entry dword typed.old typed.new (place_of result) × IfSome result (λ p. 0 < p) }
 {
-    if latched != 0 {
+    if latched.is_some() || found == 0 {
         return latched;
     }
-    if found == 0 {
-        return 0;
-    }
-    let named = type_in(book, entry as usize, dword);
-    if named == 0 {
-        return 0;
-    }
+    let named = type_in(book, entry as usize, dword)?;
     fill(book, table, Pick::Typed, name_in(book, named), typed);
-    named
+    Some(named)
 }
 
 // The value of the first `Packet Type` range of an entry, where the book names it.
-fn type_in(book: &[u8], entry: usize, dword: u32) -> usize
-    ensures { result ≡ type_in book.now entry dword }
+fn type_in(book: &[u8], entry: usize, dword: u32) -> Option<usize>
+    ensures { Locates (length book.now) (type_in book.now entry dword) result }
 {
-    named_in(book, range_in(book, b"Packet Type", entry), dword)
+    let range = range_in(book, b"Packet Type", entry)?;
+    named_in(book, range, dword)
 }

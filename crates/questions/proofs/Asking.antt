@@ -1,9 +1,14 @@
 -- The questions of a described packet, case by case of what was found. Assumes nothing.
-use Rattle.std.specs.Prelude.{◌%◌, None, Ok, Option, Some}
+use Rattle.std.specs.Prelude.{◌%◌, Err, None, Ok, Option, Result, Some}
+use Rattle.std.specs.Option.{ok_or}
+use Rattle.refusal.specs.declared.Refusal.{Refusal}
+use Rattle.refusal.specs.declared.Refusal.TheVariants as R
 use Prim.Native.Nat.{ℕ, zero, suc, ◌+◌, ◌*◌, ◌^◌, ◌≤◌, ◌<◌}
 use mathlib.Core.Path.{◌≡◌, refl, sym, ap, ap₂, ◌∙◌}
 use Rattle.refusal.specs.Told.{told_maybe}
-use mathlib.Core.Bool.{cond}
+use mathlib.Core.Bool.{cond, not, true, false, false≢true}
+use lib.Dec.{eqb}
+use Rattle.packet.proofs.Gathering.{first_is}
 use mathlib.Core.List.{List, [], ◌∷◌}
 use native.Mathlib.Omega.{arith}
 use lib.ListN.{length, get_or, take}
@@ -63,6 +68,18 @@ module _ (s ds ps : List ℕ) where
     unfolding field_with
     field_found e f = rw e (ap is f)
 
+-- the dword that is found has a range of the name
+pub range_there : (s ps name : List ℕ) {i : ℕ} → first_from (asks Holds s name) 0 ps ≡ Some i → range_in s name (get_or ps i 0) ≡ 0 → ⊥
+unfolding asks
+range_there s ps name {i} e none =
+    let w = first_is (asks Holds s name) 0 i ps e in
+    let at : w.0 ≡ i = omega (arith, w.1) in
+    let holds : not (eqb (range_in s name (get_or ps w.0 0)) 0) ≡ true = w.2 in
+    let gone : not (eqb (range_in s name (get_or ps w.0 0)) 0) ≡ false =
+    ap (λ (k : ℕ). not (eqb (range_in s name (get_or ps k 0)) 0)) at ∙ ap (λ (k : ℕ). not (eqb k 0)) none
+    in
+    false≢true (sym gone ∙ holds)
+
 -- ---- a packet type with a name or without
 
 pub type_unnamed : (v : ℕ) (p : ℕ) → p ≡ 0 → refused 28 ≡ named v p
@@ -72,6 +89,11 @@ type_unnamed v (suc p) e = absurd (omega arith)
 pub type_named : {w v : ℕ} (p : ℕ) → (p ≡ 0 → ⊥) → w ≡ v → is (record { value = w; name = record { at = p } }) ≡ named v p
 type_named zero n e = absurd (n refl)
 type_named (suc p) n e = λ i. is (record { value = e i; name = record { at = suc p } })
+
+-- what `ok_or` gave up on
+pub was_unnamed : (o : Option ℕ) {r : Result ℕ Refusal} {e : Refusal} → r ≡ ok_or o R.UnnamedType → r ≡ Err e → (o ≡ None) × (e ≡ R.UnnamedType)
+was_unnamed (Some p) h k = absurd (let z : ◌≡◌ {A = ℕ} 0 1 = cc in omega arith)
+was_unnamed None h k = (refl, cc)
 
 -- ---- what was found, and what a closure made of it
 

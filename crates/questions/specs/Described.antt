@@ -1,6 +1,6 @@
 -- The questions of a described packet: dwords, and for each the place of its entry.
 -- Assumes nothing.
-use Rattle.std.specs.Prelude.{ℕ, zero, suc, ◌+◌, ◌*◌, ◌%◌, ◌^◌, Bool, cond, ◌||◌, List, [], ◌∷◌, eqb, ltb, length, get_or, None, Option, Some}
+use Rattle.std.specs.Prelude.{◌≡◌, ℕ, zero, suc, ◌+◌, ◌*◌, ◌%◌, ◌^◌, Bool, cond, ◌||◌, List, [], ◌∷◌, eqb, ltb, length, get_or, None, Option, Some}
 use Rattle.text.specs.Quote.{bytes}
 use Rattle.bits.specs.Range.{bit}
 use Rattle.book.specs.declared.Uuid.{Uuid}
@@ -54,6 +54,12 @@ module _ (s ds ps : List ℕ) where
   abbrev pub asked_at : List ℕ → Option ℕ → Told ℕ
   asked_at name (Some i) = is (value_in s (range_in s name (get_or ps i 0)) (get_or ds i 0))
   asked_at name None = absent
+
+  -- what is found: the range of the name in the first dword whose description has one, and the dword
+  abbrev pub FirstRange : List ℕ → Option (ℕ × ℕ) → Type 0
+  FirstRange name (Some f) =
+      (i : ℕ) × (first_from (asks Holds s name) 0 ps ≡ Some i) × (f.0 ≡ range_in s name (get_or ps i 0)) × (f.1 ≡ get_or ds i 0)
+  FirstRange name None = first_from (asks Holds s name) 0 ps ≡ None
 
   -- the first dword whose description has a range of the name
   unfoldable pub asked : List ℕ → Told ℕ

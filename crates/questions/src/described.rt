@@ -12,7 +12,7 @@ ghost use Rattle.questions.specs.Described.{
   address_in,
   size_in,
   uuid_in,
-  type_by,
+  FirstRange,
   type_in,
   field_in,
   field_at,
@@ -53,13 +53,21 @@ pub fn cm_in(dwords: &[u32]) -> Result<bool, Refusal>
     Ok(route / 9_223_372_036_854_775_808 % 2 == 1)
 }
 
+// The first bit range of that name, in the first dword that has one, and that dword.
+fn first_range(book: &[u8], name: &[u8], dwords: &[u32], places: &[u32]) -> Option<(usize, u32)>
+    ensures { FirstRange book.now dwords.now places.now name.now result }
+{
+    let i = first_asked(book, Ask::Holds, name, places, 0)?;
+    let range = range_in(book, name, wide(dword_at(places, i)))?;
+    Some((range, dword_at(dwords, i)))
+}
+
 // The value of the first bit range of that name, in the first dword that has one.
 pub fn value_asked(book: &[u8], name: &[u8], dwords: &[u32], places: &[u32]) -> Option<u32>
     ensures { maybe result ≡ asked book.now dwords.now places.now name.now }
 {
-    let i = first_asked(book, Ask::Holds, name, places, 0)?;
-    let range = range_in(book, name, wide(dword_at(places, i)));
-    Some(value_in(book, range, dword_at(dwords, i)))
+    let (range, dword) = first_range(book, name, dwords, places)?;
+    Some(value_in(book, range, dword))
 }
 
 // The adapter number, cut to 8 bits.
@@ -135,21 +143,10 @@ pub fn uuid_in(
 pub fn type_in(book: &[u8], dwords: &[u32], places: &[u32]) -> Result<Option<PacketType>, Refusal>
     ensures { told_maybe result ≡ type_in book.now dwords.now places.now }
 {
-    let Some(i) = first_asked(book, Ask::Holds, b"Packet Type", places, 0) else {
+    let Some((range, dword)) = first_range(book, b"Packet Type", dwords, places) else {
         return Ok(None);
     };
-    let range = range_in(book, b"Packet Type", wide(dword_at(places, i)));
-    type_by(book, range, dword_at(dwords, i))
-}
-
-// The value of a packet type's range and the place of its name.
-fn type_by(book: &[u8], range: usize, dword: u32) -> Result<Option<PacketType>, Refusal>
-    ensures { told_maybe result ≡ type_by book.now range dword }
-{
-    let at = named_in(book, range, dword);
-    if at == 0 {
-        return Err(Refusal::UnnamedType);
-    }
+    let at = named_in(book, range, dword).ok_or(Refusal::UnnamedType)?;
     Ok(Some(PacketType {
         value: value_in(book, range, dword),
         name: Place { at },

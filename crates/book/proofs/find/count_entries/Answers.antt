@@ -14,17 +14,17 @@ use Rattle.book.proofs.find.count_entries.Goals as goal
 pub returns-in_default : goal.returns-in_default
 unfolding count_inside
 returns-in_default c =
-    sym (field_bare _ _ (field_at c.args.book.now c.args.table) (subst Bare c.field_at-step.ensures (bare _ c.in_default.not-Field)))
+    sym (field_bare _ _ (field_at c.args.book.now c.args.table) (subst Bare c.field_at.ensures (bare _ c.in_default.not-Field)))
 
 pub slice_bounds-body-end : goal.slice_bounds-body-end
 slice_bounds-body-end c =
     let p : Part = record { at = c.args.table; tag = c.in-Field.tag; from = c.in-Field.from; to = c.in-Field.to } in
-    let e : Stands c.args.book.now p = sym c.field_at-step.ensures ∙ c.in-Field.is in
+    let e : Stands c.args.book.now p = sym c.field_at.ensures ∙ c.in-Field.is in
     stands_cut c.args.book.now p e
 
 pub inner-requires : goal.inner-requires
 inner-requires c =
-    let f = field_found c.args.book.now c.args.table (sym c.field_at-step.ensures ∙ c.in-Field.is) in
+    let f = field_found c.args.book.now c.args.table (sym c.field_at.ensures ∙ c.in-Field.is) in
     rw (length-take c.in-Field.to c.args.book.now) (omega arith)
 
 pub returns : goal.returns
@@ -32,5 +32,5 @@ unfolding count_inside
 returns c =
     let s : List ℕ = c.args.book.now in
     let u : List ℕ = take c.in-Field.to s in
-    let is : field_at s c.args.table ≡ _ = sym c.field_at-step.ensures ∙ c.in-Field.is in
+    let is : field_at s c.args.table ≡ _ = sym c.field_at.ensures ∙ c.in-Field.is in
     sym (rw is (ap (λ (n : ℕ). length (parts u n)) (sym c.inner.ensures) ∙ sym c.count.ensures))

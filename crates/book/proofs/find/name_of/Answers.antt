@@ -20,12 +20,12 @@ pub returns-in_default : goal.returns-in_default
 unfolding name_of
 returns-in_default c =
     no_text _ refl refl refl
-    (sym (field_bare _ _ (field_at c.args.book.now c.args.place) (subst Bare c.field_at-step.ensures (bare _ c.in_default.not-Field))))
+    (sym (field_bare _ _ (field_at c.args.book.now c.args.place) (subst Bare c.field_at.ensures (bare _ c.in_default.not-Field))))
 
 pub slice_bounds-body-end : goal.slice_bounds-body-end
 slice_bounds-body-end c =
     let p : Part = record { at = c.args.place; tag = c.in-Field.tag; from = c.in-Field.from; to = c.in-Field.to } in
-    let e : Stands c.args.book.now p = sym c.field_at-step.ensures ∙ c.in-Field.is in
+    let e : Stands c.args.book.now p = sym c.field_at.ensures ∙ c.in-Field.is in
     stands_cut c.args.book.now p e
 
 pub returns-then-tag-ne7 : goal.returns-then-tag-ne7
@@ -35,13 +35,13 @@ returns-then-tag-ne7 c =
     let place = c.args.place in
     let tag = c.in-Field.tag in
     let from = c.in-Field.from in
-    let is : field_at s place ≡ _ = sym c.field_at-step.ensures ∙ c.in-Field.is in
+    let is : field_at s place ≡ _ = sym c.field_at.ensures ∙ c.in-Field.is in
     text_is _ (from + 2 + 3) (sym (rw (is, ne_eqb tag 7 c.if-tag-ne7.true))) (other_place s place (field_found s place is) c.if-tag-ne7.true)
     (own_front c.in-Field.to refl refl refl c.name_at.ensures)
 
 pub overflow_sub-to : goal.overflow_sub-to
 overflow_sub-to c =
-    let f = field_found c.args.book.now c.args.place (sym c.field_at-step.ensures ∙ c.in-Field.is) in
+    let f = field_found c.args.book.now c.args.place (sym c.field_at.ensures ∙ c.in-Field.is) in
     search rules
 
 pub returns-then-to-from-lt5 : goal.returns-then-to-from-lt5
@@ -50,7 +50,7 @@ returns-then-to-from-lt5 c =
     let s = c.args.book.now in
     let from = c.in-Field.from in
     let to = c.in-Field.to in
-    let is : field_at s c.args.place ≡ _ = sym c.field_at-step.ensures ∙ c.in-Field.is in
+    let is : field_at s c.args.place ≡ _ = sym c.field_at.ensures ∙ c.in-Field.is in
     let f = field_found s c.args.place is in
     no_text _ refl refl refl
     (rw (is, eq-eqb c.in-Field.tag 7 c.if-tag-ne7.false)
@@ -58,24 +58,24 @@ returns-then-to-from-lt5 c =
 
 pub overflow_add-result : goal.overflow_add-result
 overflow_add-result c =
-    let f = field_found c.args.book.now c.args.place (sym c.field_at-step.ensures ∙ c.in-Field.is) in
+    let f = field_found c.args.book.now c.args.place (sym c.field_at.ensures ∙ c.in-Field.is) in
     search rules
 
 pub slice_bounds-result-count : goal.slice_bounds-result-count
 slice_bounds-result-count c =
-    let f = field_found c.args.book.now c.args.place (sym c.field_at-step.ensures ∙ c.in-Field.is) in
+    let f = field_found c.args.book.now c.args.place (sym c.field_at.ensures ∙ c.in-Field.is) in
     let cut = length-take c.in-Field.to c.args.book.now in
     search rules
 
 pub slice_bounds-result-start : goal.slice_bounds-result-start
 slice_bounds-result-start c =
-    let f = field_found c.args.book.now c.args.place (sym c.field_at-step.ensures ∙ c.in-Field.is) in
+    let f = field_found c.args.book.now c.args.place (sym c.field_at.ensures ∙ c.in-Field.is) in
     let cut = length-take c.in-Field.to c.args.book.now in
     search rules
 
 pub slice_bounds-result-end-2 : goal.slice_bounds-result-end-2
 slice_bounds-result-end-2 c =
-    let f = field_found c.args.book.now c.args.place (sym c.field_at-step.ensures ∙ c.in-Field.is) in
+    let f = field_found c.args.book.now c.args.place (sym c.field_at.ensures ∙ c.in-Field.is) in
     let cut = length-take c.in-Field.to c.args.book.now in
     search rules
 
@@ -86,7 +86,7 @@ returns c =
     let place = c.args.place in
     let from = c.in-Field.from in
     let to = c.in-Field.to in
-    let is : field_at s place ≡ _ = sym c.field_at-step.ensures ∙ c.in-Field.is in
+    let is : field_at s place ≡ _ = sym c.field_at.ensures ∙ c.in-Field.is in
     let f = field_found s place is in
     let here = value_place s place f c.if-tag-ne7.false in
     let u : List ℕ = take to s in

@@ -1,4 +1,5 @@
 -- `book::find::nth` meets its contract: so many fewer from behind each field passed on. Assumes nothing.
+use Rattle.std.specs.Prelude.{None, Some}
 use Prim.Native.Nat.{ℕ}
 use Rattle.book.proofs.Counting.{nth_bare, nth_here, nth_behind}
 use Rattle.book.proofs.Steps.{Bare, bare}
@@ -11,25 +12,27 @@ use native.Mathlib.Omega.{arith}
 use Rattle.book.proofs.find.nth.Goals as goal
 
 pub loop-to-init : goal.loop-to-init
-loop-to-init c = refl
+loop-to-init c = (c.requires, refl)
 
-pub returns-in_default : goal.returns-in_default
-returns-in_default c =
-    (sym (c.loop-to.invariant ∙ nth_bare c.args.s.now c.loop-to.left c.loop-to.at (subst Bare c.field_at-step.ensures (bare _ c.in_default.not-Field))), search rules)
+pub returns : goal.returns
+returns c = record {
+  is = sym (c.loop-to.invariant.1 ∙ nth_bare c.args.s.now c.loop-to.left c.loop-to.at (subst Bare c.field_at.ensures (bare _ c.in_default.not-Field)));
+  stands = tt;
+}
 
 pub returns-then-left-eq0 : goal.returns-then-left-eq0
 returns-then-left-eq0 c =
     let s : List ℕ = c.args.s.now in
     let p : Part = record { at = c.loop-to.at; tag = c.in-Field.tag; from = c.in-Field.from; to = c.in-Field.to } in
-    let e : Stands s p = sym c.field_at-step.ensures ∙ c.in-Field.is in
+    let e : Stands s p = sym c.field_at.ensures ∙ c.in-Field.is in
     let f = field_found s p.at e in
-    (sym (c.loop-to.invariant ∙ nth_here s p e c.loop-to.left c.if-left-eq0.true), omega arith)
+    record { is = sym (c.loop-to.invariant.1 ∙ nth_here s p e c.loop-to.left c.if-left-eq0.true); stands = (c.loop-to.invariant.0, omega arith) }
 
 pub loop-to-smaller : goal.loop-to-smaller
 loop-to-smaller c =
     let s : List ℕ = c.args.s.now in
     let p : Part = record { at = c.loop-to.at; tag = c.in-Field.tag; from = c.in-Field.from; to = c.in-Field.to } in
-    let e : Stands s p = sym c.field_at-step.ensures ∙ c.in-Field.is in
+    let e : Stands s p = sym c.field_at.ensures ∙ c.in-Field.is in
     let f = field_found s p.at e in
     omega arith
 
@@ -37,6 +40,6 @@ pub loop-to-preserved : goal.loop-to-preserved
 loop-to-preserved c =
     let s : List ℕ = c.args.s.now in
     let p : Part = record { at = c.loop-to.at; tag = c.in-Field.tag; from = c.in-Field.from; to = c.in-Field.to } in
-    let e : Stands s p = sym c.field_at-step.ensures ∙ c.in-Field.is in
+    let e : Stands s p = sym c.field_at.ensures ∙ c.in-Field.is in
     let f = field_found s p.at e in
-    c.loop-to.invariant ∙ nth_behind s p e c.loop-to.left c.if-left-eq0.false
+    (omega arith, c.loop-to.invariant.1 ∙ nth_behind s p e c.loop-to.left c.if-left-eq0.false)

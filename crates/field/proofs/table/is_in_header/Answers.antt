@@ -5,4 +5,4 @@ use mathlib.Core.Path.{ap, ◌∙◌}
 use Rattle.field.proofs.table.is_in_header.Goals as goal
 
 pub returns : goal.returns
-returns c = c.is_in.ensures ∙ ap (λ (t : Option ℕ). stands_in c.args.book.now t c.args.entry) c.uuid_table-header.ensures
+returns c = c.is_in.ensures ∙ ap (λ (t : Option ℕ). stands_in c.args.book.now t c.args.entry) c.uuid_table.ensures

@@ -1,14 +1,9 @@
 -- The table of rules: behind it there is none. Assumes nothing.
 use Rattle.std.specs.Prelude.{None}
-use Prim.Native.Nat.{ℕ, ◌+◌, ◌≤◌}
+use Prim.Native.Nat.{ℕ, ◌≤◌}
 use mathlib.Core.Path.{◌≡◌}
-use native.Mathlib.Omega.{arith}
 use lib.ListN.{get_or-eq_default}
 use Rattle.record.specs.Rule.{rules, rule_of}
-
--- a number that is at least n, and is not n
-pub next : (n : ℕ) {tag : ℕ} → n ≤ tag → (tag ≡ n → ⊥) → n + 1 ≤ tag
-next n h e = omega arith
 
 -- behind the table there is no rule
 pub unknown_behind : (tag : ℕ) → 20 ≤ tag → rule_of tag ≡ None

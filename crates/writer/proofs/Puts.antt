@@ -1,26 +1,47 @@
 -- A run of bytes written piece by piece: what is still to be written from a place on shortens as the place moves, and all else stays. One law serves
 -- every loop and every call behind a call. Assumes nothing.
-use Prim.Native.Nat.{ℕ, suc, ◌+◌, ◌-◌, ◌*◌, ◌/◌, ◌%◌, ◌≤◌, ◌<◌}
+use Rattle.std.specs.Prelude.{None, Some}
+use Prim.Native.Nat.{ℕ, zero, suc, ◌+◌, ◌*◌, ◌/◌, ◌%◌, ◌^◌, ◌≤◌, ◌<◌}
 use mathlib.Core.Path.{◌≡◌, ◌∙◌, sym, ap, refl}
-use mathlib.Core.List.{List, [], ◌∷◌, ◌++◌}
+use mathlib.Core.List.{List, [], ◌∷◌, ◌++◌, map}
 use native.Mathlib.Numerals.{add-one}
 use native.Mathlib.Omega.{arith}
-use lib.ListN.{length, get_or, drop, set, length-append}
-use lib.Seq.{sets, length-sets, drop-cons, length-take-le}
-use lib.ListN.{length-drop}
+use Rattle.std.proofs.Math.Nat.{div-div-eq-div-mul}
+use lib.ListN.{length, get_or, take, drop, set, length-append}
+use lib.Seq.{sets, length-sets, drop-cons, length-take-le, sets-eq, take-length}
+use lib.ListN.{length-drop, drop_of_length-le}
+use borrow.Rule.Slice.PartMut.{put_mid}
+use Rattle.std.proofs.lemmas.Slice.{put_mid-paste}
+use Rattle.std.specs.Int.{byte_at, bytes_low_first}
 use Rattle.tlv.specs.Number.{number_bytes}
 use Rattle.tlv.specs.Grammar.{field_bytes}
-use Rattle.tlv.proofs.Numbers.{number_bytes_length}
 use Rattle.tlv.proofs.Pieces.{field_bytes_length}
-use Rattle.entry.specs.declared.Entry.{Entry}
 use Rattle.entry.specs.Entry.{part_of}
 use Rattle.entry.proofs.Parts.{part_in}
 use Rattle.record.specs.Grammar.{dwords_bytes}
 use Rattle.record.proofs.Bodies.{dwords_bytes_length}
+use Rattle.record.specs.declared.rule.Width.{Width}
+use Rattle.record.specs.declared.rule.Width.TheVariants.{One, Two, Four, Eight}
+use Rattle.record.specs.Rule.{bytes_of}
 use Rattle.writer.specs.declared.item.Item.{Item}
-use Rattle.writer.specs.declared.item.Item.TheVariants.{Text, Number, Dwords}
+use Rattle.writer.specs.declared.item.Row.{Row}
+use denote.Ref.{MutBor}
+use Rattle.writer.specs.declared.small.Writer.{Writer}
 use Rattle.writer.specs.Put.{Put}
-use Rattle.writer.specs.Item.{item_of, ItemLies, head_bytes, item_bytes, fields_from}
+use Rattle.writer.specs.Small.{Appended}
+use Rattle.writer.specs.Item.{body_of, row_of, head_bytes, row_bytes, rows_bytes}
+
+-- a text copied to a place is put there
+pub put_copied : (out : List ℕ) (at : ℕ) (bytes : List ℕ) (k : ℕ) (now : List ℕ) → at + length bytes ≤ length out → now ≡ bytes → length bytes ≡ k
+    → Put out at bytes (at + length bytes) (put_mid at k out now)
+put_copied out at bytes k now fits e n =
+    record {
+      next = refl;
+      is = put_mid-paste at k out now bytes (length bytes) e n refl ∙ rw (take-length bytes) (sym (sets-eq bytes out at fits));
+    }
+
+pub put_none : (out : List ℕ) (at : ℕ) → Put out at [] at out
+put_none out at = record { next = omega arith; is = refl }
 
 -- stores behind stores are one run of stores
 pub sets_append : (a b l : List ℕ) (i : ℕ) → sets l i (a ++ b) ≡ sets (sets l i a) (i + length a) b
@@ -52,24 +73,6 @@ module _ {found : List ℕ} {at : ℕ} {whole : List ℕ} where
   filling_ends {out} {rest} {place} f e =
       record { next = omega (arith, f.sum, ap length e); is = sym (f.same ∙ rw e) }
 
--- one byte
-pub put_byte : (out : List ℕ) (place b : ℕ) → Put out place (b ∷ []) (place + 1) (set out place b)
-put_byte out place b = record { next = omega arith; is = refl }
-
--- the same three where the place is counted from a start
-module _ {found : List ℕ} {at : ℕ} {whole : List ℕ} where
-  pub filling_begins : {rest : List ℕ} → whole ≡ rest → Filling found at whole found (at + 0) rest
-  filling_begins e = let z : at + 0 ≡ at = omega arith in rw z (filling_starts e)
-
-  pub filling_on : {out rest : List ℕ} (i : ℕ) → Filling found at whole out (at + i) rest → (b : ℕ) (more : List ℕ) → rest ≡ (b ∷ []) ++ more
-      → Filling found at whole (set out (at + i) b) (at + (i + 1)) more
-  filling_on {out} {rest} i f b more e =
-      let z : at + i + 1 ≡ at + (i + 1) = omega arith in
-      rw (← z) (filling_steps f (b ∷ []) more e (put_byte out (at + i) b))
-
-  pub filling_stops : {out rest : List ℕ} (i n : ℕ) → Filling found at whole out (at + i) rest → rest ≡ [] → i ≡ n → Put found at whole (at + n) out
-  filling_stops {out} {rest} i n f e z = rw (← z) (filling_ends f e)
-
 -- one run behind another
 pub put_then : {out mid left : List ℕ} {at r s : ℕ} (a b whole : List ℕ) → Put out at a r mid → Put mid r b s left → whole ≡ a ++ b → Put out at whole s left
 put_then {out} {mid} {left} {at} {r} {s} a b whole p q e =
@@ -79,101 +82,46 @@ put_then {out} {mid} {left} {at} {r} {s} a b whole p q e =
     append_none [] = refl
     append_none (x ∷ l) = ap (λ (m : List ℕ). x ∷ m) (append_none l)
 
--- ---- what comes next of each kind
-
-pub part_first : (l : List ℕ) (at n i : ℕ) → i < n → at + n ≤ length l
-    → part_of l (at + i) (n - i) ≡ (get_or l (at + i) 0 ∷ []) ++ part_of l (at + (i + 1)) (n - (i + 1))
-part_first l at n i h k =
-    let left : n - i ≡ suc (n - (i + 1)) = omega arith in
-    let place : suc (at + i) ≡ at + (i + 1) = omega arith in
-    sym (part_in l (at + i) (n - i) (omega arith))
-    ∙ rw (left, drop-cons l (at + i) 0 (omega arith), place)
-    (ap (λ (m : List ℕ). get_or l (at + i) 0 ∷ m) (part_in l (at + (i + 1)) (n - (i + 1)) (omega arith)))
-
-pub part_none : (l : List ℕ) (at n i : ℕ) → n ≤ i → at + i ≤ length l → part_of l (at + i) (n - i) ≡ []
-part_none l at n i h k =
-    let left : n - i ≡ 0 = omega arith in
-    sym (part_in l (at + i) (n - i) (omega arith)) ∙ rw left
+-- ---- what comes next
 
 pub part_length : (l : List ℕ) (at n : ℕ) → at + n ≤ length l → length (part_of l at n) ≡ n
 part_length l at n h = rw (← part_in l at n h) (length-take-le n (drop at l) (rw (length-drop at l) (omega arith)))
 
-pub part_start : (l : List ℕ) (at n : ℕ) → part_of l at n ≡ part_of l (at + 0) (n - 0)
-part_start l at n =
-    let a : at + 0 ≡ at = omega arith in
-    let b : n - 0 ≡ n = omega arith in
-    rw (a, b)
-
-pub number_first : (width i left : ℕ) → i < width
-    → number_bytes (width - i) left ≡ (left % 256 ∷ []) ++ number_bytes (width - (i + 1)) (left / 256)
+-- the lowest bytes of a number, the lowest first
+pub number_low : (k i n : ℕ) → number_bytes k (n / 256 ^ i) ≡ bytes_low_first i k n
 unfolding number_bytes
-number_first width i left h = let e : width - i ≡ suc (width - (i + 1)) = omega arith in rw e
+number_low zero i n = refl
+number_low (suc k) zero n = let one : n / 256 ^ 0 ≡ n = omega arith in rw one (ap (λ (l : List ℕ). n % 256 ∷ l) (number_low k 1 n))
+number_low (suc k) (suc i) n =
+    let next : n / 256 ^ suc i / 256 ≡ n / 256 ^ suc (suc i) = div-div-eq-div-mul n (256 ^ suc i) 256 ∙ ap (λ (m : ℕ). n / m) (omega arith) in
+    ap (λ (l : List ℕ). n / 256 ^ suc i % 256 ∷ l) (ap (number_bytes k) next ∙ number_low k (suc (suc i)) n)
 
-pub number_start : (width n : ℕ) → number_bytes width n ≡ number_bytes (width - 0) n
-number_start width n = let e : width - 0 ≡ width = omega arith in rw e
+low_cut : (i k m n : ℕ) → m ≤ k → take m (bytes_low_first i k n) ≡ bytes_low_first i m n
+low_cut i k zero n h = refl
+low_cut i zero (suc m) n h = absurd (omega arith)
+low_cut i (suc k) (suc m) n h = ap (λ (l : List ℕ). byte_at i n ∷ l) (low_cut (suc i) k m n (omega arith))
 
-pub number_none : (width i left : ℕ) → width ≤ i → number_bytes (width - i) left ≡ []
-unfolding number_bytes
-number_none width i left h = let e : width - i ≡ 0 = omega arith in rw e
+pub number_whole : (k n : ℕ) → bytes_low_first 0 k n ≡ number_bytes k n
+number_whole k n = let one : n / 256 ^ 0 ≡ n = omega arith in sym (number_low k 0 n) ∙ ap (number_bytes k) one
 
-pub dword_first : (l : List ℕ) (n i : ℕ) → i < n → n ≤ length l
-    → dwords_bytes (part_of l i (n - i)) ≡ number_bytes 4 (get_or l i 0) ++ dwords_bytes (part_of l (i + 1) (n - (i + 1)))
-unfolding dwords_bytes
-dword_first l n i h k =
-    let a : 0 + i ≡ i = omega arith in
-    let b : 0 + (i + 1) ≡ i + 1 = omega arith in
-    let e : part_of l i (n - i) ≡ get_or l i 0 ∷ part_of l (i + 1) (n - (i + 1)) = rw (a, b) at (part_first l 0 n i h (omega arith)) in
-    rw e
-
-pub dword_none : (l : List ℕ) (n i : ℕ) → n ≤ i → i ≤ length l → dwords_bytes (part_of l i (n - i)) ≡ []
-unfolding dwords_bytes
-dword_none l n i h k =
-    let a : 0 + i ≡ i = omega arith in
-    let e : part_of l i (n - i) ≡ [] = rw a at (part_none l 0 n i h (omega arith)) in
-    rw e
-
--- there is room for the next dword
-pub dword_room : (l : List ℕ) (n i at : ℕ) {found out : List ℕ} {place : ℕ}
-    → Filling found at (dwords_bytes (part_of l 0 n)) out place (dwords_bytes (part_of l i (n - i))) → i < n → n ≤ length l
-    → at + 4 * n ≤ length found → place + 4 ≤ length out
-dword_room l n i at {found} {out} {place} f h k room =
-    omega (
-      arith,
-      f.size,
-      f.sum,
-      dwords_bytes_length (part_of l 0 n),
-      part_length l 0 n (omega arith),
-      dwords_bytes_length (part_of l i (n - i)),
-      part_length l i (n - i) (omega arith),
-    )
-
-pub dwords_start : (l : List ℕ) (n : ℕ) → dwords_bytes (part_of l 0 n) ≡ dwords_bytes (part_of l 0 (n - 0))
-dwords_start l n = let b : n - 0 ≡ n = omega arith in rw b
+-- a number as wide as its width, from its eight bytes
+pub number_cut : (k n : ℕ) → k ≤ 8 → take k (bytes_low_first 0 8 n) ≡ number_bytes k n
+number_cut k n h = low_cut 0 8 k n h ∙ number_whole k n
 
 pub dwords_size : (l : List ℕ) (n : ℕ) → n ≤ length l → length (dwords_bytes (part_of l 0 n)) ≡ 4 * n
 dwords_size l n h = dwords_bytes_length (part_of l 0 n) ∙ ap (λ (m : ℕ). 4 * m) (part_length l 0 n (omega arith))
 
-module _ (e : Entry) (text dwords : List ℕ) where
-  pub field_first : (past tag : ℕ) → tag < past
-      → fields_from (past - tag) tag e text dwords ≡ item_bytes tag (item_of e tag) text dwords ++ fields_from (past - (tag + 1)) (tag + 1) e text dwords
-  unfolding fields_from
-  field_first past tag h =
-      let left : past - tag ≡ suc (past - (tag + 1)) = omega arith in
-      rw (left, add-one tag)
+pub dword_first : (ds : List ℕ) (i : ℕ) → i < length ds
+    → dwords_bytes (drop i ds) ≡ number_bytes 4 (get_or ds i 0) ++ dwords_bytes (drop (i + 1) ds)
+unfolding dwords_bytes
+dword_first ds i h = rw (drop-cons ds i 0 h, add-one i)
 
-  pub field_none : (past tag : ℕ) → past ≤ tag → fields_from (past - tag) tag e text dwords ≡ []
-  unfolding fields_from
-  field_none past tag h = let left : past - tag ≡ 0 = omega arith in rw left
+pub row_first : (rs : List Row) (d : Row) (i : ℕ) → i < length rs
+    → rows_bytes (map row_of (drop i rs)) ≡ row_bytes (row_of (get_or rs i d)) ++ rows_bytes (map row_of (drop (i + 1) rs))
+unfolding rows_bytes
+row_first rs d i h = rw (drop-cons rs i d h, add-one i)
 
 -- ---- a field is its head and its body
-
-pub head_three : (out : List ℕ) (at tag size : ℕ)
-    → Put out at (head_bytes tag size) (at + 3) (set (set (set out at tag) (at + 1) (size % 256)) (at + 2) (size / 256))
-unfolding head_bytes
-head_three out at tag size =
-    let a : at + 1 ≡ suc at = add-one at in
-    let b : at + 2 ≡ suc (suc at) = omega arith in
-    record { next = omega arith; is = rw (a, b) }
 
 pub head_length : (tag size : ℕ) → length (head_bytes tag size) ≡ 3
 unfolding head_bytes
@@ -186,39 +134,73 @@ field_head tag size body e = rw e
 pub put_length : {out left : List ℕ} {at r : ℕ} {a : List ℕ} → Put out at a r left → length left ≡ length out
 put_length {out} {left} {at} {r} {a} p = ap length p.is ∙ length-sets out at a
 
--- behind a head there is room for the body
-pub room_behind : {out mid : List ℕ} {at r : ℕ} (tag size n : ℕ) → Put out at (head_bytes tag size) r mid → at + (n + 3) ≤ length out → r + n ≤ length mid
-room_behind {out} {mid} {at} {r} tag size n p h = omega (arith, p.next, head_length tag size, put_length p)
+-- ---- dwords, one by one
 
--- what an item asks of the call that writes it
-module _ (text dwords : List ℕ) (tag at room : ℕ) (item : Item) (lies : ItemLies item text dwords × (at + length (item_bytes tag item text dwords) ≤ room)) where
-  pub text_asks : (from len : ℕ) → item ≡ Text from len → (from + len ≤ length text) × (len < 65536) × (at + (len + 3) ≤ room)
-  unfolding ItemLies item_bytes
-  text_asks from len e =
-      let h : ((from + len ≤ length text) × (len < 65536)) × (at + length (field_bytes tag (part_of text from len)) ≤ room) = rw e at lies in
-      (h.0.0, h.0.1, omega (arith, h.1, field_bytes_length tag (part_of text from len), part_length text from len h.0.0))
+pub dword_none : (ds : List ℕ) (i : ℕ) → length ds ≤ i → dwords_bytes (drop i ds) ≡ []
+unfolding dwords_bytes
+dword_none ds i h = rw (drop_of_length-le ds {i = i} h)
 
-  pub number_asks : (width n : ℕ) → item ≡ Number width n → (width < 65536) × (at + (width + 3) ≤ room)
-  unfolding ItemLies item_bytes
-  number_asks width n e =
-      let h : (width < 65536) × (at + length (field_bytes tag (number_bytes width n)) ≤ room) = rw e at lies in
-      (h.0, omega (arith, h.1, field_bytes_length tag (number_bytes width n), number_bytes_length width n))
+-- there is room for the next one
+pub dword_room : (ds : List ℕ) (i at : ℕ) {found out : List ℕ} {place : ℕ} → Filling found at (dwords_bytes ds) out place (dwords_bytes (drop i ds))
+    → i < length ds → at + 4 * length ds ≤ length found → place + 4 ≤ length out
+dword_room ds i at {found} {out} {place} f h room =
+    omega (arith, f.size, f.sum, dwords_bytes_length ds, dwords_bytes_length (drop i ds), length-drop i ds)
 
-  pub dwords_ask : (n : ℕ) → item ≡ Dwords n → (n ≤ length dwords) × (4 * n < 65536) × (at + (4 * n + 3) ≤ room)
-  unfolding ItemLies item_bytes
-  dwords_ask n e =
-      let h : ((n ≤ length dwords) × (4 * n < 65536)) × (at + length (field_bytes tag (dwords_bytes (part_of dwords 0 n))) ≤ room) = rw e at lies in
-      (h.0.0, h.0.1, omega (arith, h.1, field_bytes_length tag (dwords_bytes (part_of dwords 0 n)), dwords_size dwords n h.0.0))
+-- ---- rows, one by one
 
--- there is room for the next field
-pub field_room : (e : Entry) (text dwords : List ℕ) (past tag at : ℕ) {found whole out : List ℕ} {place : ℕ}
-    → Filling found at whole out place (fields_from (past - tag) tag e text dwords) → tag < past → at + length whole ≤ length found
-    → place + length (item_bytes tag (item_of e tag) text dwords) ≤ length out
-field_room e text dwords past tag at {found} {whole} {out} {place} f h room =
-    omega (
-      arith,
-      f.size,
-      f.sum,
-      ap length (field_first e text dwords past tag h),
-      length-append (item_bytes tag (item_of e tag) text dwords) (fields_from (past - (tag + 1)) (tag + 1) e text dwords),
-    )
+module _ (r : Row) where
+  pub row_some : {item : Item} → r.item ≡ Some item → row_bytes (row_of r) ≡ field_bytes r.tag (body_of item)
+  unfolding row_bytes
+  row_some e = rw e
+
+  pub row_none : r.item ≡ None → row_bytes (row_of r) ≡ []
+  unfolding row_bytes
+  row_none e = rw e
+
+  pub row_size : {item : Item} → r.item ≡ Some item → length (row_bytes (row_of r)) ≡ length (body_of item) + 3
+  row_size {item} e = ap length (row_some e) ∙ field_bytes_length r.tag (body_of item)
+
+pub row_over : (rs : List Row) (i : ℕ) → length rs ≤ i → rows_bytes (map row_of (drop i rs)) ≡ []
+unfolding rows_bytes
+row_over rs i h = rw (drop_of_length-le rs {i = i} h)
+
+rows_shorter : (rs : List Row) (i : ℕ) → length (rows_bytes (map row_of (drop i rs))) ≤ length (rows_bytes (map row_of rs))
+unfolding rows_bytes
+rows_shorter rs zero = omega arith
+rows_shorter [] (suc i) = omega arith
+rows_shorter (r ∷ rs) (suc i) = omega (arith, rows_shorter rs i, length-append (row_bytes (row_of r)) (rows_bytes (map row_of rs)))
+
+-- the next one is no longer than all, and there is room for it
+pub row_room : (rs : List Row) (d : Row) (i at : ℕ) {found out : List ℕ} {place : ℕ}
+    → Filling found at (rows_bytes (map row_of rs)) out place (rows_bytes (map row_of (drop i rs)))
+    → i < length rs → length (rows_bytes (map row_of rs)) < 65536 → at + length (rows_bytes (map row_of rs)) ≤ length found
+    → (length (row_bytes (row_of (get_or rs i d))) < 65536) × (place + length (row_bytes (row_of (get_or rs i d))) ≤ length out)
+row_room rs d i at {found} {out} {place} f h small room =
+    let next = ap length (row_first rs d i h) ∙ length-append (row_bytes (row_of (get_or rs i d))) (rows_bytes (map row_of (drop (i + 1) rs))) in
+    (omega (arith, rows_shorter rs i, next), omega (arith, f.size, f.sum, next))
+
+-- ---- a number by its width
+
+width_small : (w : Width) → bytes_of w ≤ 8
+width_small One = omega arith
+width_small Two = omega arith
+width_small Four = omega arith
+width_small Eight = omega arith
+
+pub width_bytes : (w : Width) (n : ℕ) {k : ℕ} {s : List ℕ} → k ≡ bytes_of w → s ≡ bytes_low_first 0 8 n → take k s ≡ number_bytes (bytes_of w) n
+width_bytes w n a b = rw (a, b) (number_cut (bytes_of w) n (width_small w))
+
+-- ---- the head and the rows of a record, in a writer that was new
+
+new_now : {x : MutBor (List ℕ)} {w : Writer} → (w.out ≡ x) × (w.at ≡ 0) → w.out.now ≡ x.now
+new_now new = ap (λ (r : MutBor (List ℕ)). r.now) new.0
+
+pub record_room : {x : MutBor (List ℕ)} {w v : Writer} (size : ℕ) → (w.out ≡ x) × (w.at ≡ 0) → Appended w (head_bytes 0xA1 size) v
+    → (rows : List ℕ) → 3 + length rows ≤ length x.now → v.at + length rows ≤ length v.out.now
+record_room size new head rows h =
+    omega (arith, new.1, ap length (new_now new), head.put.next, head_length 0xA1 size, put_length head.put)
+
+-- whatever name the last bytes have
+pub record_put : {x : MutBor (List ℕ)} {w v u : Writer} (size : ℕ) → (w.out ≡ x) × (w.at ≡ 0) → Appended w (head_bytes 0xA1 size) v
+    → (rows : List ℕ) → Appended v rows u → {zs : List ℕ} → zs ≡ u.out.now → Put x.now 0 (head_bytes 0xA1 size ++ rows) u.at zs
+record_put size new head rows p e = rw e (put_then _ _ _ (rw (new_now new, new.1) at head.put) p.put refl)

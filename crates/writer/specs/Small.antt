@@ -1,10 +1,10 @@
 -- What the small writer is once bytes are appended.
 -- Assumes nothing.
-use Rattle.std.specs.Prelude.{ℕ, ◌+◌, List, length}
-use Rattle.std.proofs.lemmas.List.Edits.{sets}
-use denote.Ref.{at_last}
+use Rattle.std.specs.Prelude.{ℕ, ◌≡◌, List}
 use Rattle.writer.specs.declared.small.Writer.{Writer}
+use Rattle.writer.specs.Put.{Put}
 
 -- the same lent buffer, with the bytes at the writer's place, and the place behind them
-abbrev pub appended : Writer → List ℕ → Writer
-appended w bytes = record { out = at_last w.out (sets w.out.now w.at bytes); at = w.at + length bytes }
+pub record Appended (w : Writer) (bytes : List ℕ) (r : Writer) : Type 0 where
+  pub put : Put w.out.now w.at bytes r.at r.out.now
+  pub same : r.out.ghost_name ≡ w.out.ghost_name

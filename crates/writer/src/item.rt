@@ -1,163 +1,123 @@
-// The body of each tag, from the entry, and the size of the record.
-ghost use Rattle.std.specs.Prelude.{◌≡◌, ◌≤◌};
-ghost use Rattle.writer.specs.Item.{item_of, flag_item, byte_item, word_item, record_size, optional_size, byte_size, word_size};
+// The rows of the record, from the entry, and its size.
+ghost use Rattle.std.specs.Prelude.{◌≡◌, ◌≤◌, ◌<◌, length, map, None, Some};
+ghost use Rattle.std.specs.Option.{MatchOption};
+ghost use Rattle.entry.specs.Entry.{value_of};
+ghost use Rattle.record.specs.Rule.{bytes_of};
+ghost use Rattle.record.specs.Grammar.{required, optional, rows_of, dwords_bytes};
+ghost use Rattle.writer.specs.Item.{body_of, row_of, record_size, optional_size};
 
 use entry::Entry;
+use record::rule::Width;
 
 // What a field's body is made from.
 #[derive(Clone, Copy)]
-pub enum Item {
-    // A part of the text.
-    Text { from: usize, len: usize },
-    // A number of so many bytes.
-    Number { width: usize, n: u64 },
-    // The first dwords, so many.
-    Dwords(usize),
-    // The field is absent.
-    Nothing,
+pub enum Item<'a> {
+    // Bytes as they are.
+    Text(&'a [u8]),
+    // A number of a width, low byte first.
+    Number(Width, u64),
+    // Dwords, 4 bytes each.
+    Dwords(&'a [u32]),
 }
 
-// The body of a tag: one row a tag.
-pub fn item_of(e: Entry, tag: u8) -> Item
-    ensures { result ≡ item_of e tag }
-{
-    match tag {
-        0x00 => Item::Nothing,
-        0x01 => Item::Text {
-            from: e.task_at,
-            len: e.task_len,
-        },
-        0x02 => number(4, wide(e.pid)),
-        0x03 => number(2, wide16(e.cpu)),
-        0x04 => number(8, e.seconds),
-        0x05 => number(8, e.microseconds),
-        0x06 => Item::Text {
-            from: e.function_at,
-            len: e.function_len,
-        },
-        0x07 => number(1, wide8(e.kind)),
-        0x08 => number(2, wide16(e.size)),
-        0x09 => flag(e.dropped),
-        0x0A => number(4, wide(e.domain)),
-        0x0B => number(8, e.route),
-        0x0C => {
-            let m = e.offset;
-            word(m)
+impl<'a> Item<'a> {
+    // How many bytes the body takes.
+    #[tactic(auto, using(tlv::proofs::Numbers::number_bytes_length, record::proofs::Bodies::dwords_bytes_length))]
+    pub(crate) fn size(self) -> usize
+        requires { length (body_of self) < 65536 }
+        ensures { result ≡ length (body_of self.entry) }
+    {
+        match self {
+            Item::Text(s) => s.len(),
+            Item::Number(width, _) => width.bytes(),
+            Item::Dwords(dwords) => 4 * dwords.len(),
         }
-        0x0D => {
-            let m = e.code;
-            byte(m)
-        }
-        0x0E => {
-            let m = e.len;
-            word(m)
-        }
-        0x0F => {
-            let m = e.port;
-            byte(m)
-        }
-        0x10 => {
-            let m = e.config;
-            byte(m)
-        }
-        0x11 => {
-            let m = e.seq;
-            byte(m)
-        }
-        0x12 => {
-            let m = e.unplug;
-            byte(m)
-        }
-        0x13 => Item::Dwords(e.dwords),
-        0x14..=0xff => Item::Nothing,
     }
 }
 
-fn number(width: usize, n: u64) -> Item
-    ensures { result ≡ Item.Number width n }
-{
-    Item::Number { width, n }
+// A tag, and its body where the field is there.
+#[derive(Clone, Copy)]
+pub struct Row<'a> {
+    pub tag: u8,
+    pub item: Option<Item<'a>>,
 }
 
-fn flag(b: bool) -> Item
-    ensures { result ≡ flag_item b }
+// The rows of an entry, whose task and function lie in the text and whose dwords are the first of the dwords.
+pub(crate) fn rows_of<'a>(text: &'a [u8], e: Entry, dwords: &'a [u32]) -> [Row<'a>; 19]
+    ensures { map row_of result ≡ rows_of (value_of e text.now dwords.now) }
 {
-    if b { number(1, 1) } else { number(1, 0) }
+    [
+        bytes(0x01, e.task(text)),
+        number(0x02, Width::Four, Some(e.pid.into())),
+        number(0x03, Width::Two, Some(e.cpu.into())),
+        number(0x04, Width::Eight, Some(e.seconds)),
+        number(0x05, Width::Eight, Some(e.microseconds)),
+        bytes(0x06, e.function(text)),
+        number(0x07, Width::One, Some(e.kind.into())),
+        number(0x08, Width::Two, Some(e.size.into())),
+        number(0x09, Width::One, Some(e.dropped.into())),
+        number(0x0A, Width::Four, Some(e.domain.into())),
+        number(0x0B, Width::Eight, Some(e.route)),
+        number(0x0C, Width::Two, wide(e.offset)),
+        number(0x0D, Width::One, wide(e.code)),
+        number(0x0E, Width::Two, wide(e.len)),
+        number(0x0F, Width::One, wide(e.port)),
+        number(0x10, Width::One, wide(e.config)),
+        number(0x11, Width::One, wide(e.seq)),
+        number(0x12, Width::One, wide(e.unplug)),
+        words(0x13, e.data(dwords)),
+    ]
 }
 
-fn byte(m: Option<u8>) -> Item
-    ensures { result ≡ byte_item m }
+fn bytes<'a>(tag: u8, s: &'a [u8]) -> Row<'a>
+    ensures { row_of result ≡ required tag s.now }
 {
-    match m {
-        Some(b) => number(1, wide8(b)),
-        None => Item::Nothing,
+    Row {
+        tag,
+        item: Some(Item::Text(s)),
     }
 }
 
-fn word(m: Option<u16>) -> Item
-    ensures { result ≡ word_item m }
+fn words<'a>(tag: u8, dwords: &'a [u32]) -> Row<'a>
+    ensures { row_of result ≡ required tag (dwords_bytes dwords.now) }
 {
-    match m {
-        Some(w) => number(2, wide16(w)),
-        None => Item::Nothing,
+    Row {
+        tag,
+        item: Some(Item::Dwords(dwords)),
     }
 }
 
-fn wide(n: u32) -> u64
-    ensures { result ≡ n }
+// A number that is there exactly when the entry has it.
+fn number<'a>(tag: u8, width: Width, n: Option<u64>) -> Row<'a>
+    ensures { row_of result ≡ optional tag (bytes_of width) n }
 {
-    n as u64
+    Row {
+        tag,
+        item: n.map(|n| Item::Number(width, n)),
+    }
 }
 
-fn wide16(n: u16) -> u64
-    ensures { result ≡ n }
+fn wide<T: Into<u64>>(n: Option<T>) -> Option<u64>
+    ensures { MatchOption n (result ≡ None) (λ x. MatchOption result ⊥ (λ y. T.converts x y)) }
 {
-    n as u64
-}
-
-fn wide8(n: u8) -> u64
-    ensures { result ≡ n }
-{
-    n as u64
+    n.map(T::into)
 }
 
 // The size of the record of an entry whose parts are not too long.
+#[tactic(auto, unfolding(crate::specs::Item::record_size))]
 pub fn record_size(e: Entry) -> usize
     requires { (e.task_len ≤ 4096) × (e.function_len ≤ 4096) × (e.dwords ≤ 256) }
     ensures { result ≡ record_size e }
 {
-    77 + e.task_len + e.function_len + 4 * e.dwords + optional_size(e)
+    let words = optional_size(e.offset, 5) + optional_size(e.len, 5);
+    let first = optional_size(e.code, 4) + optional_size(e.port, 4) + optional_size(e.config, 4);
+    let last = optional_size(e.seq, 4) + optional_size(e.unplug, 4);
+    77 + e.task_len + e.function_len + 4 * e.dwords + words + first + last
 }
 
-fn optional_size(e: Entry) -> usize
-    ensures { (result ≡ optional_size e) × (result ≤ 30) }
+// The bytes of an optional field, of a size where it is there.
+fn optional_size<T: Drop>(n: Option<T>, size: usize) -> usize
+    ensures { (result ≡ optional_size n size) × (result ≤ size) }
 {
-    let offset = e.offset;
-    let len = e.len;
-    let code = e.code;
-    let port = e.port;
-    let config = e.config;
-    let seq = e.seq;
-    let unplug = e.unplug;
-    let words = word_size(offset) + word_size(len);
-    let bytes = byte_size(code) + byte_size(port) + byte_size(config);
-    words + bytes + byte_size(seq) + byte_size(unplug)
-}
-
-fn byte_size(m: Option<u8>) -> usize
-    ensures { (result ≡ byte_size m) × (result ≤ 4) }
-{
-    match m {
-        Some(_) => 4,
-        None => 0,
-    }
-}
-
-fn word_size(m: Option<u16>) -> usize
-    ensures { (result ≡ word_size m) × (result ≤ 5) }
-{
-    match m {
-        Some(_) => 5,
-        None => 0,
-    }
+    if n.is_some() { size } else { 0 }
 }

@@ -2,8 +2,8 @@
 //
 //     write     an entry's record into a lent buffer
 //     check     number 37
-//     item      the body of each tag, from the entry
-//     put       bytes, numbers, dwords and fields at a place of a buffer
+//     item      the rows of the record, from the entry, and its size
+//     put       bytes at a place of a buffer
 //     small     the small writer, which holds the lent buffer
 #![tactic(auto)]
 

@@ -117,6 +117,11 @@ pub was_there : {A E : Type 0} (o : Option A) (e : E) {r : Result A E} {a : A} �
 was_there (Some b) e p q = cc
 was_there None e p q = absurd (let z : ◌≡◌ {A = ℕ} 0 1 = cc in omega arith)
 
+-- and what it refused
+pub was_missing : {A E : Type 0} (o : Option A) (e : E) {r : Result A E} {x : E} → r ≡ ok_or o e → r ≡ Err x → (o ≡ None) × (x ≡ e)
+was_missing (Some b) e p q = absurd (let z : ◌≡◌ {A = ℕ} 0 1 = cc in omega arith)
+was_missing None e p q = (refl, cc)
+
 -- what a need went on with
 pub need_goes_on : {X B : Type 0} (o : Option X) (x : B) (f : X → B) {y : B} → need x o f ≡ y → (x ≡ y → ⊥) → (a : X) × (o ≡ Some a) × (f a ≡ y)
 need_goes_on None x f e n = absurd (n e)

@@ -8,31 +8,26 @@ ghost use Rattle.scan.specs.Dwords.{refuses, DataRead};
 
 use crate::Pieces;
 use pairs::dwords::take_dwords;
+use pairs::pair::Span;
 use refusal::Refusal;
 
-// The dwords wait in an array of its own, and all is judged before the first slot is written. Asked for: the places of the last pair of `data`, with an
-// end of 0 where there is none.
+// The dwords wait in an array of its own, and all is judged before the first slot is written. Asked for: where the last pair of `data` has its value.
 pub fn read_data(
     p: &[u8],
     t: &[u8; 256],
-    from: usize,
-    end: usize,
+    value: Option<Span>,
     pieces: Pieces,
     slots: &mut [u32],
 ) -> Result<usize, Refusal>
-    requires { (t.now ≡ table)
-        × (end ≡ 0 → last_pair p.now (bytes "data") ≡ None)
-        × (0 < end → last_pair p.now (bytes "data") ≡ span from end) }
+    requires { (t.now ≡ table) × (value ≡ last_pair p.now (bytes "data")) }
     ensures { DataRead pieces p.now slots.old slots.new result }
 {
-    if end == 0 {
-        return Err(Refusal::NoData);
-    }
+    let Span { from, to } = value.ok_or(Refusal::NoData)?;
     if p[from] != b'[' {
         return Err(Refusal::NoData);
     }
     let mut own = [0u32; 256];
-    let tally = take_dwords(&p[from + 1..end - 1], t, &mut own);
+    let tally = take_dwords(&p[from + 1..to - 1], t, &mut own);
     if refuse_bad(pieces, tally.bad) {
         return Err(Refusal::BadPiece);
     }
@@ -52,11 +47,7 @@ pub fn copy(dwords: &[u32], slots: &mut [u32])
     requires { length dwords.now ≤ length slots.old }
     ensures { slots.new ≡ filled dwords.now slots.old }
 {
-    let mut i = 0;
-    while i < dwords.len() {
-        slots[i] = dwords[i];
-        i += 1;
-    }
+    slots[..dwords.len()].copy_from_slice(dwords);
 }
 
 // Is a line refused, by whether a piece of its data is bad?

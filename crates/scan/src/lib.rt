@@ -10,12 +10,12 @@ ghost use Rattle.std.specs.Prelude.{◌≡◌, ◌+◌, ◌^◌, ◌≤◌, ◌<
 ghost use Rattle.text.specs.Table.{table};
 ghost use Rattle.scan.specs.Parse.{Parsed, PartedRead, PayloadRead, entry_of};
 
-use crate::body::{Body, read_body};
+use crate::body::{Body, Optionals, read_body};
 use crate::dwords::read_data;
 use crate::frame::read_frame;
 use crate::head::{Head, read_head};
 use entry::Entry;
-use pairs::keys::{DATA, ROWS};
+use pairs::keys::DATA;
 use refusal::Refusal;
 use text::class::Class;
 use text::run::{run_end, run_start, strip};
@@ -89,13 +89,9 @@ fn read_payload(
     requires { (head.function ≤ length header.now) × (start + length header.now < 2 ^ 64) × (t.now ≡ table) }
     ensures { PayloadRead pieces header.now start head payload.now slots.old slots.new result }
 {
-    let from = head.function;
-    let mut values = [0u64; ROWS];
-    let mut ends = [0usize; ROWS];
-    last_pairs(payload, t, &mut values, &mut ends);
-    let body = read_body(payload, &header[from..], &values, &ends)?;
-    let at = values[DATA] as usize;
-    let dwords = read_data(payload, t, at, ends[DATA], pieces, slots)?;
+    let last = last_pairs(payload, t);
+    let body = read_body(payload, &header[head.function..], &last)?;
+    let dwords = read_data(payload, t, last.part(DATA), pieces, slots)?;
     Ok(assemble(start, header.len(), head, body, dwords))
 }
 
@@ -104,14 +100,15 @@ fn assemble(start: usize, size: usize, head: Head, body: Body, dwords: usize) ->
     requires { (head.function ≤ size) × (start + size < 2 ^ 64) }
     ensures { result ≡ entry_of start size head body dwords }
 {
-    let optionals = body.optionals;
-    let offset = optionals.offset;
-    let code = optionals.code;
-    let len = optionals.len;
-    let port = optionals.port;
-    let config = optionals.config;
-    let seq = optionals.seq;
-    let unplug = optionals.unplug;
+    let Optionals {
+        offset,
+        code,
+        len,
+        port,
+        config,
+        seq,
+        unplug,
+    } = body.optionals;
     Entry {
         task_at: start,
         task_len: head.task,
@@ -126,13 +123,13 @@ fn assemble(start: usize, size: usize, head: Head, body: Body, dwords: usize) ->
         dropped: body.dropped,
         domain: body.domain,
         route: body.route,
-        offset: offset,
-        code: code,
-        len: len,
-        port: port,
-        config: config,
-        seq: seq,
-        unplug: unplug,
-        dwords: dwords,
+        offset,
+        code,
+        len,
+        port,
+        config,
+        seq,
+        unplug,
+        dwords,
     }
 }

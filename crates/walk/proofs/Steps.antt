@@ -1,5 +1,6 @@
 -- One step of the walk: a try from a word byte that fails fails from every byte of its word run, and one that does not is a pair. Assumes nothing.
 use Rattle.std.specs.Prelude.{None, Option, Some}
+use Rattle.std.proofs.lemmas.Option.{none-some, same_Some}
 use Prim.Native.Nat.{ℕ, suc, ◌+◌, ◌≤◌, ◌<◌}
 use mathlib.Core.Path.{◌≡◌, refl, sym, ap, ◌∙◌}
 use mathlib.Core.Bool.{true, false}
@@ -15,28 +16,32 @@ use Rattle.pairs.specs.Pair.{value_end, pair_with, pair_at}
 use Rattle.pairs.specs.Table.{keys}
 use Rattle.pairs.proofs.Tries.{value_is, value_up, value_within, try-unequal, try-hits, try-misses, miss_within}
 use Rattle.walk.specs.declared.start.Start.{Start}
+use Rattle.walk.specs.declared.value.Kept.{Kept}
 use Rattle.walk.specs.declared.value.Value.{Value}
 use Rattle.walk.specs.Start.{Started}
 use Rattle.walk.specs.Kept.{kept_in, value_of, Stepped, Step}
 
 -- what the answer of a value tells
-module _ (s : List ℕ) (form : Form) (v : ℕ) {r : Value} (is : r ≡ value_of s form v (value_end s v)) where
-  found_end : (f : Option ℕ) → value_end s v ≡ f → (value_of s form v f).end ≡ 0 → f ≡ None
+module _ (s : List ℕ) (form : Form) (v : ℕ) where
+  pub value_missing : {r : Option Value} → r ≡ value_of s form v (value_end s v) → r ≡ None → value_end s v ≡ None
   unfolding value_of
-  found_end (Some e) q z = absurd (omega (arith, value_up s v (value_is s v q)))
-  found_end None q z = refl
+  value_missing is none = go (value_end s v) (sym is ∙ none)
+    where
+      go : (f : Option ℕ) → value_of s form v f ≡ None → f ≡ None
+      go (Some e) q = absurd (none-some _ (sym q))
+      go None q = refl
 
-  pub value_missing : r.end ≡ 0 → value_end s v ≡ None
-  value_missing z = found_end (value_end s v) refl (sym (ap (λ (x : Value). x.end) is) ∙ z)
-
-  found_kept : (f : Option ℕ) → ((value_of s form v f).end ≡ 0 → ⊥) →
-      (f ≡ Some (value_of s form v f).end) × ((value_of s form v f).kept ≡ kept_in form s v (value_of s form v f).end)
+  pub value_there : {r : Option Value} {value : Value} → r ≡ value_of s form v (value_end s v) → r ≡ Some value
+      → (value_end s v ≡ Some value.end) × (value.kept ≡ kept_in form s v value.end)
   unfolding value_of
-  found_kept (Some e) n = (refl, refl)
-  found_kept None n = absurd (n refl)
-
-  pub value_there : (r.end ≡ 0 → ⊥) → (value_end s v ≡ Some r.end) × (r.kept ≡ kept_in form s v r.end)
-  value_there n = rw is (found_kept (value_end s v) (λ z. n (ap (λ (x : Value). x.end) is ∙ z)))
+  value_there {value = value} is some = go (value_end s v) (sym is ∙ some)
+    where
+      go : (f : Option ℕ) → value_of s form v f ≡ Some value → (f ≡ Some value.end) × (value.kept ≡ kept_in form s v value.end)
+      go (Some e) q =
+          let same = same_Some _ _ q in
+          let end : e ≡ value.end = ap (λ (x : Value). x.end) same in
+          (ap Some end, sym (ap (λ (x : Value). x.kept) same) ∙ ap (kept_in form s v) end)
+      go None q = absurd (none-some _ q)
 
 module _ (s : List ℕ) (i : ℕ) {start : Start} (b : Started s i start) (in-text : i < length s) (word : is_word (get_or s i 0) ≡ true) where
   -- the word run is not empty and ends within the text
@@ -60,16 +65,16 @@ module _ (s : List ℕ) (i : ℕ) {start : Start} (b : Started s i start) (in-te
   pub step_in : start.end + 1 ≤ suc (length s)
   step_in = omega (arith, run_in)
 
-  passes : {values ends : List ℕ} → pair_with s i start.end ≡ None → Step s i values ends values ends (start.end + 1)
+  passes : {rows : List (Option Kept)} → pair_with s i start.end ≡ None → Step s i rows rows (start.end + 1)
   passes q =
       record {
         on = step_on;
         within = step_in;
         stepped =
-            Stepped.passed (λ k l h. miss_within s i start.end (omega arith) b.ends.is q k l (omega arith)) refl refl;
+            Stepped.passed (λ k l h. miss_within s i start.end (omega arith) b.ends.is q k l (omega arith)) refl;
       }
 
-  pub step_keyless : {values ends : List ℕ} → start.row ≡ suc (length keys) → Step s i values ends values ends (start.end + 1)
+  pub step_keyless : {rows : List (Option Kept)} → start.row ≡ suc (length keys) → Step s i rows rows (start.end + 1)
   step_keyless e = passes (try-unequal s i start.end run_some (b.no_key e))
 
   module _ (keyed : start.row ≡ suc (length keys) → ⊥) where
@@ -86,14 +91,13 @@ module _ (s : List ℕ) (i : ℕ) {start : Start} (b : Started s i start) (in-te
         past : length s ≤ start.end → ⊥
         past h = omega (arith, b.sign row_in, lib.ListN.get_or-eq_default s 0 {n = start.end} h)
 
-    pub step_empty : {values ends : List ℕ} → value_end s (start.end + 1) ≡ None → Step s i values ends values ends (start.end + 1)
+    pub step_empty : {rows : List (Option Kept)} → value_end s (start.end + 1) ≡ None → Step s i rows rows (start.end + 1)
     step_empty e = passes (try-misses s i start.end run_some (b.sign row_in) e)
 
-    pub step_takes : {values ends : List ℕ} {e : ℕ} → value_end s (start.end + 1) ≡ Some e →
-        Step s i values ends (set values start.row (kept_in start.form s (start.end + 1) e).value)
-        (set ends start.row (kept_in start.form s (start.end + 1) e).end) e
+    pub step_takes : {rows : List (Option Kept)} {e : ℕ} → value_end s (start.end + 1) ≡ Some e →
+        Step s i rows (set rows start.row (kept_in start.form s (start.end + 1) e)) e
     unfolding pair_at
-    step_takes {values} {ends} {e} q =
+    step_takes {rows} {e} q =
         let value = value_is s (start.end + 1) q in
         let m-is : run_end is_word s i ≡ start.end = sym b.ends.is in
         record {
@@ -101,5 +105,5 @@ module _ (s : List ℕ) (i : ℕ) {start : Start} (b : Started s i start) (in-te
           within = omega (arith, value_within s (start.end + 1) value);
           stepped =
               Stepped.took start.end (rw m-is (try-hits s i start.end run_some (b.sign row_in) q))
-              {key = record { row = start.row; form = start.form }} (sym (b.named row_in)) refl refl;
+              {key = record { row = start.row; form = start.form }} (sym (b.named row_in)) refl;
         }

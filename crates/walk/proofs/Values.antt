@@ -32,7 +32,7 @@ use Rattle.pairs.proofs.Tries.{value_word}
 use Rattle.walk.specs.declared.value.Digits.{Digits}
 use Rattle.walk.specs.declared.value.Kept.{Kept}
 use Rattle.walk.specs.declared.value.Value.{Value}
-use Rattle.walk.specs.Kept.{nothing, kept_number, kept_in, value_of, base_of, limit_of, digits_start, DigitsRead, Short}
+use Rattle.walk.specs.Kept.{kept_number, kept_in, value_of, base_of, limit_of, digits_start, DigitsRead}
 
 -- ---- where the digits start
 
@@ -57,23 +57,15 @@ start_most s {d} e = go (is_at 48 s 0 && is_at 120 s 1) e
 -- ---- what is kept, form by form
 
 module _ {form : Form} (s : List ℕ) (a b : ℕ) where
-  pub kept_decimal : {limit : ℕ} {n : Option ℕ} {k : Kept} → form ≡ Decimal limit → n ≡ number_of 10 limit (part s a b) → k ≡ kept_number b n
+  pub kept_decimal : {limit : ℕ} {n : Option ℕ} {k : Option Kept} → form ≡ Decimal limit → n ≡ number_of 10 limit (part s a b) → k ≡ kept_number n
       → k ≡ kept_in form s a b
   unfolding kept_in
   kept_decimal f n-is k-is = rw (f, ← n-is) k-is
 
-  pub kept_hex : {limit : ℕ} {r : Result ℕ BadNumber} {n : Option ℕ} {k : Kept} → form ≡ Hex limit → r ≡ hex_of limit (part s a b) → n ≡ result_ok r
-      → k ≡ kept_number b n → k ≡ kept_in form s a b
+  pub kept_hex : {limit : ℕ} {r : Result ℕ BadNumber} {n : Option ℕ} {k : Option Kept} → form ≡ Hex limit → r ≡ hex_of limit (part s a b) → n ≡ result_ok r
+      → k ≡ kept_number n → k ≡ kept_in form s a b
   unfolding kept_in
   kept_hex f r-is n-is k-is = rw (f, ← r-is, ← n-is) k-is
-
-  pub kept_text : form ≡ Text → record { value = a; end = b } ≡ kept_in form s a b
-  unfolding kept_in
-  kept_text f = rw f
-
-  pub kept_dwords : form ≡ Dwords → record { value = a; end = b } ≡ kept_in form s a b
-  unfolding kept_in
-  kept_dwords f = rw f
 
 -- ---- digits, one by one
 
@@ -253,9 +245,9 @@ module _ (s : List ℕ) (v base from e w : ℕ) (below : base ≤ 16) (start : S
           ∙ two
 
   kept_short : (form : Form) → base ≡ base_of form → (base ≡ 0 → ⊥)
-      → kept_in form s v e ≡ kept_number e (cond (leb w (limit_of form)) (Some w) None)
+      → kept_in form s v e ≡ kept_number (cond (leb w (limit_of form)) (Some w) None)
   unfolding kept_in base_of limit_of hex_of
-  kept_short (Decimal limit) b some-base = ap (kept_number e) (number_read 10 limit (part s v e) ∙ same ∙ digits_judged limit)
+  kept_short (Decimal limit) b some-base = ap kept_number (number_read 10 limit (part s v e) ∙ same ∙ digits_judged limit)
     where
       first : Started s v base from → 0 ≡ from - v
       first (Started.plain p) = omega arith
@@ -263,21 +255,18 @@ module _ (s : List ℕ) (v base from e w : ℕ) (below : base ≤ 16) (start : S
 
       same : result_ok (reading_of 10 limit 0 (part s v e)) ≡ result_ok (reading_of base limit (from - v) (part s v e))
       same = rw (← first start, b)
-  kept_short (Hex limit) b some-base = ap (kept_number e) (same ∙ digits_judged limit)
+  kept_short (Hex limit) b some-base = ap kept_number (same ∙ digits_judged limit)
     where
       same : result_ok (reading_of 16 limit (digits_from (part s v e)) (part s v e)) ≡ result_ok (reading_of base limit (from - v) (part s v e))
       same = rw (hex_start b, b)
   kept_short Text b some-base = absurd (some-base b)
   kept_short Dwords b some-base = absurd (some-base b)
 
--- the answers of the try at a short number: none is given, or it is the value's
-pub short_none : (s : List ℕ) (form : Form) (v : ℕ) {r : Value} → r ≡ record { end = 0; kept = nothing } → Short s form v r
-short_none s form v {r} e h = absurd (let z : r.end ≡ 0 = ap (λ (x : Value). x.end) e in omega arith)
-
-module _ (s : List ℕ) (form : Form) (v : ℕ) {base from limit : ℕ} {d : Digits} {n : Option ℕ} {k : Kept} where
+-- the answer of the try at a short number
+module _ (s : List ℕ) (form : Form) (v : ℕ) {base from limit : ℕ} {d : Digits} {n : Option ℕ} {k : Option Kept} where
   pub short_is : base ≡ base_of form → (base ≡ 0 → ⊥) → from ≡ digits_start s v base → DigitsRead s base from d → (d.end ≡ from → ⊥)
       → false ≡ is_word (get_or s d.end 0) → limit ≡ limit_of form → n ≡ cond (leb d.value limit) (Some d.value) None
-      → k ≡ kept_number d.end n → record { end = d.end; kept = k } ≡ value_of s form v (value_end s v)
+      → k ≡ kept_number n → Some (record { end = d.end; kept = k }) ≡ value_of s form v (value_end s v)
   unfolding value_of
   short_is b some-base from_is read more free limit_is n-is k-is =
       let below : base ≤ 16 = base_below form b in
@@ -290,12 +279,11 @@ module _ (s : List ℕ) (form : Form) (v : ℕ) {base from limit : ℕ} {d : Dig
 -- ---- a value of any kind
 
 module _ (s : List ℕ) (form : Form) (v : ℕ) where
-  pub value_found : {f : Option ℕ} {e : ℕ} {k : Kept} → f ≡ value_end s v → f ≡ Some e → k ≡ kept_in form s v e
-      → record { end = e; kept = k } ≡ value_of s form v (value_end s v)
+  pub value_found : {f : Option ℕ} {e : ℕ} {k : Option Kept} → f ≡ value_end s v → f ≡ Some e → k ≡ kept_in form s v e
+      → Some (record { end = e; kept = k }) ≡ value_of s form v (value_end s v)
   unfolding value_of
   value_found f-is e-is k-is = rw (← f-is, e-is, k-is)
 
-  pub value_none : {f : Option ℕ} {r : Value} → f ≡ value_end s v → f ≡ None → r ≡ record { end = 0; kept = nothing }
-      → r ≡ value_of s form v (value_end s v)
+  pub value_none : {f : Option ℕ} → f ≡ value_end s v → f ≡ None → None ≡ value_of s form v (value_end s v)
   unfolding value_of
-  value_none f-is none r-is = rw (← f-is, none) r-is
+  value_none f-is none = rw (← f-is, none)

@@ -1,7 +1,7 @@
 -- `read_payload` meets its contract, one law a way out. Assumes nothing.
 use Rattle.refusal.proofs.Told.{passed_on}
 use Rattle.refusal.specs.Told.{told}
-use Rattle.scan.proofs.Said.{data_at, data_nowhere}
+use Rattle.scan.proofs.Said.{data_there}
 use Rattle.scan.proofs.Stages.{payload_refused, data_refused, payload_read}
 use Rattle.scan.specs.Body.{body_of}
 use Rattle.text.proofs.Stripping.{rest_is}
@@ -9,14 +9,8 @@ use mathlib.Core.Path.{refl, sym, ap, ◌∙◌}
 use native.Mathlib.Omega.{arith}
 use Rattle.scan.proofs.read_payload.Goals as goal
 
-pub last_pairs-requires : goal.last_pairs-requires
-last_pairs-requires c = (c.requires.2, refl, refl)
-
-pub read_body-requires : goal.read_body-requires
-read_body-requires c = c.last_pairs.ensures
-
 pub read_data-requires : goal.read_data-requires
-read_data-requires c = (c.requires.2, data_nowhere _ c.last_pairs.ensures, λ l. data_at _ c.last_pairs.ensures (λ z. absurd (omega arith)))
+read_data-requires c = (c.requires.2, c.part.ensures ∙ data_there _ c.last_pairs-last.ensures)
 
 pub returns : goal.returns
 returns c =

@@ -5,9 +5,10 @@ use Prim.Native.Nat.{ℕ, ◌+◌, ◌-◌}
 use Rattle.pairs.proofs.Bracketing.{Brackets, last_unopened, last_brackets}
 use Rattle.pairs.proofs.LastPairs.{last_within}
 use Rattle.pairs.proofs.Slots.{taken_front, taken_count, taken_fits}
+use Rattle.refusal.proofs.Told.{passed_on}
 use Rattle.pairs.specs.Data.{dwords_of, bad_of, filled}
 use Rattle.pairs.specs.Pair.{part, last_pair, span}
-use Rattle.scan.proofs.Stages.{data_missing, data_unbracketed, data_there, bad_there, data_bad, data-many, data-crowded, data-got}
+use Rattle.scan.proofs.Stages.{was_there, was_missing, data_missing, data_unbracketed, data_there, bad_there, data_bad, data-many, data-crowded, data-got}
 use Rattle.scan.specs.Dwords.{payload_data, payload_bad, refuses}
 use Rattle.scan.specs.declared.Pieces.{Pieces}
 use Rattle.text.specs.Quote.{bytes}
@@ -26,49 +27,54 @@ module _ (pieces : Pieces) (p out : List ℕ) {a b : ℕ} (found : last_pair p (
   inner_bad : {bad x : Bool} → bad ≡ bad_of (part p (a + 1) (b - 1)) → x ≡ refuses pieces bad → refuses pieces (payload_bad p) ≡ x
   inner_bad q h = bad_there pieces p out found r.inside (q ∙ ap bad_of (sym r.inner)) h
 
-pub returns-then-end-eq0 : goal.returns-then-end-eq0
-returns-then-end-eq0 c = data_missing _ _ _ (c.requires.1 c.if-end-eq0.true)
+pub returns-in_err-from : goal.returns-in_err-from
+returns-in_err-from c =
+    let none = was_missing _ _ c.ok_or.ensures.value c.in_err-from.was in
+    rw (passed_on c.from_residual.result c.from_residual.ensures.1, none.1) (data_missing _ _ _ (sym c.requires.1 ∙ none.0))
+
+pub overflow_sub-to : goal.overflow_sub-to
+overflow_sub-to c = let w = last_within _ _ (sym c.requires.1 ∙ was_there _ _ c.ok_or.ensures.value c.in_ok-from.was) in omega (arith, w.0)
 
 pub bounds-p-from : goal.bounds-p-from
-bounds-p-from c = let w = last_within _ _ (c.requires.2 (omega (arith, c.if-end-eq0.false))) in omega (arith, w.0, w.1)
+bounds-p-from c = let w = last_within _ _ (sym c.requires.1 ∙ was_there _ _ c.ok_or.ensures.value c.in_ok-from.was) in omega (arith, w.0, w.1)
 
 pub returns-then-p-from-ne91 : goal.returns-then-p-from-ne91
-returns-then-p-from-ne91 c = data_unbracketed _ _ _ (c.requires.2 (omega (arith, c.if-end-eq0.false))) (last_unopened _ _ (c.requires.2 (omega (arith, c.if-end-eq0.false))) c.if-p-from-ne91.true)
+returns-then-p-from-ne91 c = data_unbracketed _ _ _ (sym c.requires.1 ∙ was_there _ _ c.ok_or.ensures.value c.in_ok-from.was) (last_unopened _ _ (sym c.requires.1 ∙ was_there _ _ c.ok_or.ensures.value c.in_ok-from.was) c.if-p-from-ne91.true)
 
 pub overflow_add-from : goal.overflow_add-from
-overflow_add-from c = let r = last_brackets _ _ (c.requires.2 (omega (arith, c.if-end-eq0.false))) c.if-p-from-ne91.false in search rules
+overflow_add-from c = let r = last_brackets _ _ (sym c.requires.1 ∙ was_there _ _ c.ok_or.ensures.value c.in_ok-from.was) c.if-p-from-ne91.false in search rules
 
 pub slice_bounds-take_dwords-count : goal.slice_bounds-take_dwords-count
-slice_bounds-take_dwords-count c = let r = last_brackets _ _ (c.requires.2 (omega (arith, c.if-end-eq0.false))) c.if-p-from-ne91.false in search rules
+slice_bounds-take_dwords-count c = let r = last_brackets _ _ (sym c.requires.1 ∙ was_there _ _ c.ok_or.ensures.value c.in_ok-from.was) c.if-p-from-ne91.false in search rules
 
 pub slice_bounds-take_dwords-start : goal.slice_bounds-take_dwords-start
-slice_bounds-take_dwords-start c = let r = last_brackets _ _ (c.requires.2 (omega (arith, c.if-end-eq0.false))) c.if-p-from-ne91.false in search rules
+slice_bounds-take_dwords-start c = let r = last_brackets _ _ (sym c.requires.1 ∙ was_there _ _ c.ok_or.ensures.value c.in_ok-from.was) c.if-p-from-ne91.false in search rules
 
 pub slice_bounds-take_dwords-end : goal.slice_bounds-take_dwords-end
-slice_bounds-take_dwords-end c = let r = last_brackets _ _ (c.requires.2 (omega (arith, c.if-end-eq0.false))) c.if-p-from-ne91.false in search rules
+slice_bounds-take_dwords-end c = let r = last_brackets _ _ (sym c.requires.1 ∙ was_there _ _ c.ok_or.ensures.value c.in_ok-from.was) c.if-p-from-ne91.false in search rules
 
 pub returns-then-refuse_bad : goal.returns-then-refuse_bad
 returns-then-refuse_bad c =
     let pieces = c.args.pieces in
     let slots = c.args.slots.now in
-    let there = inner_data pieces _ slots (c.requires.2 (omega (arith, c.if-end-eq0.false))) (last_brackets _ _ (c.requires.2 (omega (arith, c.if-end-eq0.false))) c.if-p-from-ne91.false) in
-    let refused = inner_bad pieces _ slots (c.requires.2 (omega (arith, c.if-end-eq0.false))) (last_brackets _ _ (c.requires.2 (omega (arith, c.if-end-eq0.false))) c.if-p-from-ne91.false) c.take_dwords-tally.ensures.tally.bad_is c.refuse_bad.ensures in
+    let there = inner_data pieces _ slots (sym c.requires.1 ∙ was_there _ _ c.ok_or.ensures.value c.in_ok-from.was) (last_brackets _ _ (sym c.requires.1 ∙ was_there _ _ c.ok_or.ensures.value c.in_ok-from.was) c.if-p-from-ne91.false) in
+    let refused = inner_bad pieces _ slots (sym c.requires.1 ∙ was_there _ _ c.ok_or.ensures.value c.in_ok-from.was) (last_brackets _ _ (sym c.requires.1 ∙ was_there _ _ c.ok_or.ensures.value c.in_ok-from.was) c.if-p-from-ne91.false) c.take_dwords-tally.ensures.tally.bad_is c.refuse_bad.ensures in
     data_bad _ _ _ _ there (refused ∙ c.if-refuse_bad.true)
 
 pub returns-then-n-gt256 : goal.returns-then-n-gt256
 returns-then-n-gt256 c =
     let pieces = c.args.pieces in
     let slots = c.args.slots.now in
-    let there = inner_data pieces _ slots (c.requires.2 (omega (arith, c.if-end-eq0.false))) (last_brackets _ _ (c.requires.2 (omega (arith, c.if-end-eq0.false))) c.if-p-from-ne91.false) in
-    let refused = inner_bad pieces _ slots (c.requires.2 (omega (arith, c.if-end-eq0.false))) (last_brackets _ _ (c.requires.2 (omega (arith, c.if-end-eq0.false))) c.if-p-from-ne91.false) c.take_dwords-tally.ensures.tally.bad_is c.refuse_bad.ensures in
+    let there = inner_data pieces _ slots (sym c.requires.1 ∙ was_there _ _ c.ok_or.ensures.value c.in_ok-from.was) (last_brackets _ _ (sym c.requires.1 ∙ was_there _ _ c.ok_or.ensures.value c.in_ok-from.was) c.if-p-from-ne91.false) in
+    let refused = inner_bad pieces _ slots (sym c.requires.1 ∙ was_there _ _ c.ok_or.ensures.value c.in_ok-from.was) (last_brackets _ _ (sym c.requires.1 ∙ was_there _ _ c.ok_or.ensures.value c.in_ok-from.was) c.if-p-from-ne91.false) c.take_dwords-tally.ensures.tally.bad_is c.refuse_bad.ensures in
     data-many _ _ _ _ there (refused ∙ c.if-refuse_bad.false) (omega (arith, c.take_dwords-tally.ensures.tally.dwords_are, c.if-n-gt256.true))
 
 pub returns-then-slots-n : goal.returns-then-slots-n
 returns-then-slots-n c =
     let pieces = c.args.pieces in
     let slots = c.args.slots.now in
-    let there = inner_data pieces _ slots (c.requires.2 (omega (arith, c.if-end-eq0.false))) (last_brackets _ _ (c.requires.2 (omega (arith, c.if-end-eq0.false))) c.if-p-from-ne91.false) in
-    let refused = inner_bad pieces _ slots (c.requires.2 (omega (arith, c.if-end-eq0.false))) (last_brackets _ _ (c.requires.2 (omega (arith, c.if-end-eq0.false))) c.if-p-from-ne91.false) c.take_dwords-tally.ensures.tally.bad_is c.refuse_bad.ensures in
+    let there = inner_data pieces _ slots (sym c.requires.1 ∙ was_there _ _ c.ok_or.ensures.value c.in_ok-from.was) (last_brackets _ _ (sym c.requires.1 ∙ was_there _ _ c.ok_or.ensures.value c.in_ok-from.was) c.if-p-from-ne91.false) in
+    let refused = inner_bad pieces _ slots (sym c.requires.1 ∙ was_there _ _ c.ok_or.ensures.value c.in_ok-from.was) (last_brackets _ _ (sym c.requires.1 ∙ was_there _ _ c.ok_or.ensures.value c.in_ok-from.was) c.if-p-from-ne91.false) c.take_dwords-tally.ensures.tally.bad_is c.refuse_bad.ensures in
     data-crowded _ _ _ _ there (refused ∙ c.if-refuse_bad.false) (omega (arith, c.take_dwords-tally.ensures.tally.dwords_are, c.if-n-gt256.false))
     (omega (arith, c.take_dwords-tally.ensures.tally.dwords_are, c.if-slots-n.true))
 
@@ -85,8 +91,8 @@ pub returns : goal.returns
 returns c =
     let pieces = c.args.pieces in
     let slots = c.args.slots.now in
-    let there = inner_data pieces _ slots (c.requires.2 (omega (arith, c.if-end-eq0.false))) (last_brackets _ _ (c.requires.2 (omega (arith, c.if-end-eq0.false))) c.if-p-from-ne91.false) in
-    let refused = inner_bad pieces _ slots (c.requires.2 (omega (arith, c.if-end-eq0.false))) (last_brackets _ _ (c.requires.2 (omega (arith, c.if-end-eq0.false))) c.if-p-from-ne91.false) c.take_dwords-tally.ensures.tally.bad_is c.refuse_bad.ensures in
+    let there = inner_data pieces _ slots (sym c.requires.1 ∙ was_there _ _ c.ok_or.ensures.value c.in_ok-from.was) (last_brackets _ _ (sym c.requires.1 ∙ was_there _ _ c.ok_or.ensures.value c.in_ok-from.was) c.if-p-from-ne91.false) in
+    let refused = inner_bad pieces _ slots (sym c.requires.1 ∙ was_there _ _ c.ok_or.ensures.value c.in_ok-from.was) (last_brackets _ _ (sym c.requires.1 ∙ was_there _ _ c.ok_or.ensures.value c.in_ok-from.was) c.if-p-from-ne91.false) c.take_dwords-tally.ensures.tally.bad_is c.refuse_bad.ensures in
     let n = c.take_dwords-tally.ensures.tally.dwords_are in
     let kept = taken_front c.take_dwords-tally.ensures c.if-n-gt256.false in
     data-got _ _ _ _ there (refused ∙ c.if-refuse_bad.false) _ _ n (omega (arith, n, c.if-n-gt256.false)) (omega (arith, n, c.if-slots-n.false))

@@ -4,8 +4,8 @@ use Rattle.walk.proofs.Walks.{Walked}
 use lib.ListN.{length}
 use Rattle.walk.proofs.last.last_pairs.Given as goal
 
-abbrev pub invariant-loop-tail : goal.invariant-loop-tail
-invariant-loop-tail l = (l.at ≤ suc (length l.s)) × Walked l.s l.values l.ends l.at
+abbrev pub invariant-loop-last : goal.invariant-loop-last
+invariant-loop-last l = (l.at ≤ suc (length l.s)) × Walked l.s l.last.rows l.at
 
-abbrev pub decreases-loop-tail : goal.decreases-loop-tail
-decreases-loop-tail l = suc (length l.s) - l.at
+abbrev pub decreases-loop-last : goal.decreases-loop-last
+decreases-loop-last l = suc (length l.s) - l.at

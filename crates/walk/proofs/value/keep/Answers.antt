@@ -1,5 +1,5 @@
 -- `value::keep` meets its contract, form by form. Assumes nothing.
-use Rattle.walk.proofs.Values.{kept_decimal, kept_hex, kept_text, kept_dwords}
+use Rattle.walk.proofs.Values.{kept_decimal, kept_hex}
 use Rattle.walk.proofs.value.keep.Goals as goal
 
 pub returns-in-Decimal : goal.returns-in-Decimal
@@ -7,9 +7,3 @@ returns-in-Decimal c = kept_decimal _ _ _ c.in-Decimal.is c.decimal.ensures c.ke
 
 pub returns-in-Hex : goal.returns-in-Hex
 returns-in-Hex c = kept_hex _ _ _ c.in-Hex.is c.hex.ensures c.ok.ensures.value c.keep_number-in-Hex.ensures
-
-pub returns-in-Text : goal.returns-in-Text
-returns-in-Text c = kept_text _ _ _ c.in-Text.is
-
-pub returns-in-Dwords : goal.returns-in-Dwords
-returns-in-Dwords c = kept_dwords _ _ _ c.in-Dwords.is

@@ -38,7 +38,8 @@ pub fn inside(value: &[u8]) -> Option<Span>
 }
 
 // The dwords that the pieces between the brackets are, from the first place on; those past the last place are counted and not kept. A bad piece adds
-// none.
+// none. A call of its own, since inlined its loop runs out of registers: 4 instructions a dword.
+#[inline(never)]
 pub fn take_dwords(inner: &[u8], t: &[u8; 256], own: &mut [u32; 256]) -> Tally
     requires { (t.now ≡ table) × (length own.old ≡ 256) }
     ensures { Taken inner.now own.old own.new result }

@@ -1,18 +1,16 @@
 -- Whole lines through the reading, by computation: document 01's `fwd` line, and cases P6, P7 and P8 as a line meets them, in lenient and in strict.
 -- Assumes nothing.
-use Rattle.std.specs.Prelude.{None, Some}
+use Rattle.std.specs.Prelude.{None}
 use Prim.Native.Nat.{ℕ}
 use mathlib.Core.Path.{◌≡◌, refl}
 use mathlib.Core.Bool.{false}
 use mathlib.Core.List.{[], ◌∷◌, ◌++◌}
 use Rattle.text.specs.Class.{between, is_blank, is_digit, is_letter, is_word, in_class}
 use Rattle.text.specs.Number.{digit_of, value, all_digits, number_of, bad_first, value_within, reading_of, digits_from, hex_of}
-use Rattle.std.specs.Result.{result_ok}
 use Rattle.text.specs.Place.{first_of, first_in, found_below, first_place, last_place, byte_before, last_byte}
 use Rattle.text.specs.Quote.{bytes}
 use Rattle.text.specs.Told as T
 use Rattle.text.specs.Run.{run_end, behind, run_start, stripped}
-use Rattle.text.specs.Same.{same_text}
 use Rattle.entry.specs.declared.Entry.{Entry}
 use Rattle.entry.specs.Kind.{by_direction, other_kind, kind_of}
 use Rattle.header.specs.Dash.{dash_at, first_run, task_of, digits_behind, pid_of}

@@ -5,7 +5,6 @@ use Rattle.refusal.specs.Told.{told}
 use Rattle.refusal.proofs.Told.{one_told, one_number}
 use Rattle.std.specs.Prelude.{Err, None, Ok, Option, Result, Some}
 use Rattle.refusal.specs.declared.Refusal.{Refusal}
-use Rattle.refusal.specs.declared.Refusal.TheVariants as Refusal
 use Prim.Native.Nat.{ℕ, ◌≤◌, ◌<◌}
 use mathlib.Core.Path.{◌≡◌, refl, sym, ap, ◌∙◌}
 use mathlib.Core.Bool.{Bool, true, false}
@@ -20,7 +19,7 @@ use Rattle.text.proofs.Places.{clash, by_order}
 use Rattle.entry.specs.declared.Entry.{Entry}
 use Rattle.entry.specs.Entry.{EntryValue}
 use Rattle.pairs.specs.declared.pair.Span.{Span}
-use Rattle.pairs.specs.Pair.{last_pair, span}
+use Rattle.pairs.specs.Pair.{last_pair}
 use Rattle.pairs.specs.Data.{Cut, BadAmong, inside_of, data_in, data_of, bad_in, bad_data}
 use Rattle.pairs.specs.Data as Data
 use Rattle.scan.specs.declared.Pieces.{Pieces}

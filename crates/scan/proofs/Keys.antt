@@ -7,7 +7,7 @@ use native.Mathlib.Omega.{arith}
 use Rattle.text.proofs.Numbers.{number_is, number_all}
 use Rattle.text.proofs.Hexes.{hex_is, hex_all}
 use Rattle.pairs.specs.declared.pair.Span.{Span}
-use Rattle.pairs.specs.Pair.{part, last_pair, decimal_in, decimal_of, hex_at, span}
+use Rattle.pairs.specs.Pair.{part, last_pair, decimal_in, decimal_of, hex_at}
 use Rattle.pairs.proofs.LastPairs.{last_pair_is, last_pair_all, decimal_some, hex_some, hex_none}
 use Rattle.scan.specs.Body.{text_at}
 use Rattle.scan.specs.Line.{KeyText, KeyDecimal, KeyHex}

@@ -10,7 +10,7 @@ use Rattle.text.specs.Quote.{bytes}
 use Rattle.text.specs.Told as T
 use Rattle.entry.specs.Entry.{EntryValue}
 use Rattle.pairs.specs.declared.pair.Span.{Span}
-use Rattle.pairs.specs.Pair.{last_pair, span}
+use Rattle.pairs.specs.Pair.{last_pair}
 use Rattle.pairs.specs.Table.{Row, keys}
 use Rattle.scan.specs.declared.Pieces.{Pieces}
 use Rattle.scan.specs.declared.Pieces.TheVariants.{Strict, Lenient}

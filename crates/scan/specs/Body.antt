@@ -4,7 +4,7 @@ use Rattle.text.specs.Told.{Told, is, refused}
 use Rattle.text.specs.Quote.{bytes}
 use Rattle.entry.specs.Kind.{kind_of}
 use Rattle.pairs.specs.declared.pair.Span.{Span}
-use Rattle.pairs.specs.Pair.{part, last_pair, decimal_of, hex_at, span}
+use Rattle.pairs.specs.Pair.{part, last_pair, decimal_of, hex_at}
 use Rattle.scan.specs.declared.body.Optionals.{Optionals}
 use Rattle.scan.specs.declared.body.Body.{Body}
 use Rattle.scan.specs.Need.{need}

@@ -1,6 +1,5 @@
 -- Strict and lenient side by side, over the contract of `parse`: where no piece is bad they are the same, and where one is, 18 is all that strict adds.
 use Rattle.refusal.specs.declared.Refusal.{Refusal}
-use Rattle.refusal.specs.declared.Refusal.TheVariants as Refusal
 use Rattle.refusal.specs.Number.{number_of}
 use Rattle.std.specs.Prelude.{ℕ, ◌≤◌, ◌≡◌, List, ◌↔◌, length, Err, Ok, Result}
 use Rattle.entry.specs.declared.Entry.{Entry}

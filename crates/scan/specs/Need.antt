@@ -1,5 +1,5 @@
 -- Going on with what is there, and one number where it is not.
-use Rattle.std.specs.Prelude.{ℕ, None, Option, Some}
+use Rattle.std.specs.Prelude.{None, Option, Some}
 
 -- with a value go on, else the answer is as given
 abbrev pub need : {A B : Type 0} → B → Option A → (A → B) → B

@@ -16,7 +16,7 @@ const HIGH: u8 = 128;
 // So many bytes at a time are looked at for a high one.
 const STRIDE: usize = 32;
 
-// The last colon, which parts header from payload. Handed on as `&line[..]` for speed alone (C55).
+// The last colon, which parts header from payload.
 pub fn read_frame(line: &[u8]) -> Result<usize, Refusal>
     ensures { told result ≡ frame_of line.now }
 {
@@ -29,7 +29,7 @@ pub fn read_frame(line: &[u8]) -> Result<usize, Refusal>
     if !none_high(line) {
         return Err(Refusal::NotAscii);
     }
-    last(&line[..], b':').ok_or(Refusal::NoColon)
+    last(line, b':').ok_or(Refusal::NoColon)
 }
 
 // Empty, a newline alone, or a comment.

@@ -29,11 +29,11 @@ pub enum Pieces {
 }
 
 // The entry of a line, its dwords in the first slots; or the first number that applies, with no slot touched. The entry's task and
-// function are places in this line. The line is handed on as `&line[..]` for speed alone (C55).
+// function are places in this line.
 pub fn parse(line: &[u8], pieces: Pieces, slots: &mut [u32]) -> Result<Entry, Refusal>
     ensures { Parsed pieces line.now slots.old slots.new result }
 {
-    let colon = read_frame(&line[..])?;
+    let colon = read_frame(line)?;
     parse_parted(line, colon, pieces, slots)
 }
 

@@ -11,7 +11,7 @@ use Rattle.text.proofs.Numbers.{number_is}
 use Rattle.pairs.specs.declared.keys.Form.{Form}
 use Rattle.pairs.specs.declared.keys.Form.TheVariants.{Text, Decimal, Hex, Dwords}
 use Rattle.pairs.specs.declared.pair.Span.{Span}
-use Rattle.pairs.specs.Pair.{part, last_pair, decimal_in, decimal_of, hex_in, hex_at, span}
+use Rattle.pairs.specs.Pair.{part, last_pair, decimal_in, decimal_of, hex_in, hex_at}
 use Rattle.pairs.specs.Table.{Row}
 use Rattle.pairs.proofs.Slots.{hex_fits}
 use Rattle.walk.specs.declared.value.Kept.{Kept}

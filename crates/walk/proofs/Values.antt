@@ -31,7 +31,6 @@ use Rattle.pairs.specs.Pair.{part, value_end}
 use Rattle.pairs.proofs.Tries.{value_word}
 use Rattle.walk.specs.declared.value.Digits.{Digits}
 use Rattle.walk.specs.declared.value.Kept.{Kept}
-use Rattle.walk.specs.declared.value.Value.{Value}
 use Rattle.walk.specs.Kept.{kept_number, kept_in, value_of, base_of, limit_of, digits_start, DigitsRead}
 
 -- ---- where the digits start

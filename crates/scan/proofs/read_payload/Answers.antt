@@ -5,8 +5,7 @@ use Rattle.scan.proofs.Said.{data_there}
 use Rattle.scan.proofs.Stages.{payload_refused, data_refused, payload_read}
 use Rattle.scan.specs.Body.{body_of}
 use Rattle.text.proofs.Stripping.{rest_is}
-use mathlib.Core.Path.{refl, sym, ap, ◌∙◌}
-use native.Mathlib.Omega.{arith}
+use mathlib.Core.Path.{sym, ap, ◌∙◌}
 use Rattle.scan.proofs.read_payload.Goals as goal
 
 pub read_data-requires : goal.read_data-requires

@@ -1,6 +1,5 @@
 -- `value::short_number` meets its contract: digits that no word byte follows are the value, and no other answer says anything. Assumes nothing.
 use Rattle.walk.proofs.Values.{start_within, short_is}
-use mathlib.Core.Path.{sym, ◌∙◌}
 use native.Mathlib.Omega.{arith}
 use Rattle.walk.proofs.value.short_number.Goals as goal
 

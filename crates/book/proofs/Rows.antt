@@ -1,13 +1,14 @@
 -- Fields that fill a text are judged one by one: the answer from a field on is false if the field fails, else the answer from its end on. That
 -- nothing stands twice is judged at each field against the later ones. Assumes nothing.
 use Prim.Native.Nat.{ℕ, ◌+◌, ◌≤◌}
-use mathlib.Core.Path.{◌≡◌, ◌∙◌, sym, ap, refl}
+use mathlib.Core.Path.{◌≡◌, ◌∙◌, sym, ap, ap₂, refl}
 use mathlib.Core.Bool.{Bool, true, false, cond, not, ◌&&◌, and-false}
 use mathlib.Core.List.{List, []}
 use native.Mathlib.Omega.{arith}
 use borrow.Author.Tests.{eq-eqb, ne_eqb, lt-leb}
 use lib.Dec.{eqb}
-use lib.ListN.{length, take}
+use lib.ListN.{length, take, length-take}
+use Rattle.tlv.proofs.Places.{stands_cut}
 use Rattle.tlv.specs.declared.Step.{Step}
 use Rattle.tlv.specs.declared.Step.TheVariants.{Stray, Overrun, End}
 use Rattle.tlv.specs.Reading.{Part, Stands, field_at, refusal_of, parts, filled, has, once}
@@ -16,7 +17,7 @@ use Rattle.tlv.specs.Number.{number}
 use Rattle.book.specs.declared.seek.Want.{Want}
 use Rattle.book.specs.declared.seek.Want.TheVariants as W
 use Rattle.book.specs.Search.{wanted, has_wanted, table_want}
-use Rattle.book.specs.Reading.{field_ok, same_value, same_table, control_body, uuid_body, table_body}
+use Rattle.book.specs.Reading.{field_ok, value_body, table_ok, same_value, same_table, control_body, uuid_body, table_body}
 
 module _ (ok : Part → Bool) (s : List ℕ) where
   -- a field that fails
@@ -79,6 +80,29 @@ module _ (s : List ℕ) (p : Part) {b : Bool} where
       → has (same_table s p) (parts s p.to) ≡ b
   unfolding has_wanted same_table
   table_behind is h = ap (λ (w : Want). has (wanted w [] s) (parts s p.to)) (sym is) ∙ sym h
+
+both_first : (a b c : Bool) → (a && (b && c)) ≡ ((a && b) && c)
+both_first true b c = refl
+both_first false b c = refl
+
+module _ (s : List ℕ) (p : Part) (u : List ℕ) (e : Stands s p) (n : u ≡ take p.to s) where
+  ends : length u ≡ p.to
+  ends = ap length n ∙ sym (stands_cut s p e)
+
+  -- a value's body, and no search that finds it behind
+  pub value_fresh : (eqb p.tag 7 && (value_body u p.from && not (has_wanted (W.Value (number 4 u p.from)) [] s (length u))))
+      ≡ fresh (field_ok 7 value_body s) (same_value s) s p
+  unfolding has_wanted same_value
+  value_fresh =
+      ap₂ (λ (w : List ℕ) (k : ℕ). eqb p.tag 7 && (value_body w p.from && not (has (wanted (W.Value (number 4 w p.from)) [] s) (parts s k)))) n ends
+      ∙ both_first (eqb p.tag 7) (value_body (take p.to s) p.from) _
+
+  -- the same for a table's kind or UUID
+  pub table_fresh : (table_body p.tag u p.from && not (has_wanted (table_want u p.tag p.from) [] s (length u)))
+      ≡ fresh (table_ok s) (same_table s) s p
+  unfolding has_wanted same_table
+  table_fresh =
+      ap₂ (λ (w : List ℕ) (k : ℕ). table_body p.tag w p.from && not (has (wanted (table_want w p.tag p.from) [] s) (parts s k))) n ends
 
 -- a table with no byte in its body
 pub table_empty : (tag : ℕ) (s : List ℕ) (from : ℕ) → length s ≤ from → table_body tag s from ≡ false

@@ -1,6 +1,7 @@
 // The grammar of the book, level by level. Each function is lent the text up to the end of the field that it judges, so that
 // "fills exactly" is "up to the end", and every place is a place in the book.
-ghost use Rattle.std.specs.Prelude.{◌≡◌, ◌&&◌};
+ghost use Rattle.std.specs.Prelude.{◌≡◌, ◌&&◌, Bool, take};
+ghost use Rattle.tlv.specs.Reading.{Part, Stands, filled};
 ghost use Rattle.book.specs.Search.{has_wanted};
 ghost use Rattle.book.specs.Reading.{
   tables_fill,
@@ -19,29 +20,39 @@ use crate::seek::{Want, has, table_want, type_at};
 use crate::seen::{WORDS, is_marked, mark};
 use tlv::Step;
 
-// Tables fill the book, none of them twice.
-pub fn tables(s: &[u8]) -> bool
-    ensures { result ≡ tables_fill s.now 0 }
+// Fields fill the text from a place on, and each is good. A field is lent to the test as the text up to its end, with its tag and the
+// place of its body.
+fn fills<F: Fn(&[u8], u8, usize) -> bool>(s: &[u8], start: usize, good: F) -> bool
+    requires { F.IsAlwaysCallable good }
+    ensures { (ok : Part → Bool)
+        → ((p : Part) (b : _) (t : _) → Stands s.now p → b.now ≡ take p.to s.now → F.post good b p.tag p.from t → t ≡ ok p)
+        → result ≡ filled ok s.now start }
 {
-    let mut at = 0;
+    let mut at = start;
     loop {
-        let step = tlv::field_at(s, at);
-        match step {
+        match tlv::field_at(s, at) {
             Step::Field { tag, from, to } => {
-                let body = &s[..to];
-                if !table(body, tag, from) {
-                    return false;
-                }
-                if has(s, to, table_want(body, tag, from), b"") {
+                if !good(&s[..to], tag, from) {
                     return false;
                 }
                 at = to;
             }
-            Step::Stray => return false,
-            Step::Overrun => return false,
             Step::End => return true,
+            Step::Stray | Step::Overrun => return false,
         }
     }
+}
+
+// Tables fill the book, none of them twice.
+pub fn tables(s: &[u8]) -> bool
+    ensures { result ≡ tables_fill s.now 0 }
+{
+    fills(
+        s,
+        0,
+        |body, tag, from| table(body, tag, from)
+            && !has(s, body.len(), table_want(body, tag, from), b""),
+    )
 }
 
 // Tag 1: a kind byte 1 to 12, then entries. Tag 2: four dwords of a UUID, then entries.
@@ -128,25 +139,7 @@ fn optional_name(s: &[u8], tag: u8, at: usize) -> bool
 fn ranges(s: &[u8], start: usize) -> bool
     ensures { result ≡ ranges_fill s.now start }
 {
-    let mut at = start;
-    loop {
-        let step = tlv::field_at(s, at);
-        match step {
-            Step::Field { tag, from, to } => {
-                if tag != 6 {
-                    return false;
-                }
-                let body = &s[..to];
-                if !range(body, from) {
-                    return false;
-                }
-                at = to;
-            }
-            Step::Stray => return false,
-            Step::Overrun => return false,
-            Step::End => return true,
-        }
-    }
+    fills(s, start, |body, tag, from| tag == 6 && range(body, from))
 }
 
 // Low byte and high byte, low ≤ high ≤ 31, one 4, then 7s.
@@ -168,28 +161,11 @@ fn range(s: &[u8], from: usize) -> bool
 fn values(s: &[u8], start: usize) -> bool
     ensures { result ≡ values_fill s.now start }
 {
-    let mut at = start;
-    loop {
-        let step = tlv::field_at(s, at);
-        match step {
-            Step::Field { tag, from, to } => {
-                if tag != 7 {
-                    return false;
-                }
-                let body = &s[..to];
-                if !value(body, from) {
-                    return false;
-                }
-                if has(s, to, Want::Value(tlv::four_at(body, from)), b"") {
-                    return false;
-                }
-                at = to;
-            }
-            Step::Stray => return false,
-            Step::Overrun => return false,
-            Step::End => return true,
-        }
-    }
+    fills(s, start, |body, tag, from| {
+        tag == 7
+            && value(body, from)
+            && !has(s, body.len(), Want::Value(tlv::four_at(body, from)), b"")
+    })
 }
 
 // Four-byte value, then its name.

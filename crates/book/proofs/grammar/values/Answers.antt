@@ -1,71 +1,22 @@
--- `book::grammar::values` meets its contract: each field passed is good and stands once, so the answer is that for the rest. Assumes nothing.
-use Prim.Native.Nat.{ℕ}
-use Rattle.book.proofs.Rows.{fill_stop, fill_next, fill_stray, fill_overrun, fill_end, fresh, row_fresh, fresh_fails, fresh_twice, fresh_new, field_other, field_body, value_behind}
+-- `book::grammar::values` meets its contract: fields of tag 7 with a value's body fill the text, and none stands behind again. Assumes nothing.
+use Rattle.std.proofs.Common.{rules, ◌≡◌, ◌&&◌, List, [], ℕ}
+use Rattle.book.proofs.Rows.{row_fresh, fresh, value_fresh}
 use Rattle.book.specs.Reading.{field_ok, value_body, same_value, values_fill}
-use Rattle.tlv.proofs.Fields.{field_found}
-use Rattle.tlv.proofs.Places.{stands_cut}
-use Rattle.tlv.specs.Reading.{Part, Stands}
-use borrow.Author.Tests.{not-true, not-false}
-use mathlib.Core.List.{List}
+use Rattle.book.specs.Search.{has_wanted}
+use Rattle.book.specs.declared.seek.Want.TheVariants as W
+use Rattle.tlv.specs.Number.{number}
+use lib.Dec.{eqb}
+use lib.ListN.{length}
+use mathlib.Core.Bool.{not}
 use mathlib.Core.Path.{sym, ◌∙◌}
-use native.Mathlib.Omega.{arith}
 use Rattle.book.proofs.grammar.values.Goals as goal
 
-pub loop-tag-init : goal.loop-tag-init
+pub returns : goal.returns
 unfolding values_fill
-loop-tag-init c = row_fresh (field_ok 7 value_body c.args.s.now) (same_value c.args.s.now) c.args.s.now c.args.start
-
-pub returns-then-tag-ne7 : goal.returns-then-tag-ne7
-returns-then-tag-ne7 c =
+returns c =
     let s : List ℕ = c.args.s.now in
-    let p : Part = record { at = c.loop-tag.at; tag = c.in-Field.tag; from = c.in-Field.from; to = c.in-Field.to } in
-    let e : Stands s p = sym c.field_at-step.ensures ∙ c.in-Field.is in
-    sym (c.loop-tag.invariant ∙ fill_stop (fresh (field_ok 7 value_body s) (same_value s) s) s p e (fresh_fails (field_ok 7 value_body s) (same_value s) s p (field_other 7 value_body s p c.if-tag-ne7.true)))
-
-pub slice_bounds-body-end : goal.slice_bounds-body-end
-slice_bounds-body-end c =
-    let s : List ℕ = c.args.s.now in
-    let p : Part = record { at = c.loop-tag.at; tag = c.in-Field.tag; from = c.in-Field.from; to = c.in-Field.to } in
-    let e : Stands s p = sym c.field_at-step.ensures ∙ c.in-Field.is in
-    stands_cut s p e
-
-pub returns-then-not-value : goal.returns-then-not-value
-returns-then-not-value c =
-    let s : List ℕ = c.args.s.now in
-    let p : Part = record { at = c.loop-tag.at; tag = c.in-Field.tag; from = c.in-Field.from; to = c.in-Field.to } in
-    let e : Stands s p = sym c.field_at-step.ensures ∙ c.in-Field.is in
-    sym (c.loop-tag.invariant ∙ fill_stop (fresh (field_ok 7 value_body s) (same_value s) s) s p e (fresh_fails (field_ok 7 value_body s) (same_value s) s p (field_body 7 value_body s p c.if-tag-ne7.false (sym c.value.ensures ∙ not-true _ c.if-not-value.true-raw))))
-
-pub returns-then-has : goal.returns-then-has
-returns-then-has c =
-    let s : List ℕ = c.args.s.now in
-    let p : Part = record { at = c.loop-tag.at; tag = c.in-Field.tag; from = c.in-Field.from; to = c.in-Field.to } in
-    let e : Stands s p = sym c.field_at-step.ensures ∙ c.in-Field.is in
-    sym (c.loop-tag.invariant ∙ fill_stop (fresh (field_ok 7 value_body s) (same_value s) s) s p e (fresh_twice (field_ok 7 value_body s) (same_value s) s p (value_behind s p c.four_at.ensures.is c.has.ensures ∙ c.if-has.true)))
-
-pub loop-tag-smaller : goal.loop-tag-smaller
-loop-tag-smaller c =
-    let s : List ℕ = c.args.s.now in
-    let p : Part = record { at = c.loop-tag.at; tag = c.in-Field.tag; from = c.in-Field.from; to = c.in-Field.to } in
-    let e : Stands s p = sym c.field_at-step.ensures ∙ c.in-Field.is in
-    let f = field_found s p.at e in
-    omega arith
-
-pub loop-tag-preserved : goal.loop-tag-preserved
-loop-tag-preserved c =
-    let s : List ℕ = c.args.s.now in
-    let p : Part = record { at = c.loop-tag.at; tag = c.in-Field.tag; from = c.in-Field.from; to = c.in-Field.to } in
-    let e : Stands s p = sym c.field_at-step.ensures ∙ c.in-Field.is in
-    c.loop-tag.invariant ∙ fill_next (fresh (field_ok 7 value_body s) (same_value s) s) s p e (fresh_new (field_ok 7 value_body s) (same_value s) s p (field_body 7 value_body s p c.if-tag-ne7.false (sym c.value.ensures ∙ not-false _ c.if-not-value.false-raw)) (value_behind s p c.four_at.ensures.is c.has.ensures ∙ c.if-has.false))
-
-pub returns-in-Stray : goal.returns-in-Stray
-returns-in-Stray c =
-    sym (c.loop-tag.invariant ∙ fill_stray (fresh (field_ok 7 value_body c.args.s.now) (same_value c.args.s.now) c.args.s.now) c.args.s.now c.loop-tag.at c.field_at-step.ensures c.in-Stray.is)
-
-pub returns-in-Overrun : goal.returns-in-Overrun
-returns-in-Overrun c =
-    sym (c.loop-tag.invariant ∙ fill_overrun (fresh (field_ok 7 value_body c.args.s.now) (same_value c.args.s.now) c.args.s.now) c.args.s.now c.loop-tag.at c.field_at-step.ensures c.in-Overrun.is)
-
-pub returns-in-End : goal.returns-in-End
-returns-in-End c =
-    sym (c.loop-tag.invariant ∙ fill_end (fresh (field_ok 7 value_body c.args.s.now) (same_value c.args.s.now) c.args.s.now) c.args.s.now c.loop-tag.at c.field_at-step.ensures c.in-End.is)
+    c.fills.ensures (fresh (field_ok 7 value_body s) (same_value s) s)
+    (λ p b t e n h.
+    let says : t ≡ (eqb p.tag 7 && (value_body b.now p.from && not (has_wanted (W.Value (number 4 b.now p.from)) [] s (length b.now)))) = search rules in
+    says ∙ value_fresh s p b.now e n)
+    ∙ sym (row_fresh (field_ok 7 value_body s) (same_value s) s c.args.start)

@@ -173,23 +173,18 @@ fn seek(book: &[u8], place: usize, want: Want, key: &[u8]) -> Option<usize>
 
 // Where the fields inside a body start: behind kind, UUID, name and type, or name, by the tag. Asked for: a start within the text, which a body
 // that `field_at` gave has.
+#[tactic(auto, unfolding(crate::specs::Finders::inner_from))]
 pub fn inner(s: &[u8], tag: u8, from: usize) -> usize
     requires { from ≤ length s.now }
     ensures { result ≡ inner_from tag s.now from }
 {
-    if tag == 1 {
-        return from + 1;
+    match tag {
+        1 => from + 1,
+        2 => from + 16,
+        3 => after(s, 5, after(s, 4, from + 2)),
+        6 => after(s, 4, from + 2),
+        _ => s.len(),
     }
-    if tag == 2 {
-        return from + 16;
-    }
-    if tag == 3 {
-        return after(s, 5, after(s, 4, from + 2));
-    }
-    if tag == 6 {
-        return after(s, 4, from + 2);
-    }
-    s.len()
 }
 
 // How many whole fields stand from the place on.

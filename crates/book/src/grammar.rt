@@ -75,11 +75,11 @@ fn table(s: &[u8], tag: u8, from: usize) -> bool
 fn entries(s: &[u8], start: usize) -> bool
     ensures { result ≡ entries_fill s.now start }
 {
+    // Kept a loop of its own: it marks each offset behind the test, and the test needs the mark from before.
     let mut seen = [0u64; WORDS];
     let mut at = start;
     loop {
-        let step = tlv::field_at(s, at);
-        match step {
+        match tlv::field_at(s, at) {
             Step::Field { tag, from, to } => {
                 if tag != 3 {
                     return false;

@@ -18,6 +18,7 @@ use crate::field::{after, body_at};
 use tlv::Step;
 
 // What a search is for. A key goes with it where a text must be the same, and an empty key is "no type".
+// Kept an enum and no closure: what may stand once only is read from a field (`table_want`), and the theorems speak of what is sought.
 #[derive(Clone, Copy)]
 pub enum Want {
     // The control table of a kind.

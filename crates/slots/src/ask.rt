@@ -1,10 +1,11 @@
 // What an entry asks of the table, in document 02's order of "else".
 ghost use Rattle.std.specs.Prelude.{◌≡◌};
-ghost use Rattle.slots.specs.Ask.{ask_of, four_of};
+ghost use Rattle.slots.specs.Ask.{ask_of};
 ghost use Rattle.slots.specs.Look.{is_asked};
 
 use crate::{Four, Slot};
 use entry::Entry;
+use entry::kind::Kind;
 
 // The last one is no entry's: a caller asks for the slot that has this rank.
 #[derive(Clone, Copy, Debug, PartialEq, Eq, Hash)]
@@ -18,22 +19,31 @@ pub enum Ask {
 }
 
 impl Ask {
-    // Of the kinds 1 to 4 the odd ones are requests.
-    #[tactic(auto, unfolding(crate::specs::Ask::ask_of, crate::specs::Ask::by_kind))]
+    #[tactic(auto, unfolding(crate::specs::Ask::ask_of, crate::specs::Ask::by_kind, crate::specs::Ask::four_of, crate::specs::Ask::direction_of))]
     pub fn of(e: Entry) -> Ask
         ensures { result ≡ ask_of e }
     {
         if e.dropped {
             return Ask::Dropped;
         }
-        if e.kind == 0 || 4 < e.kind {
-            return Ask::Other;
-        }
+        let (requests, write) = match Kind::try_from(e.kind) {
+            Ok(Kind::ReadRequest) => (true, 0),
+            Ok(Kind::ReadResponse) => (false, 0),
+            Ok(Kind::WriteRequest) => (true, 1),
+            Ok(Kind::WriteResponse) => (false, 1),
+            _ => return Ask::Other,
+        };
         let Some(seq) = e.seq else {
             return Ask::NoSeq;
         };
-        let four = Four::of(e, seq);
-        if e.kind % 2 == 1 {
+        // Responses carry the route's top bit and requests do not.
+        let four = Four {
+            route: e.route % 0x8000_0000_0000_0000,
+            domain: e.domain,
+            seq,
+            write,
+        };
+        if requests {
             Ask::Request(four)
         } else {
             Ask::Response(four)
@@ -42,28 +52,13 @@ impl Ask {
 
     // Does a slot that waits have what is asked for?
     #[tactic(auto, unfolding(crate::specs::Look::is_asked, crate::specs::Look::same_four))]
-    pub fn is_met(self, slot: Slot) -> bool
+    pub(crate) fn is_met(self, slot: Slot) -> bool
         ensures { result ≡ is_asked self slot }
     {
         match self {
             Ask::Response(four) => slot.four == four,
             Ask::Rank(rank) => slot.rank == rank,
             Ask::Dropped | Ask::Other | Ask::NoSeq | Ask::Request(_) => false,
-        }
-    }
-}
-
-impl Four {
-    // Responses carry the route's top bit and requests do not. Of the kinds 1 to 4 the last two write.
-    #[tactic(auto, unfolding(crate::specs::Ask::four_of, crate::specs::Ask::direction_of))]
-    fn of(e: Entry, seq: u8) -> Four
-        ensures { result ≡ four_of e seq }
-    {
-        Four {
-            route: e.route % 0x8000_0000_0000_0000,
-            domain: e.domain,
-            seq,
-            write: u8::from(2 < e.kind),
         }
     }
 }

@@ -47,13 +47,10 @@ module _ (s : List ℕ) where
   name_some zero n = absurd (n refl)
   name_some (suc p) n = refl
 
-pub no_byte : (name : List ℕ) → length name ≡ 0 → some_byte name ≡ false
-no_byte [] e = refl
-no_byte (b ∷ name) e = absurd (omega arith)
-
-pub some_byte_lem : (name : List ℕ) → (length name ≡ 0 → ⊥) → some_byte name ≡ true
-some_byte_lem [] n = absurd (n refl)
-some_byte_lem (b ∷ name) n = refl
+-- a name has a byte, or no length
+pub byte_there : (name : List ℕ) → some_byte name ≡ not (eqb (length name) 0)
+byte_there [] = refl
+byte_there (b ∷ name) = sym (ap not (ne_eqb (length (b ∷ name)) 0 (λ z. omega (arith, z))))
 
 -- ---- what a finder answers
 

@@ -7,6 +7,7 @@ ghost use Rattle.packet.specs.Field.{or_else, name_in, range_in, value_in, named
 use book::find;
 
 // What an entry is asked for: its own name, or a bit range of that name.
+// Kept an enum and no closure: the questions' contracts and theorems say by it which is asked (`field_by`).
 #[derive(Clone, Copy)]
 pub enum Ask {
     Named,
@@ -20,7 +21,7 @@ pub fn or_else(p: u32, q: u32) -> u32
     if p == 0 { q } else { p }
 }
 
-// A place as it is lent, wide enough for an index.
+// A place as it is lent, wide enough for an index. In the list of places that is lent, which C shares, 0 is none.
 pub fn wide(place: u32) -> usize
     ensures { result ≡ place }
 {
@@ -77,8 +78,5 @@ pub fn is_asked(book: &[u8], ask: Ask, name: &[u8], entry: usize) -> bool
 fn is_named(book: &[u8], name: &[u8], entry: usize) -> bool
     ensures { result ≡ asks Ask.Named book.now name.now entry }
 {
-    if name.len() == 0 {
-        return false;
-    }
-    name_in(book, entry) == name
+    !name.is_empty() && name_in(book, entry) == name
 }

@@ -8,6 +8,7 @@ use book::find;
 use tlv::Step;
 
 // Which entries of a table count: any, or those of one type, where the empty type is no type.
+// Kept an enum and no closure: `entry_of`, which the steps' definitions and theorems speak of, says by it in one word which is meant.
 #[derive(Clone, Copy)]
 pub enum Pick {
     Any,
@@ -19,8 +20,7 @@ pub fn fill(book: &[u8], table: usize, pick: Pick, name: &[u8], places: &mut [u3
     requires { length book.now ≤ 65535 }
     ensures { places.new ≡ filled (entry_of pick name.now book.now table) places.old }
 {
-    let step = tlv::field_at(book, table);
-    let Step::Field { tag, from, to } = step else {
+    let Step::Field { tag, from, to } = tlv::field_at(book, table) else {
         return;
     };
     let body = &book[..to];
@@ -33,17 +33,14 @@ fn fill_from(s: &[u8], start: usize, pick: Pick, name: &[u8], places: &mut [u32]
     ensures { places.new ≡ filled (entry_from pick name.now s.now start) places.old }
 {
     let mut at = start;
-    loop {
-        let step = tlv::field_at(s, at);
-        let Step::Field { tag, from, to } = step else {
-            return;
-        };
+    while let Step::Field { tag, from, to } = tlv::field_at(s, at) {
         put_entry(&s[..to], tag, at, from, pick, name, places);
         at = to;
     }
 }
 
 // The field that a text ends with: if it is an entry that counts, and the dword of its offset has none, that dword takes it.
+#[tactic(auto, unfolding(crate::specs::Inner::with_entry, crate::specs::Inner::bare))]
 fn put_entry(s: &[u8], tag: u8, at: usize, from: usize, pick: Pick, name: &[u8], places: &mut [u32])
     requires { at ≤ 65535 }
     ensures { places.new ≡ with_entry pick name.now s.now tag at from places.old }
@@ -52,16 +49,9 @@ fn put_entry(s: &[u8], tag: u8, at: usize, from: usize, pick: Pick, name: &[u8],
         return;
     }
     let offset = tlv::two_at(s, from) as usize;
-    if places.len() <= offset {
-        return;
+    if offset < places.len() && places[offset] == 0 && is_picked(s, at, pick, name) {
+        places[offset] = at as u32;
     }
-    if places[offset] != 0 {
-        return;
-    }
-    if !is_picked(s, at, pick, name) {
-        return;
-    }
-    places[offset] = at as u32;
 }
 
 fn is_picked(s: &[u8], at: usize, pick: Pick, name: &[u8]) -> bool

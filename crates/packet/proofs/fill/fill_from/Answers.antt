@@ -14,36 +14,36 @@ use Rattle.packet.proofs.fill.fill_from.Goals as goal
 pub loop-tag-init : goal.loop-tag-init
 loop-tag-init c = (c.requires.1, refl, refl)
 
-pub shape_of-places-in_default : goal.shape_of-places-in_default
-shape_of-places-in_default c = c.loop-tag.invariant.1
+pub shape_of-places : goal.shape_of-places
+shape_of-places c = c.loop-tag.invariant.1
 
-pub returns-in_default : goal.returns-in_default
-returns-in_default c = sym (c.loop-tag.invariant.2 ∙ fill_end c.args.pick c.args.name.now c.args.s.now c.loop-tag.at (subst Bare c.field_at-step.ensures (bare _ c.in_default.not-Field)) c.loop-tag.places)
+pub returns : goal.returns
+returns c = sym (c.loop-tag.invariant.2 ∙ fill_end c.args.pick c.args.name.now c.args.s.now c.loop-tag.at (subst Bare c.field_at.ensures (bare _ c.in_default.not-Field)) c.loop-tag.places)
 
 pub slice_bounds-put_entry-end : goal.slice_bounds-put_entry-end
 slice_bounds-put_entry-end c =
     let p : Part = record { at = c.loop-tag.at; tag = c.in-Field.tag; from = c.in-Field.from; to = c.in-Field.to } in
-    let e : Stands c.args.s.now p = sym c.field_at-step.ensures ∙ c.in-Field.is in
+    let e : Stands c.args.s.now p = sym c.field_at.ensures ∙ c.in-Field.is in
     stands_cut c.args.s.now p e
 
 pub put_entry-requires : goal.put_entry-requires
 put_entry-requires c =
     let p : Part = record { at = c.loop-tag.at; tag = c.in-Field.tag; from = c.in-Field.from; to = c.in-Field.to } in
-    let e : Stands c.args.s.now p = sym c.field_at-step.ensures ∙ c.in-Field.is in
+    let e : Stands c.args.s.now p = sym c.field_at.ensures ∙ c.in-Field.is in
     let f = field_found c.args.s.now p.at e in
     omega (arith, c.requires.0)
 
 pub loop-tag-smaller : goal.loop-tag-smaller
 loop-tag-smaller c =
     let p : Part = record { at = c.loop-tag.at; tag = c.in-Field.tag; from = c.in-Field.from; to = c.in-Field.to } in
-    let e : Stands c.args.s.now p = sym c.field_at-step.ensures ∙ c.in-Field.is in
+    let e : Stands c.args.s.now p = sym c.field_at.ensures ∙ c.in-Field.is in
     let f = field_found c.args.s.now p.at e in
     omega arith
 
 pub loop-tag-preserved : goal.loop-tag-preserved
 loop-tag-preserved c =
     let p : Part = record { at = c.loop-tag.at; tag = c.in-Field.tag; from = c.in-Field.from; to = c.in-Field.to } in
-    let e : Stands c.args.s.now p = sym c.field_at-step.ensures ∙ c.in-Field.is in
+    let e : Stands c.args.s.now p = sym c.field_at.ensures ∙ c.in-Field.is in
     let f = field_found c.args.s.now p.at e in (
       omega arith,
       ap length c.put_entry.ensures ∙ length_with c.args.pick c.args.name.now _ p.tag p.at p.from c.loop-tag.places ∙ c.loop-tag.invariant.1,

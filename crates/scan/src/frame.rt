@@ -5,7 +5,7 @@ ghost use Rattle.refusal.specs.Told.{told};
 ghost use Rattle.scan.specs.Frame.{idle, first_high, frame_of};
 
 use refusal::Refusal;
-use text::place::{byte_at, last};
+use text::place::last;
 
 // So many bytes a line may have.
 const LONGEST: usize = 4096;
@@ -33,19 +33,11 @@ pub fn read_frame(line: &[u8]) -> Result<usize, Refusal>
 }
 
 // Empty, a newline alone, or a comment.
+#[tactic(auto, unfolding(crate::specs::Frame::idle))]
 fn is_idle(line: &[u8]) -> bool
     ensures { result ≡ idle line.now }
 {
-    if line.len() == 0 {
-        return true;
-    }
-    if byte_at(line, 0) == b'#' {
-        return true;
-    }
-    if line.len() == 1 {
-        return byte_at(line, 0) == b'\n';
-    }
-    false
+    matches!(line, [] | [b'\n'] | [b'#', ..])
 }
 
 // Is every byte below 128? Whole blocks of 32, and the last 32 bytes once more, so that the compiler has no odd bytes to walk behind a block. Right
@@ -69,14 +61,11 @@ fn none_high(s: &[u8]) -> bool
 fn max_byte(s: &[u8]) -> u8
     ensures { Level s.now (length s.now) result }
 {
-    let mut m: u8 = 0;
-    let mut i = 0;
-    while i < s.len() {
-        let b = s[i];
+    let mut m = 0;
+    for &b in s {
         if m < b {
             m = b;
         }
-        i += 1;
     }
     m
 }

@@ -3,7 +3,6 @@
 ghost use Rattle.std.specs.Prelude.{◌≡◌, ◌<◌, length};
 ghost use Rattle.text.specs.Table.{table};
 ghost use Rattle.text.specs.Word.{Word};
-ghost use Rattle.pairs.specs.declared.keys.Form.TheVariants.{Text};
 ghost use Rattle.walk.specs.Start.{candidate_of, other_start, Started};
 
 use pairs::keys::{
@@ -101,10 +100,9 @@ fn start_of(w: u64, s: &[u8], t: &[u8; 256], i: usize) -> Start
 {
     let c = choose((w % BYTE + w / BYTE % BYTE) % CHOICES);
     if w & c.mask == c.want {
-        let form = c.form;
         return Start {
             row: c.row,
-            form: form,
+            form: c.form,
             end: i + c.size - 1,
         };
     }
@@ -138,30 +136,22 @@ fn row_text(want: u64, mask: u64, size: usize, row: usize, form: Form) -> Candid
     ensures { result ≡ record { want = want; mask = mask; size = size; row = row; form = form } }
 {
     Candidate {
-        want: want,
-        mask: mask,
-        size: size,
-        row: row,
-        form: form,
+        want,
+        mask,
+        size,
+        row,
+        form,
     }
 }
 
 // A word run that ends at m and is no key of ours.
+#[tactic(auto, unfolding(crate::specs::Start::other_start, pairs::specs::Table::keys))]
 fn other_start(s: &[u8], m: usize) -> Start
     ensures { result ≡ other_start s.now m }
 {
-    if byte_at(s, m) != b'=' {
-        return bare_start(NO_KEY, m);
-    }
-    bare_start(OTHER, m)
-}
-
-// A word run of a row that reads no number.
-fn bare_start(row: usize, m: usize) -> Start
-    ensures { result ≡ record { row = row; form = Text; end = m } }
-{
+    let row = if byte_at(s, m) == b'=' { OTHER } else { NO_KEY };
     Start {
-        row: row,
+        row,
         form: Form::Text,
         end: m,
     }

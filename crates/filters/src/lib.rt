@@ -28,6 +28,7 @@ use stream::read_unit;
 use units::{Framing, State, Unit, feed_on, units_in};
 
 // The listing reads lines leniently, always. What is packed, and what is listed of lines and records, is read by a choice.
+// It is no set of closures: five functions go by it, and five closures in its place would travel together.
 #[derive(Clone, Copy)]
 pub enum Filter {
     Listing,

@@ -57,30 +57,42 @@ pub fn place_of(text: &[u8], tag: u8) -> Place
     }
 }
 
+// An optional field of one byte. Each of these six is one call at the type that it reads: one over all types would be a trait and its laws.
+#[tactic(auto, using(tlv::proofs::Numbers::number_one), unfolding(crate::specs::Finding::byte_of, crate::specs::Finding::maybe_of))]
+pub fn maybe_byte(text: &[u8], tag: u8) -> Option<u8>
+    ensures { result ≡ byte_of text.now tag }
+{
+    let Span { from, to: _ } = span_of(text, tag)?;
+    Some(byte_at(text, from))
+}
+
+// An optional field of two bytes.
+#[tactic(auto, unfolding(crate::specs::Finding::word_of, crate::specs::Finding::maybe_of))]
+pub fn maybe_word(text: &[u8], tag: u8) -> Option<u16>
+    ensures { result ≡ word_of text.now tag }
+{
+    let Span { from, to: _ } = span_of(text, tag)?;
+    Some(two_at(text, from))
+}
+
 // The number of one byte in the field with the tag, 0 where there is none.
-#[tactic(auto, using(tlv::proofs::Numbers::number_one), unfolding(crate::specs::Finding::number_of, crate::specs::Finding::maybe_of))]
+#[tactic(auto, unfolding(crate::specs::Finding::number_of, crate::specs::Finding::byte_of))]
 pub fn one_of(text: &[u8], tag: u8) -> u8
     ensures { result ≡ number_of 1 text.now tag }
 {
-    match span_of(text, tag) {
-        Some(Span { from, to: _ }) => byte_at(text, from),
-        None => 0,
-    }
+    maybe_byte(text, tag).unwrap_or(0)
 }
 
 // The same of two bytes.
-#[tactic(auto, using(tlv::proofs::Numbers::number_one), unfolding(crate::specs::Finding::number_of, crate::specs::Finding::maybe_of))]
+#[tactic(auto, unfolding(crate::specs::Finding::number_of, crate::specs::Finding::word_of))]
 pub fn two_of(text: &[u8], tag: u8) -> u16
     ensures { result ≡ number_of 2 text.now tag }
 {
-    match span_of(text, tag) {
-        Some(Span { from, to: _ }) => two_at(text, from),
-        None => 0,
-    }
+    maybe_word(text, tag).unwrap_or(0)
 }
 
 // The same of four bytes.
-#[tactic(auto, using(tlv::proofs::Numbers::number_one), unfolding(crate::specs::Finding::number_of, crate::specs::Finding::maybe_of))]
+#[tactic(auto, unfolding(crate::specs::Finding::number_of, crate::specs::Finding::maybe_of))]
 pub fn four_of(text: &[u8], tag: u8) -> u32
     ensures { result ≡ number_of 4 text.now tag }
 {
@@ -91,34 +103,12 @@ pub fn four_of(text: &[u8], tag: u8) -> u32
 }
 
 // The same of eight bytes.
-#[tactic(auto, using(tlv::proofs::Numbers::number_one), unfolding(crate::specs::Finding::number_of, crate::specs::Finding::maybe_of))]
+#[tactic(auto, unfolding(crate::specs::Finding::number_of, crate::specs::Finding::maybe_of))]
 pub fn eight_of(text: &[u8], tag: u8) -> u64
     ensures { result ≡ number_of 8 text.now tag }
 {
     match span_of(text, tag) {
         Some(Span { from, to: _ }) => eight_at(text, from),
         None => 0,
-    }
-}
-
-// An optional field of one byte.
-#[tactic(auto, using(tlv::proofs::Numbers::number_one), unfolding(crate::specs::Finding::byte_of, crate::specs::Finding::maybe_of))]
-pub fn maybe_byte(text: &[u8], tag: u8) -> Option<u8>
-    ensures { result ≡ byte_of text.now tag }
-{
-    match span_of(text, tag) {
-        Some(Span { from, to: _ }) => Some(byte_at(text, from)),
-        None => None,
-    }
-}
-
-// An optional field of two bytes.
-#[tactic(auto, unfolding(crate::specs::Finding::word_of, crate::specs::Finding::maybe_of))]
-pub fn maybe_word(text: &[u8], tag: u8) -> Option<u16>
-    ensures { result ≡ word_of text.now tag }
-{
-    match span_of(text, tag) {
-        Some(Span { from, to: _ }) => Some(two_at(text, from)),
-        None => None,
     }
 }

@@ -17,9 +17,8 @@ pub fn ask_choice<E: Env>(env: &E, before: usize) -> Option<Pieces> {
 pub fn arg_count<E: Env>(env: &E) -> usize {
     let mut word = [0u8; 4096];
     for i in 0..usize::MAX {
-        match env.arg(i, &mut word) {
-            Err(FillError::NotPresent) => return i,
-            _ => {}
+        if let Err(FillError::NotPresent) = env.arg(i, &mut word) {
+            return i;
         }
     }
     usize::MAX
@@ -28,16 +27,11 @@ pub fn arg_count<E: Env>(env: &E) -> usize {
 fn ask_among<E: Env>(env: &E, count: usize, before: usize) -> Option<Pieces>
     ensures { StrictByNone count before result }
 {
-    if count == before {
-        return Some(Pieces::Strict);
+    match count.checked_sub(before) {
+        Some(0) => Some(Pieces::Strict),
+        Some(1) => choice_at(env, before),
+        _ => None,
     }
-    if count < before {
-        return None;
-    }
-    if count - before == 1 {
-        return choice_at(env, before);
-    }
-    None
 }
 
 // An argument that is longer than the buffer is no word of ours.
@@ -45,10 +39,8 @@ fn choice_at<E: Env>(env: &E, place: usize) -> Option<Pieces>
     ensures { NotStrict result }
 {
     let mut word = [0u8; 4096];
-    match env.arg(place, &mut word) {
-        Ok(n) => choice_of(&word[..n]),
-        Err(_) => None,
-    }
+    let n = env.arg(place, &mut word).ok()?;
+    choice_of(&word[..n])
 }
 
 #[tactic(auto, unfolding(crate::specs::Words::asked_by))]

@@ -169,16 +169,6 @@ byte_of : (name s : List ℕ) (i k : ℕ) → take (length name) (drop i s) ≡ 
 byte_of name s i k e h =
     sym (get_or-drop i s k 0) ∙ sym (get_or-take (length name) (drop i s) k 0 h) ∙ ap (λ (l : List ℕ). get_or l k 0) e
 
--- a word run that is no key of ours, by the byte behind it
-module _ (s : List ℕ) (m : ℕ) where
-  pub other_bare : (get_or s m 0 ≡ 61 → ⊥) → other_start s m ≡ record { row = suc (length keys); form = Text; end = m }
-  unfolding other_start
-  other_bare n = rw (ne_eqb (get_or s m 0) 61 n)
-
-  pub other_key : get_or s m 0 ≡ 61 → other_start s m ≡ record { row = length keys; form = Text; end = m }
-  unfolding other_start
-  other_key e = rw (eq-eqb (get_or s m 0) 61 e)
-
 -- what a comparison asks of a candidate
 pub size_some : {c : Candidate} → OfRow c → 0 < c.size
 unfolding candidate_for

@@ -1,5 +1,5 @@
 // Where the program stands between two parts of its input.
-ghost use Rattle.std.specs.Prelude.{◌≤◌, length};
+ghost use Rattle.std.specs.Prelude.{◌≡◌, ◌≤◌, length};
 
 use crate::rows::{say_end, say_line};
 use channel::fault::{Fault, NO_REASON};
@@ -25,6 +25,7 @@ pub struct Matching<'a> {
 impl<'a> Matching<'a> {
     pub fn new(sink: Sink<'a>, unit: &'a mut [u8], pieces: Pieces) -> Matching<'a>
         requires { 65539 ≤ length unit.old }
+        ensures { result.held ≡ 0 }
     {
         Matching {
             sink,

@@ -1,6 +1,7 @@
 // What is asked of a line and said of it. The payload is found once, and its data once: the pieces are walked, so that the work is that of a line's
 // length.
-ghost use Rattle.std.specs.Prelude.{◌≤◌, length};
+ghost use Rattle.std.specs.Prelude.{◌≡◌, ◌≤◌, length};
+ghost use Rattle.why_rows.specs.Tally.{no_counts, with_line};
 ghost use Rattle.why.specs.Finding.{unread, key_found, data_found, pieces_found, found_in, ReadingWithin};
 ghost use Rattle.reasons.specs.Reasons.{data_span};
 ghost use Rattle.pairs.specs.Data.{cut};
@@ -25,10 +26,12 @@ pub struct Asking<'a> {
 }
 
 impl<'a> Asking<'a> {
+    ghost use Rattle.channel.specs.Sink.{Flushed};
     ghost use Rattle.why.specs.Saying.{Gone, LineSaid, TotalsSaid};
 
     pub fn new(sink: Sink<'a>, row: &'a mut [u8]) -> Asking<'a>
         requires { 20736 ≤ length row.old }
+        ensures { result.counts ≡ no_counts }
     {
         Asking {
             sink,
@@ -38,12 +41,16 @@ impl<'a> Asking<'a> {
     }
 
     // A line that nothing is said of.
-    pub fn count_line(&mut self) {
+    pub fn count_line(&mut self)
+        ensures { self.new.counts ≡ with_line self.old.counts }
+    {
         self.counts.count_line();
     }
 
     // Writes what waits.
-    pub fn flush(&mut self) {
+    pub fn flush(&mut self)
+        ensures { Flushed self.old.sink self.new.sink }
+    {
         self.sink.flush();
     }
 

@@ -1,5 +1,5 @@
 // The input, part after part and line after line.
-ghost use Rattle.std.specs.Prelude.{◌≤◌, length};
+ghost use Rattle.std.specs.Prelude.{◌≡◌, ◌≤◌, length};
 
 use crate::asking::Asking;
 use channel::fault::{Fault, NO_REASON};
@@ -28,6 +28,7 @@ pub struct Reading<'a> {
 impl<'a> Reading<'a> {
     pub fn new(asking: Asking<'a>, unit: &'a mut [u8]) -> Reading<'a>
         requires { 65539 ≤ length unit.old }
+        ensures { result.held ≡ 0 }
     {
         Reading {
             asking,

@@ -1,2 +1,2 @@
--- The laws of places in the buffers.
+-- The laws of moving.
 pub mod Places

@@ -1,3 +1,3 @@
 -- What the contracts of `moving` cite.
-pub mod Bounds
+pub mod Programs
 pub mod Steps

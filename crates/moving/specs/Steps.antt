@@ -1,140 +1,116 @@
--- What each step makes of the state, field by field, so that no fault and no count is lost on the way.
-use Rattle.std.specs.Prelude.{ℕ, ◌+◌, ◌-◌, ◌^◌, ◌≤◌, ◌<◌, min, ◌≡◌, Bool, true, false, cond, List, take}
-use Rattle.units.specs.declared.Framing.TheVariants as Framed
-use Rattle.units.specs.Counting.{Ended}
-use Rattle.units.specs.declared.Unit.{Unit}
+-- What each step makes of where a program stands, field by field, so that no fault and no count is lost on the way.
+use Rattle.std.specs.Prelude.{ℕ, ◌+◌, ◌-◌, ◌^◌, ◌≤◌, ◌<◌, min, ◌≡◌, Bool, true, false, cond, List, length, take, Option, Some, None, is_some, Result, Ok, Err}
+use Rattle.units.specs.declared.Unit as UnitModule
 use Rattle.units.specs.declared.Unit.TheVariants as U
-use Rattle.filters.specs.declared.Run.{Run}
-use Rattle.channel.specs.declared.writing.Wrote.{Wrote}
-use Rattle.channel.specs.Moving.{Written}
-use Rattle.channel.specs.Sink.{rows_in}
-use Rattle.moving.specs.declared.Program.{Program}
-use Rattle.moving.specs.declared.Program.TheVariants as P
-use Rattle.moving.specs.declared.state.State.{State}
+use Rattle.channel.specs.declared.fault.Fault.{Fault}
+use Rattle.units.specs.Kept.{is_kept}
+use Rattle.moving.specs.Programs.{framing_by, WholeIn}
+use Rattle.moving.specs.declared.moving.Moving.{Moving}
 
--- before the first read: nothing held, waiting or counted, no fault, and the input is open
-pub record Begun (r : State) : Type 0 where
-  pub from : r.from ≡ 0
-  pub held : r.held ≡ 0
-  pub passed : r.passed ≡ 0
-  pub at : r.at ≡ 0
-  pub told_at : r.told ≡ 0
-  pub units : r.counts.units ≡ 0
-  pub entries : r.counts.entries ≡ 0
+-- before the first read: nothing held, waiting or counted, and no fault
+pub record Begun (r : Moving) : Type 0 where
+  pub from : r.run.from ≡ 0
+  pub held : r.run.state.held ≡ 0
+  pub passed : r.run.state.passed ≡ 0
+  pub nothing_waits : r.run.at ≡ 0
+  pub nothing_told : r.run.told ≡ 0
+  pub units : r.run.counts.units ≡ 0
+  pub entries : r.run.counts.entries ≡ 0
   pub whole : r.whole ≡ 0
-  pub unwritten : r.unwritten ≡ 0
+  pub unwritten : r.unwritten ≡ None
   pub untold : r.untold ≡ false
-  pub unread : r.unread ≡ 0
-  pub more : r.open ≡ true
 
--- no more input; what is said of the reading is this number, and all else is as it was
-pub record Shut (errno : ℕ) (s r : State) : Type 0 where
-  pub from : r.from ≡ s.from
-  pub held : r.held ≡ s.held
-  pub passed : r.passed ≡ s.passed
-  pub at : r.at ≡ s.at
-  pub told_at : r.told ≡ s.told
-  pub counts : r.counts ≡ s.counts
+-- the unit buffer keeps what is open as a stream does
+abbrev pub Keeps : List ℕ → Moving → Type 0
+Keeps unit s = is_kept (framing_by s.program) unit s.run.state.held s.run.state.passed ≡ true
+
+-- the program, the buffers and what is open are as they were
+pub record Still (s r : Moving) : Type 0 where
+  pub program : r.program ≡ s.program
+  pub out : r.out.now ≡ s.out.now
+  pub told : r.told.now ≡ s.told.now
+  pub from : r.run.from ≡ s.run.from
+  pub state : r.run.state ≡ s.run.state
+  pub counts : r.run.counts ≡ s.run.counts
+
+-- so many of n bytes were written: all of them exactly where there is no fault
+pub record Outcome (n bytes : ℕ) (fault : Option Fault) : Type 0 where
+  pub within : bytes ≤ n
+  pub all : fault ≡ None → bytes ≡ n
+  pub cut : is_some fault ≡ true → bytes < n
+
+-- what waited was written, all of it or a front: the fault of that write is kept, and what is whole in the front is counted
+pub record OutWritten (s r : Moving) : Type 0 where
+  pub bytes : ℕ
+  pub written : Outcome s.run.at bytes r.unwritten
+  pub counted : ℕ
+  pub counted_is : WholeIn s.program (take bytes s.out.now) counted
+  pub whole : r.whole ≡ min (s.whole + counted) (2 ^ 64 - 1)
+  pub still : Still s r
+  pub empty : r.run.at ≡ 0
+  pub told_at_is : r.run.told ≡ s.run.told
+  pub untold : r.untold ≡ s.untold
+
+-- what was to be told was written, all of it or a front; a fault is kept in mind for good
+pub record ToldWritten (s r : Moving) : Type 0 where
+  pub bytes : ℕ
+  pub fault : Option Fault
+  pub written : Outcome s.run.told bytes fault
+  pub lost : is_some fault ≡ true → r.untold ≡ true
+  pub sound : fault ≡ None → r.untold ≡ s.untold
+  pub still : Still s r
+  pub at_is : r.run.at ≡ s.run.at
+  pub empty : r.run.told ≡ 0
   pub whole : r.whole ≡ s.whole
   pub unwritten : r.unwritten ≡ s.unwritten
-  pub untold : r.untold ≡ s.untold
-  pub unread : r.unread ≡ errno
-  pub no_more : r.open ≡ false
 
--- nothing more is put out: exactly after a write that failed
-pub record Over (s : State) (r : Bool) : Type 0 where
-  pub fault : 0 < s.unwritten → r ≡ true
-  pub sound : s.unwritten ≡ 0 → r ≡ false
+-- after a fault nothing is written; else what waits is, and what is to be told after it, unless the first met a fault
+pub record Drained (s r : Moving) : Type 0 where
+  pub after_fault : is_some s.unwritten ≡ true → r ≡ s
+  pub cut : s.unwritten ≡ None → is_some r.unwritten ≡ true → OutWritten s r
+  pub sound : s.unwritten ≡ None → r.unwritten ≡ None → (mid : Moving) × ((OutWritten s mid) × (ToldWritten mid r))
 
--- the run's places and counts are the state's
-pub record Runs (s : State) (run : Run) : Type 0 where
-  pub from : s.from ≡ run.from
-  pub held : s.held ≡ run.state.held
-  pub passed : s.passed ≡ run.state.passed
-  pub at : s.at ≡ run.at
-  pub told_at : s.told ≡ run.told
-  pub counts : s.counts ≡ run.counts
+-- room for what one unit and the end may put out
+pub record Ending (s : Moving) : Type 0 where
+  pub out_room : s.run.at + 5400 ≤ length s.out.now
+  pub told_room : s.run.told + 400 ≤ length s.told.now
 
--- what no run holds is as it was
-pub record Kept (s r : State) : Type 0 where
-  pub whole : r.whole ≡ s.whole
-  pub unwritten : r.unwritten ≡ s.unwritten
-  pub untold : r.untold ≡ s.untold
-  pub unread : r.unread ≡ s.unread
-  pub as_open : r.open ≡ s.open
+-- room was made, and the part is where it was
+pub record Roomy (s r : Moving) : Type 0 where
+  pub program : r.program ≡ s.program
+  pub from : r.run.from ≡ s.run.from
+  pub state : r.run.state ≡ s.run.state
+  pub ending : Ending r
 
--- a unit is counted
-pub record Counted (units : ℕ) (s r : State) : Type 0 where
-  pub from : r.from ≡ s.from
-  pub held : r.held ≡ s.held
-  pub passed : r.passed ≡ s.passed
-  pub at : r.at ≡ s.at
-  pub told_at : r.told ≡ s.told
-  pub units_are : r.counts.units ≡ units
-  pub entries : r.counts.entries ≡ 0
-  pub kept : Kept s r
+-- a byte of the part is left, and there is room
+pub record Ready (part : ℕ) (s : Moving) : Type 0 where
+  pub from : s.run.from < part
+  pub ending : Ending s
+
+-- some of the part was taken
+pub record Went (part : ℕ) (s r : Moving) : Type 0 where
+  pub up : s.run.from < r.run.from
+  pub within : r.run.from ≤ part
 
 -- a unit was cut off: in the other cases none has ended
-unfoldable pub is_cut : Unit → Bool
+unfoldable pub is_cut : UnitModule.Unit → Bool
 is_cut (U.Text n) = true
 is_cut U.Long = true
 is_cut U.Cut = true
 is_cut U.Open = false
 is_cut U.Alien = false
 
--- a unit was shown and counted, or there was none: what waits lies in the buffer, of so many bytes, and what is open is as it was
-pub record Shown (cut : Unit) (out : ℕ) (s r : State) : Type 0 where
-  pub counts_are : r.counts.units ≡ cond (is_cut cut) (min (s.counts.units + 1) (2 ^ 64 - 1)) s.counts.units
-  pub from : r.from ≡ s.from
-  pub held : r.held ≡ s.held
-  pub passed : r.passed ≡ s.passed
-  pub at : r.at ≤ out
-  pub told_at : r.told ≡ s.told
+-- a unit was shown and counted, or there was none: what is open is as it was
+pub record Shown (cut : UnitModule.Unit) (s r : Moving) : Type 0 where
+  pub counts_are : r.run.counts.units ≡ cond (is_cut cut) (min (s.run.counts.units + 1) (2 ^ 64 - 1)) s.run.counts.units
+  pub program : r.program ≡ s.program
+  pub from : r.run.from ≡ s.run.from
+  pub state : r.run.state ≡ s.run.state
+  pub told_at_is : r.run.told ≡ s.run.told
 
--- how many records stand whole in what `pack` puts out, and how many rows in what the others do
-abbrev pub WholeIn : Program → List ℕ → ℕ → Type 0
-WholeIn P.Listing s n = Ended Framed.Lines s n
-WholeIn (P.Pack pieces) s n = Ended Framed.Both s n
-WholeIn (P.Unpack pieces) s n = Ended Framed.Lines s n
-WholeIn (P.Show pieces) s n = n ≡ rows_in s
-
--- what waited was written, all of it or a front: the fault of that write is the state's, and what is whole in the front is counted
-pub record OutWritten (program : Program) (out : List ℕ) (s r : State) : Type 0 where
-  pub wrote : Wrote
-  pub written : Written s.at wrote
-  pub unwritten : r.unwritten ≡ wrote.errno
-  pub counted : ℕ
-  pub counted_is : WholeIn program (take wrote.bytes out) counted
-  pub whole : r.whole ≡ min (s.whole + counted) (2 ^ 64 - 1)
-  pub from : r.from ≡ s.from
-  pub held : r.held ≡ s.held
-  pub passed : r.passed ≡ s.passed
-  pub at : r.at ≡ 0
-  pub told_at : r.told ≡ s.told
-  pub counts : r.counts ≡ s.counts
-  pub untold : r.untold ≡ s.untold
-  pub unread : r.unread ≡ s.unread
-  pub as_open : r.open ≡ s.open
-
--- what was to be told was written, all of it or a front; a fault is kept in mind for good
-pub record ToldWritten (s r : State) : Type 0 where
-  pub wrote : Wrote
-  pub written : Written s.told wrote
-  pub lost : 0 < wrote.errno → r.untold ≡ true
-  pub sound : wrote.errno ≡ 0 → r.untold ≡ s.untold
-  pub from : r.from ≡ s.from
-  pub held : r.held ≡ s.held
-  pub passed : r.passed ≡ s.passed
-  pub at : r.at ≡ s.at
-  pub told_at : r.told ≡ 0
-  pub counts : r.counts ≡ s.counts
-  pub whole : r.whole ≡ s.whole
-  pub unwritten : r.unwritten ≡ s.unwritten
-  pub unread : r.unread ≡ s.unread
-  pub as_open : r.open ≡ s.open
-
--- after a fault nothing is written; else what waits is, and what is to be told after it, unless the first met a fault
-pub record Drained (program : Program) (out : List ℕ) (s r : State) : Type 0 where
-  pub after_fault : 0 < s.unwritten → r ≡ s
-  pub cut : s.unwritten ≡ 0 → 0 < r.unwritten → OutWritten program out s r
-  pub sound : s.unwritten ≡ 0 → r.unwritten ≡ 0 → (mid : State) × ((OutWritten program out s mid) × (ToldWritten mid r))
+-- the status at the end: 0 where no write and no read failed
+unfoldable pub end_status : Option Fault → Result (Prim.Unit {0}) Fault → Bool → ℕ
+end_status None (Ok done) false = 0
+end_status None (Ok done) true = 1
+end_status None (Err fault) untold = 1
+end_status (Some fault) read untold = 1

@@ -4,9 +4,9 @@
 // A line with a piece of `data` that is not 32-bit hex is refused, unless the argument is `lenient`: then the piece is left out.
 #![tactic(auto)]
 
-use moving::run_pack;
+use moving::{Program, run_chosen};
 use std::process::ExitCode;
 
 fn main(rt: HostRuntime) -> ExitCode {
-    run_pack(&rt)
+    run_chosen(&rt, Program::Pack)
 }

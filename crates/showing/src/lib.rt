@@ -2,11 +2,12 @@
 // second, `lenient`, leaves pieces of `data` that are not 32-bit hex out. A book that cannot be read or breaks its grammar is told, and nothing is shown.
 #![tactic(auto)]
 
-use book::Checked;
-use channel::fault::last_fault;
-use channel::reading::{Filled, read_whole};
+ghost use Rattle.std.specs.Prelude.{◌≤◌, length, IfOk};
+
+use channel::fault::Fault;
+use channel::reading::read_whole;
 use channel::sentence::{tell, tell_failed};
-use channel::status::{Status, give_status};
+use channel::status::Status;
 use channel::streams::{Streams, streams_of};
 use choice::ask_choice;
 use moving::{Program, give_usage, run_program};
@@ -17,10 +18,19 @@ use std::io::Stderr;
 use std::process::ExitCode;
 
 // EINVAL, for a path that is no text: std opens none by it.
-const NO_TEXT: u32 = 22;
+const NO_TEXT: Fault = Fault { errno: 22 };
 
-// ENAMETOOLONG.
-const TOO_LONG: u32 = 36;
+// ENAMETOOLONG, for an argument that is longer than a path may be: it is none of the file's names.
+const TOO_LONG: Fault = Fault { errno: 36 };
+
+// What kept the program from a book.
+#[derive(Clone, Copy)]
+enum NoBook {
+    Opening(Fault),
+    Reading(Fault),
+    TooLong,
+    BadGrammar,
+}
 
 // The whole program; the status that it ends with.
 pub fn run_show(rt: &HostRuntime) -> ExitCode {
@@ -34,9 +44,8 @@ fn show_named(rt: &HostRuntime, pieces: Pieces) -> ExitCode {
     let mut path = [0u8; 4096];
     match rt.arg(1, &mut path) {
         Ok(n) => show_asked(rt, &path[..n], pieces),
-        // An argument that is longer than a path may be is none of the file's names.
-        Err(FillError::TooLong) => refuse_with(rt.stderr(), b"opening the book", TOO_LONG),
-        Err(FillError::NotPresent) => refuse_with(rt.stderr(), b"opening the book", NO_TEXT),
+        Err(FillError::TooLong) => refuse(rt.stderr(), NoBook::Opening(TOO_LONG)),
+        Err(FillError::NotPresent) => refuse(rt.stderr(), NoBook::Opening(NO_TEXT)),
     }
 }
 
@@ -44,51 +53,39 @@ fn show_asked(rt: &HostRuntime, path: &[u8], pieces: Pieces) -> ExitCode {
     if path == b"--help".as_slice() {
         return give_usage(rt.stderr(), Program::Show(pieces));
     }
-    match str::from_utf8(path) {
-        Ok(name) => show_by(rt, name, pieces),
-        Err(_) => refuse_with(rt.stderr(), b"opening the book", NO_TEXT),
+    let mut buffer = [0u8; 65536];
+    match read_book(rt, path, &mut buffer) {
+        Ok(n) => show_book(streams_of(rt), &buffer[..n], pieces),
+        Err(why) => refuse(rt.stderr(), why),
     }
 }
 
-fn show_by(rt: &HostRuntime, path: &str, pieces: Pieces) -> ExitCode {
-    match File::open(rt, path) {
-        Ok(file) => show_file(streams_of(rt), file, pieces),
-        Err(error) => refuse_with(rt.stderr(), b"opening the book", last_fault(&error)),
-    }
-}
-
-fn show_file(streams: Streams, mut file: File, pieces: Pieces) -> ExitCode {
-    let mut book = [0u8; 65536];
-    let filled = read_whole(&mut file, &mut book);
-    drop(file);
-    show_filled(streams, &book, pieces, filled)
-}
-
-fn show_filled(streams: Streams, book: &[u8], pieces: Pieces, filled: Filled) -> ExitCode {
-    match filled {
-        Filled::Bytes(n) => show_book(streams, book, n, pieces),
-        Filled::Failed(errno) => refuse_with(streams.error, b"reading the book", errno),
-    }
-}
-
-// A book has at most 65,535 bytes, so one that fills the buffer is too long.
-fn show_book(streams: Streams, buffer: &[u8], n: usize, pieces: Pieces) -> ExitCode {
+// How many bytes the book has. A book has at most 65,535, so one that fills the buffer is too long.
+fn read_book(rt: &HostRuntime, path: &[u8], buffer: &mut [u8]) -> Result<usize, NoBook>
+    ensures { IfOk result (λ n. n ≤ length buffer.new) }
+{
+    let name = str::from_utf8(path).map_err(|_| NoBook::Opening(NO_TEXT))?;
+    let mut file = File::open(rt, name).map_err(|error| NoBook::Opening(error.into()))?;
+    let n = read_whole(&mut file, buffer).map_err(NoBook::Reading)?;
     if buffer.len() <= n {
-        return refuse(streams.error, b"show: the book has more than 65535 bytes\n");
+        return Err(NoBook::TooLong);
     }
-    let book = &buffer[..n];
+    Ok(n)
+}
+
+fn show_book(streams: Streams, book: &[u8], pieces: Pieces) -> ExitCode {
     match book::check(book) {
-        Checked::Accepted => run_program(streams, Program::Show(pieces), book),
-        Checked::Refused(_) => refuse(streams.error, b"show: the book breaks its grammar (20)\n"),
+        Ok(()) => run_program(streams, Program::Show(pieces), book),
+        Err(_) => refuse(streams.error, NoBook::BadGrammar),
     }
 }
 
-fn refuse(to: Stderr, sentence: &[u8]) -> ExitCode {
-    tell(to, sentence);
-    give_status(Status::BadCall)
-}
-
-fn refuse_with(to: Stderr, what: &[u8], errno: u32) -> ExitCode {
-    tell_failed(to, b"show", what, errno);
-    give_status(Status::BadCall)
+fn refuse(to: Stderr, why: NoBook) -> ExitCode {
+    match why {
+        NoBook::Opening(fault) => tell_failed(to, b"show", b"opening the book", fault),
+        NoBook::Reading(fault) => tell_failed(to, b"show", b"reading the book", fault),
+        NoBook::TooLong => tell(to, b"show: the book has more than 65535 bytes\n"),
+        NoBook::BadGrammar => tell(to, b"show: the book breaks its grammar (20)\n"),
+    }
+    ExitCode::from(Status::BadCall)
 }

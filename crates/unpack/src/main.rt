@@ -4,9 +4,9 @@
 // is refused, unless the argument is `lenient`: then the piece is left out.
 #![tactic(auto)]
 
-use moving::run_unpack;
+use moving::{Program, run_chosen};
 use std::process::ExitCode;
 
 fn main(rt: HostRuntime) -> ExitCode {
-    run_unpack(&rt)
+    run_chosen(&rt, Program::Unpack)
 }

@@ -1,0 +1,22 @@
+-- `Moving::step` meets its contract: what a filter took, or one step of the stream and what is shown of the unit that it ends. Assumes nothing.
+use Rattle.moving.proofs.Places.{framing_both}
+use mathlib.Core.Path.{sym, ◌∙◌}
+use native.Mathlib.Omega.{arith}
+use Rattle.moving.proofs.moving.Moving.step.Goals as goal
+
+pub next_unit-fed-requires : goal.next_unit-fed-requires
+next_unit-fed-requires c =
+    let e = framing_both c.args.self.now.program (sym c.filter.ensures ∙ c.in-Err.is) in
+    (c.requires.ready.from, rw e at c.requires.kept)
+
+pub show-requires : goal.show-requires
+show-requires c = c.next_unit-fed.ensures.fits
+
+pub returns-in-Err-clause-went : goal.returns-in-Err-clause-went
+returns-in-Err-clause-went c =
+    record { up = omega (arith, c.next_unit-fed.ensures.on, c.show.ensures.from); within = omega (arith, c.next_unit-fed.ensures.on, c.show.ensures.from) }
+
+pub returns-in-Err-clause-kept : goal.returns-in-Err-clause-kept
+returns-in-Err-clause-kept c =
+    let e = framing_both c.args.self.now.program (sym c.filter.ensures ∙ c.in-Err.is) in
+    rw (c.show.ensures.program, c.show.ensures.state, e) c.next_unit-fed.ensures.kept

@@ -1,0 +1,196 @@
+// Where a program stands between two parts of its input, and its steps.
+ghost use Rattle.std.specs.Prelude.{◌≡◌, ◌≤◌, length};
+ghost use Rattle.units.specs.Feeding.{text_length};
+
+use crate::cut::{is_cut, next_unit};
+use crate::program::Program;
+use channel::fault::{Fault, NO_REASON};
+use channel::reading::read_some;
+use channel::sentence::tell_fault;
+use channel::sink::Sink;
+use channel::status::Status;
+use channel::streams::Streams;
+use filters::{Counts, Run, finish, take_some};
+use print::page::Page;
+use scan::Pieces;
+use shown::show_unit;
+use std::process::ExitCode;
+use units::{Framing, State, Unit};
+
+// The run of the program, a filter's; how many rows or records were written whole; the fault of the write to standard output that failed; and
+// whether one to standard error did. What waits lies in its buffer.
+#[derive(Drop)]
+pub struct Moving<'a> {
+    pub to: Streams,
+    pub program: Program,
+    pub book: &'a [u8],
+    pub out: &'a mut [u8],
+    pub told: &'a mut [u8],
+    pub run: Run,
+    pub whole: u64,
+    pub unwritten: Option<Fault>,
+    pub untold: bool,
+    ghost at: { run.at ≤ length out.now },
+    ghost told_at: { run.told ≤ length told.now },
+    ghost out_size: { 5400 ≤ length out.now },
+    ghost told_size: { 400 ≤ length told.now },
+}
+
+impl<'a> Moving<'a> {
+    ghost use Rattle.std.specs.Process.{exit_status};
+    ghost use Rattle.moving.specs.Steps.{Begun, Keeps, Ready, Went, Shown, end_status};
+
+    // Before the first read.
+    pub fn new(
+        to: Streams,
+        program: Program,
+        book: &'a [u8],
+        out: &'a mut [u8],
+        told: &'a mut [u8],
+    ) -> Moving<'a>
+        requires { (5400 ≤ length out.old) × (400 ≤ length told.old) }
+        ensures { Begun result }
+    {
+        let run = Run {
+            from: 0,
+            state: State { held: 0, passed: 0 },
+            at: 0,
+            told: 0,
+            counts: Counts::start(),
+        };
+        Moving {
+            to,
+            program,
+            book,
+            out,
+            told,
+            run,
+            whole: 0,
+            unwritten: None,
+            untold: false,
+        }
+    }
+
+    // Part after part to the end of the input; after a write that failed nothing more is read. No input lasts for all the turns.
+    pub fn read_all(&mut self, input: &mut [u8], unit: &mut [u8]) -> Result<(), Fault>
+        requires { Keeps unit.old self.old }
+    {
+        let mut from = self.to.input;
+        for _ in 0..u64::MAX {
+            let Some(n) = read_some(&mut from, input)? else {
+                self.end(unit);
+                return Ok(());
+            };
+            self.take_part(&input[..n], unit);
+            if self.unwritten.is_some() {
+                return Ok(());
+            }
+        }
+        Err(NO_REASON)
+    }
+
+    // All of it, with room made where too little is left.
+    fn take_part(&mut self, part: &[u8], unit: &mut [u8])
+        requires { Keeps unit.old self.old }
+        ensures { Keeps unit.new self.new }
+    {
+        self.run.from = 0;
+        while self.run.from < part.len() && self.unwritten.is_none() {
+            self.make_room();
+            self.step(part, unit);
+        }
+    }
+
+    // Some of the part: what a filter takes, or up to the end of the next unit.
+    fn step(&mut self, part: &[u8], unit: &mut [u8])
+        requires ready { Ready (length part.now) self.old }
+        requires kept { Keeps unit.old self.old }
+        ensures went { Went (length part.now) self.old self.new }
+        ensures kept { Keeps unit.new self.new }
+    {
+        let run = self.run;
+        match self.program.filter() {
+            Ok(filter) => {
+                self.run = take_some(filter, part, unit, self.out, self.told, run);
+            }
+            Err(pieces) => {
+                let fed = next_unit(run, part, unit);
+                self.run.from = fed.at;
+                self.run.state = fed.state;
+                self.show(fed.unit, unit, pieces);
+            }
+        }
+    }
+
+    // What is open still, and the totals. A last unit that has not ended counts if it has a byte.
+    fn end(&mut self, unit: &[u8])
+        requires { Keeps unit.now self.old }
+    {
+        self.make_room();
+        let run = self.run;
+        match self.program.filter() {
+            Ok(filter) => {
+                self.run = finish(filter, unit, self.out, self.told, run);
+            }
+            Err(pieces) => {
+                let cut = units::finish(Framing::Both, run.state, unit);
+                self.show(cut, unit, pieces);
+            }
+        }
+    }
+
+    // What is shown of a unit that was cut off: nothing where none was. Asked for: that its bytes stand in the unit buffer.
+    fn show(&mut self, cut: Unit, unit: &[u8], pieces: Pieces)
+        requires { text_length cut ≤ length unit.now }
+        ensures { Shown cut self.old self.new }
+    {
+        if !is_cut(cut) {
+            return;
+        }
+        let size = self.out.len();
+        let units = self.run.counts.units.saturating_add(1);
+        let mut sink = Sink {
+            to: self.to.output,
+            page: Page {
+                out: self.out,
+                at: self.run.at,
+            },
+            whole: self.whole,
+            fault: self.unwritten,
+        };
+        show_unit(&mut sink, self.book, cut, unit, pieces, units);
+        self.run.at = sink.page.at.min(size);
+        self.run.counts.units = units;
+        self.whole = sink.whole;
+        self.unwritten = sink.fault;
+    }
+
+    // One sentence for what kept the program from its work, and its status; success where all went well.
+    pub fn tell_end(&self, read: Result<(), Fault>) -> ExitCode
+        ensures { exit_status result ≡ end_status self.now.unwritten read self.now.untold }
+    {
+        if let Some(fault) = self.unwritten {
+            self.tell_fault(b"writing standard output", fault);
+            return ExitCode::from(Status::Fault);
+        }
+        if let Err(fault) = read {
+            self.tell_fault(b"reading standard input", fault);
+            return ExitCode::from(Status::Fault);
+        }
+        if self.untold {
+            return ExitCode::from(Status::Fault);
+        }
+        ExitCode::SUCCESS
+    }
+
+    fn tell_fault(&self, what: &[u8], fault: Fault) {
+        tell_fault(
+            self.to.error,
+            self.program.name(),
+            what,
+            fault,
+            self.program.units(),
+            self.whole,
+        );
+    }
+}

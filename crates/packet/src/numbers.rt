@@ -9,6 +9,7 @@ use crate::Tables;
 use crate::field::Ask;
 use crate::seek::first_asked;
 use book::{Uuid, find};
+use entry::kind::Kind;
 use refusal::Refusal;
 
 // Read responses and write requests: the data view starts behind the control entries.
@@ -16,7 +17,7 @@ use refusal::Refusal;
 pub fn is_read_response_or_write_request(kind: u8) -> bool
     ensures { result ≡ is_read_response_or_write_request kind }
 {
-    kind == 2 || kind == 3
+    kind == Kind::ReadResponse as u8 || kind == Kind::WriteRequest as u8
 }
 
 // Inter-domain requests and responses.
@@ -24,7 +25,7 @@ pub fn is_read_response_or_write_request(kind: u8) -> bool
 pub fn is_xdomain_kind(kind: u8) -> bool
     ensures { result ≡ is_xdomain kind }
 {
-    kind == 8 || kind == 9
+    kind == Kind::XDomainRequest as u8 || kind == Kind::XDomainResponse as u8
 }
 
 // The tables of a packet with so many dwords and places, or the number that refuses it.

@@ -44,6 +44,7 @@ use Rattle.writer.specs.Writing.{bytes_of, write_of}
 use Rattle.writer.specs.Ranges.{writable}
 use Rattle.intake.specs.Intake.{starts_a1, taken_of, taken_dwords}
 use Rattle.intake.specs.Packets.{packet_by, packet_taken}
+use Rattle.intake.specs.declared.What.{What}
 use Rattle.intake.specs.What.{grammar_of, what_of}
 use Rattle.intake.proofs.WhatItIs.{record_number_range}
 use Rattle.filters.specs.Seen as S
@@ -75,7 +76,6 @@ use Rattle.units.specs.Units.{stated}
 use Rattle.units.specs.Kept.{is_long, is_kept}
 use Rattle.stream.specs.declared.Fed.{Fed}
 use Rattle.stream.specs.declared.Finished.{Finished}
-use Rattle.refusal.specs.Told.{told_maybe as streamTold}
 use Rattle.stream.specs.Answers.{answer_of}
 use Rattle.stream.specs.Feeding.{FeedDone, FinishDone}
 use Rattle.stream.proofs.States.{feed_unit, end_unit}
@@ -140,29 +140,42 @@ unit_never pieces t b room = by (starts_a1 t) (is_long t) (ltb (length t) (state
     by false y z = line_never pieces t room
 
 -- a stream's call tells a unit's number, or 53
-alien_never : {a : Result (Option Entry) Refusal} → a ≡ Err Refusal.NoStream → a ≡ Err 10 → ⊥
-alien_never q e = let n : ◌≡◌ {A = ℕ} 53 10 = cc in omega (arith, n)
+refused_by : (a : Result (Option Entry) Refusal) {n : ℕ} → told_maybe a ≡ T.refused n → (k : Refusal) × ((a ≡ Err k) × (number_of k ≡ n))
+refused_by (Ok (Some e)) q = absurd (let z : ◌≡◌ {A = ℕ} 0 1 = cc in omega arith)
+refused_by (Ok None) q = absurd (let z : ◌≡◌ {A = ℕ} 0 1 = cc in omega arith)
+refused_by (Err k) q = (k, (refl, ap number_in q))
 
-fed_never : (pieces : Pieces) (part rest : List ℕ) → Bytes part → Bytes rest → (slots : List ℕ) (st : State) (rest' slots' : List ℕ) (r : Fed) → FeedDone pieces part rest slots st rest' slots' r → r.answer ≡ Err 10 → ⊥
+alien_never : {a : Result (Option Entry) Refusal} → a ≡ Err Refusal.NoStream → Never (told_maybe a)
+alien_never q e = let z : ◌≡◌ {A = ℕ} 53 10 = ap number_in (sym (ap told_maybe q) ∙ e) in omega (arith, z)
+
+fed_never : (pieces : Pieces) (part rest : List ℕ) → Bytes part → Bytes rest → (slots : List ℕ) (st : State) (rest' slots' : List ℕ) (r : Fed)
+    → FeedDone pieces part rest slots st rest' slots' r → Never (told_maybe r.answer)
 fed_never pieces part rest bp br slots st rest' slots' r x e = go (is_kept Both rest st.held st.passed) refl
   where
     go : (b : Bool) → is_kept Both rest st.held st.passed ≡ b → ⊥
     go false q = alien_never (ap (λ (y : Fed). y.answer) (x.alien q).0) e
-    go true q = let u = feed_unit pieces part rest slots st rest' slots' r bp br x q e in unit_never pieces u.0 u.1.0 (length slots) u.1.1
+    go true q =
+        let k = refused_by r.answer e in
+        let u = feed_unit pieces part rest slots st rest' slots' r bp br x q k.1.0 in
+        unit_never pieces u.0 u.1.0 (length slots) (u.1.1 ∙ ap T.refused k.1.1)
 
-ended_never : (pieces : Pieces) (rest : List ℕ) → Bytes rest → (slots : List ℕ) (st : State) (slots' : List ℕ) (r : Finished) → FinishDone pieces rest slots st slots' r → r.answer ≡ Err 10 → ⊥
+ended_never : (pieces : Pieces) (rest : List ℕ) → Bytes rest → (slots : List ℕ) (st : State) (slots' : List ℕ) (r : Finished)
+    → FinishDone pieces rest slots st slots' r → Never (told_maybe r.answer)
 ended_never pieces rest br slots st slots' r x e = go (is_kept Both rest st.held st.passed) refl
   where
     go : (b : Bool) → is_kept Both rest st.held st.passed ≡ b → ⊥
     go false q = alien_never (ap (λ (y : Finished). y.answer) (x.alien q).0) e
-    go true q = let u = end_unit pieces rest slots st slots' r br x q e in unit_never pieces u.0 u.1.0 (length slots) u.1.1
+    go true q =
+        let k = refused_by r.answer e in
+        let u = end_unit pieces rest slots st slots' r br x q k.1.0 in
+        unit_never pieces u.0 u.1.0 (length slots) (u.1.1 ∙ ap T.refused k.1.1)
 
 -- as a plain struct
-stream_number : (at : ℕ) (st : State) (a : Result (Option Entry) Refusal) → (a ≡ Err 10 → ⊥) → {r : StreamAnswer} → r ≡ stream_by at st (streamTold a) → r.number ≡ 10 → ⊥
+stream_number : (at : ℕ) (st : State) (said : Told Entry) → Never said → {r : StreamAnswer} → r ≡ stream_by at st said → r.number ≡ 10 → ⊥
 unfolding stream_by
-stream_number at st (Ok (Some e)) n c h = let z : ◌≡◌ {A = ℕ} 0 10 = sym (ap (λ (y : StreamAnswer). y.number) c) ∙ h in omega (arith, z)
-stream_number at st (Err k) n c h = let z : k ≡ 10 = sym (ap (λ (y : StreamAnswer). y.number) c) ∙ h in n (ap Err z)
-stream_number at st (Ok None) n c h = let z : ◌≡◌ {A = ℕ} 0 10 = sym (ap (λ (y : StreamAnswer). y.number) c) ∙ h in omega (arith, z)
+stream_number at st (T.is e) n c h = let z : ◌≡◌ {A = ℕ} 0 10 = sym (ap (λ (y : StreamAnswer). y.number) c) ∙ h in omega (arith, z)
+stream_number at st T.absent n c h = let z : ◌≡◌ {A = ℕ} 0 10 = sym (ap (λ (y : StreamAnswer). y.number) c) ∙ h in omega (arith, z)
+stream_number at st (T.refused k) n c h = let z : k ≡ 10 = sym (ap (λ (y : StreamAnswer). y.number) c) ∙ h in n (ap T.refused z)
 
 packet_never : (kind : ℕ) (s : List ℕ) → Bytes s → (ds : List ℕ) (room : ℕ) → Never (Packets.parse_of kind s ds room)
 unfolding Packets.parse_of Condition
@@ -256,7 +269,7 @@ packet_number (T.is p) = by p.uuid
 packet_number T.absent = refl
 packet_number (T.refused k) = refl
 
-what_number : (told : Told Grammar) → (what_by told).number ≡ number_in told
+what_number : (told : Told What) → (what_by told).number ≡ number_in told
 unfolding what_by
 what_number told = refl
 
@@ -310,16 +323,16 @@ row_never pieces t d u row (entry {e = e} p c) q =
 calls_never : CallsNever
 calls_never =
     record {
-      parse = λ pieces t slots left r c e. line_never pieces t (length slots) (sym c.answer ∙ ap Line.answer_told e);
-      read_frame = λ t r c e. frame_never t (sym c ∙ ap told e);
-      ask_key = λ t key r c e. key_never t key (sym c ∙ ap told_maybe e);
-      ask_piece = λ t i r c e. piece_never t i (sym c ∙ ap told_maybe e);
-      payload_of = λ t r c e. payload_never t (sym c.is ∙ ap Reasons.payload_told e);
-      record_read = λ t b slots left r c e. record_never t b (length slots) (sym c.answer ∙ ap Records.answer_told e);
+      parse = λ pieces t slots left r c e. line_never pieces t (length slots) (sym c.answer ∙ e);
+      read_frame = λ t r c e. frame_never t (sym c ∙ e);
+      ask_key = λ t key r c e. key_never t key (sym c ∙ e);
+      ask_piece = λ t i r c e. piece_never t i (sym c ∙ e);
+      payload_of = λ t r c e. payload_never t (sym c.is ∙ e);
+      record_read = λ t b slots left r c e. record_never t b (length slots) (sym c.answer ∙ e);
       refusal = λ t b r c e. refusal_never t b (sym c ∙ e);
-      write = λ t f dwords buffer left r c e. write_never t f dwords (length buffer) (sym c.answer ∙ ap told e);
-      read = λ pieces t b slots left r c e. taken_never pieces t b (length slots) (sym c.answer ∙ ap Line.answer_told e);
-      packet = λ pieces t b s d slots slots_left places places_left r c e. text_packet_never pieces t b s d (length slots) (length places) (sym c.answer ∙ ap Packets.answer_told e);
+      write = λ t f dwords buffer left r c e. write_never t f dwords (length buffer) (sym c.answer ∙ e);
+      read = λ pieces t b slots left r c e. taken_never pieces t b (length slots) (sym c.answer ∙ e);
+      packet = λ pieces t b s d slots slots_left places places_left r c e. text_packet_never pieces t b s d (length slots) (length places) (sym c.answer ∙ e);
       what_is = λ pieces t b r c e. what_never pieces t b (sym c ∙ e);
       stream_feed = fed_never;
       stream_finish = ended_never;
@@ -336,8 +349,8 @@ calls_for_c_never =
       ck_read = λ pieces t b slots left r c e. entry_struct_never (taken_of pieces t (length slots)) (taken_never pieces t b (length slots)) c.is e;
       ck_read_packet = λ pieces t b s d slots slots_left places places_left r c e. struct_never C.text_by (λ a. a.packet.number) packet_number (packet_taken pieces t s (length slots) (length places)) (text_packet_never pieces t b s d (length slots) (length places)) c.is e;
       ck_what = λ pieces t b r c e. struct_never what_by (λ a. a.number) what_number (what_of pieces t) (what_never pieces t b) c e;
-      ck_stream_feed = λ pieces part rest bp br slots st rest' slots' r c e. stream_number c.fed.at c.fed.state c.fed.answer (fed_never pieces part rest bp br slots st rest' slots' c.fed c.done) c.is e;
-      ck_stream_finish = λ pieces rest br slots st slots' r c e. stream_number 0 c.finished.state c.finished.answer (ended_never pieces rest br slots st slots' c.finished c.done) c.is e;
+      ck_stream_feed = λ pieces part rest bp br slots st rest' slots' r c e. stream_number c.fed.at c.fed.state (told_maybe c.fed.answer) (fed_never pieces part rest bp br slots st rest' slots' c.fed c.done) c.is e;
+      ck_stream_finish = λ pieces rest br slots st slots' r c e. stream_number 0 c.finished.state (told_maybe c.finished.answer) (ended_never pieces rest br slots st slots' c.finished c.done) c.is e;
     }
 
 rows_never : RowsNever

@@ -1,14 +1,16 @@
 -- Number 10, which document 02 i) takes out: whatever text a call is given, it does not answer 10. It is stated over the contracts of the calls, so it holds of whatever they
 -- answer: of each call of the crates that is given a line, a record or an entry's text and answers a number, of each call for C that is, and of what the programs' rows are made
 -- from. Calls that are given a part of a line, its header or its payload, hand their numbers to `parse`.
--- How to read it: `a ≡ b` is "a equals b"; `P → Q` "if P then Q"; `P → ⊥` "P never holds"; `(x : A) → P` "for every x, P".
+-- How to read it: `told answer ≡ refused 10` is "the answer refuses with number 10"; `a ≡ b` is "a equals b"; `P → Q` "if P then Q"; `P → ⊥` "P never holds"; `(x : A) → P` "for every x, P".
 use Rattle.refusal.specs.declared.Refusal.{Refusal}
 use Rattle.packet.specs.declared.Packet.{Packet}
 use Rattle.reasons.specs.declared.HexText.{HexText}
-use Rattle.std.specs.Prelude.{ℕ, ◌≡◌, List, length, Err, None, Ok, Option, Result, Some}
+use Rattle.reasons.specs.declared.payload.Place.{Place}
+use Rattle.std.specs.Prelude.{ℕ, ◌≡◌, List, length, Option, Result}
 use Rattle.tlv.specs.Number.{Bytes}
 use Rattle.entry.specs.declared.Entry.{Entry}
 use Rattle.scan.specs.declared.Pieces.{Pieces}
+use Rattle.text.specs.Told.{refused}
 use Rattle.refusal.specs.Told.{told, told_maybe}
 use Rattle.scan.specs.Frame.{frame_of}
 use Rattle.scan.specs.Parse as Parse
@@ -48,34 +50,34 @@ use Rattle.capi.specs.Streams.{StreamFed, StreamEnded}
 -- The calls of the crates.
 pub record CallsNever : Type 0 where
   -- `parse` of `scan`, strict and lenient.
-  pub parse : (pieces : Pieces) (text slots left : List ℕ) (answer : Result Entry Refusal) → Parse.Parsed pieces text slots left answer → answer ≡ Err 10 → ⊥
+  pub parse : (pieces : Pieces) (text slots left : List ℕ) (answer : Result Entry Refusal) → Parse.Parsed pieces text slots left answer → told answer ≡ refused 10 → ⊥
   -- `read_frame` of `scan`, which parts a line.
-  pub read_frame : (text : List ℕ) (answer : Result ℕ Refusal) → told answer ≡ frame_of text → answer ≡ Err 10 → ⊥
+  pub read_frame : (text : List ℕ) (answer : Result ℕ Refusal) → told answer ≡ frame_of text → told answer ≡ refused 10 → ⊥
   -- `ask_key` of `reasons`.
-  pub ask_key : (text : List ℕ) (key : Key) (answer : Result (Option HexText) Refusal) → told_maybe answer ≡ key_answer text key → answer ≡ Err 10 → ⊥
+  pub ask_key : (text : List ℕ) (key : Key) (answer : Result (Option HexText) Refusal) → told_maybe answer ≡ key_answer text key → told_maybe answer ≡ refused 10 → ⊥
   -- `ask_piece` of `reasons`.
-  pub ask_piece : (text : List ℕ) (i : ℕ) (answer : Result (Option HexText) Refusal) → told_maybe answer ≡ piece_answer text i → answer ≡ Err 10 → ⊥
+  pub ask_piece : (text : List ℕ) (i : ℕ) (answer : Result (Option HexText) Refusal) → told_maybe answer ≡ piece_answer text i → told_maybe answer ≡ refused 10 → ⊥
   -- `payload_of` of `reasons`.
-  pub payload_of : (text : List ℕ) (answer : Result Place Refusal) → PayloadAt text answer → answer ≡ Err 10 → ⊥
+  pub payload_of : (text : List ℕ) (answer : Result Place Refusal) → PayloadAt text answer → told answer ≡ refused 10 → ⊥
   -- `read` of `record`; the text is bytes, as every lent text is.
-  pub record_read : (text : List ℕ) → Bytes text → (slots left : List ℕ) (answer : Result Entry Refusal) → Reading text slots answer left → answer ≡ Err 10 → ⊥
+  pub record_read : (text : List ℕ) → Bytes text → (slots left : List ℕ) (answer : Result Entry Refusal) → Reading text slots answer left → told answer ≡ refused 10 → ⊥
   -- `refusal` of `record`, whose answer is a bare number.
   pub refusal : (text : List ℕ) → Bytes text → (answer : ℕ) → answer ≡ refusal_of text → answer ≡ 10 → ⊥
   -- `write` of `writer`, whatever the entry.
-  pub write : (text : List ℕ) (e : Entry) (dwords buffer left : List ℕ) (answer : Result ℕ Refusal) → Writing text e dwords buffer answer left → answer ≡ Err 10 → ⊥
+  pub write : (text : List ℕ) (e : Entry) (dwords buffer left : List ℕ) (answer : Result ℕ Refusal) → Writing text e dwords buffer answer left → told answer ≡ refused 10 → ⊥
   -- `read` of `intake`, strict and lenient.
-  pub read : (pieces : Pieces) (text : List ℕ) → Bytes text → (slots left : List ℕ) (answer : Result Entry Refusal) → Taken pieces text slots left answer → answer ≡ Err 10 → ⊥
+  pub read : (pieces : Pieces) (text : List ℕ) → Bytes text → (slots left : List ℕ) (answer : Result Entry Refusal) → Taken pieces text slots left answer → told answer ≡ refused 10 → ⊥
   -- `packet` of `intake`, strict and lenient, over any book; the book is bytes, as every lent book is.
   pub packet : (pieces : Pieces) (text : List ℕ) → Bytes text → (book : List ℕ) → Bytes book → (slots slots_left places places_left : List ℕ) (answer : Result Packet Refusal)
-      → PacketTaken pieces text book slots slots_left places places_left answer → answer ≡ Err 10 → ⊥
+      → PacketTaken pieces text book slots slots_left places places_left answer → told answer ≡ refused 10 → ⊥
   -- `what_is` of `intake`, strict and lenient.
   pub what_is : (pieces : Pieces) (text : List ℕ) → Bytes text → (answer : Result What Refusal) → told answer ≡ what_of pieces text → told answer ≡ refused 10 → ⊥
   -- `feed` of `stream`, whatever is kept; part and buffer are bytes, as all that is lent.
   pub stream_feed : (pieces : Pieces) (part rest : List ℕ) → Bytes part → Bytes rest → (slots : List ℕ) (state : State) (rest_left slots_left : List ℕ) (answer : Fed)
-      → FeedDone pieces part rest slots state rest_left slots_left answer → answer.answer ≡ Err 10 → ⊥
+      → FeedDone pieces part rest slots state rest_left slots_left answer → told_maybe answer.answer ≡ refused 10 → ⊥
   -- `finish` of `stream`.
   pub stream_finish : (pieces : Pieces) (rest : List ℕ) → Bytes rest → (slots : List ℕ) (state : State) (slots_left : List ℕ) (answer : Finished)
-      → FinishDone pieces rest slots state slots_left answer → answer.answer ≡ Err 10 → ⊥
+      → FinishDone pieces rest slots state slots_left answer → told_maybe answer.answer ≡ refused 10 → ⊥
 
 -- The calls for C. Their strict forms and their lenient ones are told apart by the choice.
 pub record CallsForCNever : Type 0 where

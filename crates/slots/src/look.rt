@@ -49,16 +49,18 @@ impl Seen {
     }
 
     // The slot at a place is seen.
-    #[tactic(auto, unfolding(crate::specs::Look::look_of, crate::specs::Look::first_of, crate::specs::Look::older_of))]
+    #[tactic(auto, unfolding(crate::specs::Look::look_of, crate::specs::Look::first_of, crate::specs::Look::ranked_of, crate::specs::Look::older_of))]
     pub fn look(&mut self, slot: Slot, place: usize)
         ensures { self.new ≡ look_of self.old slot place }
     {
-        self.ranks.mark(slot);
         if slot.rank == 0 {
             if self.free.is_none() {
                 self.free = Some(place);
             }
-        } else if self.is_older(slot.rank) && self.ask.is_met(slot) {
+            return;
+        }
+        self.ranks.mark(slot);
+        if self.is_older(slot.rank) && self.ask.is_met(slot) {
             self.oldest = Some(Oldest {
                 place,
                 rank: slot.rank,

@@ -1,6 +1,8 @@
 // Many packets over one book, which is checked once.
 //
 //     parse_all    for each packet what `packet::parse` answers: its places where its dwords stand, and one number
+//
+// Kinds are numbers here, as packet's `parse` takes them; where a refusal is put in their place is C's array.
 #![tactic(auto)]
 
 ghost use Rattle.std.specs.Prelude.{◌≡◌};

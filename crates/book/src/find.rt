@@ -29,6 +29,7 @@ use crate::field::after;
 use crate::seek::{Want, first, name_at, type_at};
 use tlv::Step;
 
+// Each finder names what it seeks; what they share is `first` and `seek`.
 // The control table of a kind.
 pub fn control_table(book: &[u8], kind: u8) -> Option<usize>
     ensures { result ≡ control_table book.now kind }
@@ -130,6 +131,7 @@ pub fn offset_of(book: &[u8], entry: usize) -> u16
     tlv::two_at(book, entry + 3)
 }
 
+// Two places of one byte each: one function over the place would say no less at each call.
 // The low bit of a bit range.
 pub fn low_of(book: &[u8], range: usize) -> u8
     ensures { result ≡ get_or book.now (range + 3) 0 }

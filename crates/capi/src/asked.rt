@@ -1,5 +1,6 @@
 // The questions of a packet, each of a kind, a book and dwords, with numbers 20 to 25 before any answer. Every call checks the book; the calls of
 // `described` do not.
+// C's interface: a kind is a number, and any is taken.
 ghost use Rattle.std.specs.Prelude.{◌≡◌, length};
 ghost use Rattle.questions.specs.Questions.{
   route_of,

@@ -1,5 +1,6 @@
 // The questions of a described packet: its dwords, and for each the place of its entry, as `ck_packet` fills them. No call checks the book, so it
 // is checked once for all of them; each takes any book, dwords and places all the same.
+// C's interface: a kind is a number, and any is taken.
 ghost use Rattle.std.specs.Prelude.{◌≡◌};
 ghost use Rattle.questions.specs.Described.{route_in, top_bit, asked, adapter_in, address_in, size_in, uuid_in, type_in, field_at, field_with};
 ghost use Rattle.capi.specs.Told.{value_by, as_number, uuid_by, type_by, field_by};

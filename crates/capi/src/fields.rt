@@ -1,4 +1,5 @@
 // What the book says of a field, by the place of its entry; and names. Any book and any place is taken; place 0 is none.
+// C's interface: a kind is a number, and any is taken.
 ghost use Rattle.std.specs.Prelude.{◌≡◌};
 ghost use Rattle.packet.specs.Field.{name_in};
 ghost use Rattle.field.specs.Source.{field_of};

@@ -1,4 +1,5 @@
 // Why a hex number of a line could not be read. A line without a payload answers its number, 1 to 4.
+// C's interface: the structs' numbers are its layout, and strict and lenient are two names.
 ghost use Rattle.std.specs.Prelude.{◌≡◌, ◌≤◌, IfOk, IfSome};
 ghost use Rattle.refusal.specs.Told.{told_maybe};
 ghost use Rattle.reasons.specs.Reasons.{piece_answer};

@@ -12,6 +12,8 @@
 //     requests                                 the table of requests
 //     streams                                  a stream fed in parts
 //     told                                     the answers as plain structs
+//
+// C's interface: strict and lenient are two names each, and each struct's numbers are C's layout.
 #![tactic(auto)]
 
 pub mod asked;

@@ -1,4 +1,5 @@
 // The calls on packets.
+// C's interface: a kind is a number, and any is taken.
 ghost use Rattle.refusal.specs.Told.{told};
 ghost use Rattle.std.specs.Prelude.{◌≡◌, length};
 ghost use Rattle.scan.specs.declared.Pieces.TheVariants as P;

@@ -1,4 +1,5 @@
 // The table of requests. A slot is a plain struct of numbers as it stands.
+// C's interface: the structs' numbers are its layout.
 ghost use Rattle.std.specs.Prelude.{◌≡◌, length, replicate};
 ghost use Rattle.slots.specs.Decide.{free_slot};
 ghost use Rattle.refusal.specs.Told.{told, told_maybe};

@@ -1,4 +1,5 @@
 // A stream fed in parts. What is kept between two calls is a plain struct of numbers, taken with any bits.
+// C's interface: the structs' numbers are its layout, and strict and lenient are two names.
 ghost use Rattle.std.specs.Prelude.{◌≡◌};
 ghost use Rattle.scan.specs.declared.Pieces.TheVariants as P;
 ghost use Rattle.refusal.specs.Told.{told_maybe};

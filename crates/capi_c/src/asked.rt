@@ -1,4 +1,5 @@
 // The questions of a packet, each of a kind, a book and dwords. Every call checks the book; the calls of `described` do not.
+// C's interface: one symbol a name, and a kind is a number. What symbols share is in `capi` and below it.
 ghost use Rattle.std.specs.Prelude.{◌≡◌, length};
 ghost use Rattle.questions.specs.Questions.{route_of, cm_of, adapter_of, address_of, size_of, start_of, view_of, read_of, write_of, xdomain_of, uuid_answer, uuid_by_name, type_of, type_name, field_by_offset, field_by as field_asked};
 ghost use Rattle.capi.specs.Told.{value_by, as_number, uuid_by, type_by, field_by, Copied};

@@ -1,4 +1,5 @@
 // The questions of a described packet: its dwords, and for each the place of its entry, as `ck_packet` fills them.
+// C's interface: one symbol a name, and a kind is a number. What symbols share is in `capi` and below it.
 ghost use Rattle.std.specs.Prelude.{◌≡◌};
 ghost use Rattle.questions.specs.Described.{route_in, top_bit, asked, adapter_in, address_in, size_in, uuid_in, type_in, field_at, field_with};
 ghost use Rattle.capi.specs.Told.{value_by, as_number, uuid_by, type_by, field_by};

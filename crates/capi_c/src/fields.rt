@@ -1,4 +1,5 @@
 // What the book says of a field, by the place of its entry; and names.
+// C's interface: one symbol a name, and a kind is a number. What symbols share is in `capi` and below it.
 ghost use Rattle.std.specs.Prelude.{◌≡◌};
 ghost use Rattle.packet.specs.Field.{name_in};
 ghost use Rattle.field.specs.Source.{field_of};

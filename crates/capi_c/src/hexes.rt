@@ -1,4 +1,5 @@
 // Why a hex number of a line could not be read.
+// C's interface: one symbol a name. What symbols share is in `capi` and below it.
 ghost use Rattle.std.specs.Prelude.{◌≡◌};
 ghost use Rattle.reasons.specs.Reasons.{piece_answer};
 ghost use Rattle.capi.specs.Hexes.{hex_by, key_numbered, key_told};

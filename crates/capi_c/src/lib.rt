@@ -1,5 +1,6 @@
 // The symbols for C: each export is the call of the same name in `capi`, states its clauses again and hands its answer on. What each is for is
 // said there and in include/chomkadieu.h.
+// C's interface: one symbol a name. What symbols share is in `capi` and below it.
 #![tactic(auto)]
 
 pub mod asked;

@@ -1,4 +1,5 @@
 // The calls on packets.
+// C's interface: one symbol a name, and a kind is a number. What symbols share is in `capi` and below it.
 ghost use Rattle.std.specs.Prelude.{length};
 ghost use Rattle.scan.specs.declared.Pieces.TheVariants as P;
 ghost use Rattle.packet.specs.Packet.{parse_of, over_of, places_of};

@@ -1,4 +1,5 @@
 // A stream fed in parts.
+// C's interface: one symbol a name. What symbols share is in `capi` and below it.
 ghost use Rattle.scan.specs.declared.Pieces.TheVariants as P;
 ghost use Rattle.capi.specs.Streams.{StreamFed, StreamEnded};
 

@@ -8,6 +8,8 @@
 //     name_at, value_at       where in the book a name stands, and a value of a bit range
 //
 // Every call takes any book and any place. A name is the caller's own bytes of the lent book, and an empty part at its start for none.
+//
+// A kind is a number here, as packet's `parse` takes it.
 #![tactic(auto)]
 
 mod table;

@@ -16,6 +16,7 @@ pub enum Framing {
     Records,
 }
 
+// `whole` is no absence: what is held stands either way.
 // Where the part was left, how many bytes of the unit are held, and whether it is whole.
 #[derive(Clone, Copy, Debug, PartialEq, Eq)]
 pub struct Fed {

@@ -2,6 +2,7 @@
 // whole; of one that does not, the parts that do not fit are left out.
 //
 //     put_answer    the row of a packet
+// A kind is a number here, as packet's `parse` takes it.
 #![tactic(auto)]
 
 mod asked;

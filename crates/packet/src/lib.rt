@@ -5,6 +5,8 @@
 //     parse_checked    the same over a book that is known to be checked, for the crates above
 //     fill, steps      the entries of a table by their offsets; the three steps
 //     seek, field      the first dword as asked, and the dwords of one name; what the book says of one dword
+//
+// A kind is a number here: `parse` of packet takes any and refuses by 21 or 22 what is none, so a `Kind` would ask more of callers.
 #![tactic(auto)]
 
 pub mod field;

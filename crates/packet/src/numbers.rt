@@ -12,6 +12,7 @@ use book::{Uuid, find};
 use entry::kind::Kind;
 use refusal::Refusal;
 
+// Two tests of two kinds each: one over both would say no less at each call.
 // Read responses and write requests: the data view starts behind the control entries.
 #[tactic(auto, unfolding(crate::specs::Packet::is_read_response_or_write_request))]
 pub fn is_read_response_or_write_request(kind: u8) -> bool

@@ -1,5 +1,6 @@
 // The thirteen keys of a payload by their rows in specs/Table.antt, and what a value is read as.
 
+// Numbers, since they index the rows; an enum would be cast at each use.
 // Each key by its row.
 pub const TYPE: usize = 0;
 

@@ -1,4 +1,5 @@
 // What a packet is by its kind.
+// Two tests here and two in packet's `numbers`, each of two kinds: one over both would say no less at each call.
 ghost use Rattle.std.specs.Prelude.{◌≡◌};
 ghost use Rattle.questions.specs.Described.{is_read, is_write};
 

@@ -10,6 +10,8 @@
 //     described::..                          the same of a packet whose places were filled by `packet::parse`, with no check of the book
 //
 // Nothing that is lent is changed.
+//
+// A kind is a number here: `parse` of packet takes any and refuses by 21 or 22 what is none, so a `Kind` would ask more of callers.
 #![tactic(auto)]
 
 pub mod described;

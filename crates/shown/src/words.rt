@@ -1,4 +1,5 @@
 // A kind, a description's source, and what document 01's numbers mean, in words.
+// A kind is a number here, as the entry has it.
 use channel::sink::Sink;
 use entry::kind::Kind;
 use field::Source;

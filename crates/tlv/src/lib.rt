@@ -4,6 +4,8 @@
 //     byte_at, two_at, four_at, eight_at    the number that one, two, four or eight bytes make, low byte first
 //
 // All are total: they take any text and any place.
+//
+// `byte_at` is text's `byte_at` too: this crate stands on nothing, and it is one line.
 #![tactic(auto)]
 
 ghost use Rattle.std.specs.Prelude.{◌≡◌, ◌<◌, ◌≤◌, get_or};

@@ -8,7 +8,7 @@ use crate::{Fed, Framing, State, Unit};
 use print::put::put;
 use text::place::first;
 
-// Where a line ends in a part, or that the part has not its end.
+// Where a line ends in a part, or that the part has not its end. `whole` is no absence: the place stands either way.
 #[derive(Clone, Copy)]
 pub struct LineEnd {
     pub at: usize,

@@ -6,8 +6,8 @@ use mathlib.Core.Bool.{Bool, true, false}
 use native.Mathlib.Omega.{arith}
 use borrow.Author.Tests.{leb-true, leb-false}
 use lib.Dec.{leb}
-use lib.ListN.{length, get_or, take, drop, set, replicate, length-append, length-drop, length-set, length-replicate, replicate-append-replicate, take-append-drop, drop_of_length-le}
-use lib.Seq.{drop-cons, set_at, drop-drop, take_all, take_at, drop_at, take-suc-set, drop-set-lt, append_snoc, length-take-le}
+use lib.ListN.{length, get_or, take, drop, set, replicate, length-append, length-drop, length-set, take-append-drop, drop_of_length-le}
+use lib.Seq.{drop-cons, drop-drop, take_all, take_at, drop_at, take-suc-set, drop-set-lt, append_snoc, length-take-le}
 use Rattle.text.specs.Told as T
 use Rattle.book.specs.Reading.{check_of}
 use Rattle.packet.specs.Packet.{number_of, parse_of, places_of, list_by}

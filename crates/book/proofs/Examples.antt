@@ -4,7 +4,6 @@ use Prim.Native.Nat.{ℕ}
 use mathlib.Core.Path.{◌≡◌, refl}
 use mathlib.Core.List.{List, [], ◌∷◌, ◌++◌}
 use Rattle.text.specs.Quote.{bytes}
-use Rattle.text.specs.Same.{same_text}
 use Rattle.tlv.specs.Number.{number, number_bytes}
 use Rattle.tlv.specs.Grammar.{field_bytes}
 use Rattle.tlv.specs.Reading.{step_from, field_at, walk_from, walk, parts, filled}

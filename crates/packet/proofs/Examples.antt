@@ -9,7 +9,6 @@ use Rattle.text.specs.Quote.{bytes}
 use Rattle.tlv.specs.Grammar.{field_bytes}
 use Rattle.tlv.specs.Reading.{step_from, field_at, walk_from, walk, parts, filled}
 use Rattle.tlv.specs.Number.{number}
-use Rattle.text.specs.Same.{same_text}
 use Rattle.bits.specs.Range.{range_of}
 use Rattle.book.specs.Search as Search
 use Rattle.book.specs.Reading as Reading

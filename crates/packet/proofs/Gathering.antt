@@ -1,13 +1,13 @@
 -- The dwords of one name, from the first on: the values are that dword's and those of the dwords behind it. Assumes nothing.
 use Rattle.std.specs.Prelude.{None, Some}
-use Prim.Native.Nat.{ℕ, zero, suc, ◌+◌, ◌≤◌, ◌<◌, min}
+use Prim.Native.Nat.{ℕ, suc, ◌+◌, ◌≤◌, ◌<◌, min}
 use mathlib.Core.Path.{◌≡◌, refl, sym, ap, ◌∙◌}
 use mathlib.Core.Bool.{Bool, true, false, cond}
 use mathlib.Core.List.{List, [], ◌∷◌, ◌++◌, append-nil, append_assoc}
 use native.Mathlib.Numerals.{add-one}
 use native.Mathlib.Omega.{arith}
 use Rattle.std.proofs.lemmas.List.{take_more_set}
-use lib.ListN.{length, get_or, set, take, drop, length-drop, length-set, drop_of_length-le}
+use lib.ListN.{length, get_or, set, take, drop, length-set, drop_of_length-le}
 use lib.Dec.{leb}
 use lib.Seq.{drop-cons, take_all, length-take-le}
 use borrow.Author.Tests.{leb-true, leb-false}

@@ -1,7 +1,7 @@
 -- What the functions below the packet call promise each other. A reader of the packet call's promise needs nothing from here.
 -- Assumes nothing.
 use Rattle.book.specs.declared.Uuid.{Uuid}
-use Rattle.std.specs.Prelude.{ℕ, zero, suc, ◌≤◌, ◌≡◌, Bool, true, false, cond, ◌&&◌, List, [], eqb, ltb, length, get_or, set, replicate, None, Option, Some}
+use Rattle.std.specs.Prelude.{ℕ, zero, suc, ◌≤◌, ◌≡◌, Bool, true, cond, ◌&&◌, List, [], eqb, ltb, length, get_or, set, replicate, None, Option, Some}
 use Rattle.text.specs.Told.{Told, is, refused, unless}
 use Rattle.text.specs.Quote.{bytes}
 use Rattle.text.specs.Same.{same_text}

@@ -6,17 +6,16 @@ use Rattle.refusal.specs.declared.Refusal.TheVariants as R
 use Prim.Native.Nat.{ℕ, zero, suc, ◌+◌, ◌*◌, ◌^◌, ◌≤◌, ◌<◌}
 use mathlib.Core.Path.{◌≡◌, refl, sym, ap, ap₂, ◌∙◌}
 use Rattle.refusal.specs.Told.{told_maybe}
-use mathlib.Core.Bool.{cond, not, true, false, false≢true}
+use mathlib.Core.Bool.{not, true, false, false≢true}
 use lib.Dec.{eqb}
 use Rattle.packet.proofs.Gathering.{first_is}
 use mathlib.Core.List.{List, [], ◌∷◌}
 use native.Mathlib.Omega.{arith}
-use lib.ListN.{length, get_or, take}
+use lib.ListN.{length, get_or}
 use Rattle.text.specs.Quote.{bytes}
 use Rattle.packet.specs.declared.field.Ask.{Ask}
-use Rattle.packet.specs.declared.field.Ask.TheVariants.{Named, Holds}
+use Rattle.packet.specs.declared.field.Ask.TheVariants.{Holds}
 use Rattle.packet.specs.Field.{range_in, value_in, asks}
-use Rattle.packet.specs.Steps.{values_named, exactly_four, gathered}
 use Rattle.packet.specs.Packet.{first_from}
 use Rattle.field.specs.declared.Field.{Field}
 use Rattle.questions.specs.declared.PacketType.{PacketType}

@@ -8,7 +8,7 @@ use Rattle.tlv.proofs.Places.{between_is}
 use Rattle.tlv.specs.Reading.{between}
 use borrow.Author.Rules.{rules}
 use lib.ListN.{take, drop}
-use mathlib.Core.List.{List, []}
+use mathlib.Core.List.{[]}
 use mathlib.Core.Path.{◌≡◌, refl, sym, ap, subst, ◌∙◌}
 use native.Mathlib.Omega.{arith}
 use Rattle.book.proofs.field.body_at.Goals.{

@@ -1,11 +1,9 @@
 -- `book::find::nth` meets its contract: so many fewer from behind each field passed on. Assumes nothing.
-use Rattle.std.specs.Prelude.{None, Some}
 use Prim.Native.Nat.{ℕ}
 use Rattle.book.proofs.Counting.{nth_bare, nth_here, nth_behind}
 use Rattle.book.proofs.Steps.{Bare, bare}
 use Rattle.tlv.proofs.Fields.{field_found}
 use Rattle.tlv.specs.Reading.{Part, Stands}
-use borrow.Author.Rules.{rules}
 use mathlib.Core.List.{List}
 use mathlib.Core.Path.{sym, subst, ◌∙◌, refl}
 use native.Mathlib.Omega.{arith}

@@ -7,7 +7,6 @@ use Rattle.book.specs.Finders.{nth_place, nth_inside}
 use Rattle.tlv.proofs.Fields.{field_found}
 use Rattle.tlv.proofs.Places.{stands_cut}
 use Rattle.tlv.specs.Reading.{Part, Stands, field_at, parts}
-use borrow.Author.Rules.{rules}
 use lib.ListN.{length, take, length-take}
 use mathlib.Core.List.{List}
 use mathlib.Core.Path.{◌≡◌, sym, ap, subst, ◌∙◌}

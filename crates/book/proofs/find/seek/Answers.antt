@@ -4,12 +4,11 @@ use Prim.Native.Nat.{ℕ, ◌<◌, ◌≤◌}
 use Rattle.book.proofs.Answers.{inner_up}
 use Rattle.book.proofs.Searching.{first_bounds}
 use Rattle.book.proofs.Steps.{Bare, bare, field_bare}
-use Rattle.book.specs.Finders.{place_of, inner_from, seek_of}
+use Rattle.book.specs.Finders.{place_of, seek_of}
 use Rattle.book.specs.Search.{wanted, first_part, first_wanted}
 use Rattle.tlv.proofs.Fields.{field_found}
 use Rattle.tlv.proofs.Places.{stands_cut}
 use Rattle.tlv.specs.Reading.{Part, Stands, field_at}
-use borrow.Author.Rules.{rules}
 use lib.ListN.{length, take, length-take}
 use mathlib.Core.Bool.{Bool}
 use mathlib.Core.List.{List}

@@ -1,7 +1,7 @@
 -- `packet::seek::first_asked` meets its contract: what is first from the start on is first from here on. Assumes nothing.
 use Rattle.packet.specs.Field.{asks}
 use Rattle.packet.specs.Packet.{first_from}
-use lib.ListN.{length, drop}
+use lib.ListN.{drop}
 use mathlib.Core.Path.{◌≡◌}
 use Rattle.packet.proofs.seek.first_asked.Given as goal
 

@@ -2,7 +2,6 @@
 use Rattle.std.specs.Prelude.{IfSome, ◌<◌}
 use Rattle.book.specs.Finders.{place_of}
 use Rattle.packet.proofs.Latching.{Through}
-use lib.ListN.{length}
 use Rattle.packet.proofs.steps.latch_over.Given as goal
 
 abbrev pub invariant-loop-i : goal.invariant-loop-i

@@ -1,11 +1,7 @@
 -- `questions::described::first_range` meets its contract: a dword is found by a range that it has. Assumes nothing.
-use Prim.Native.Nat.{ℕ}
-use Rattle.packet.specs.Field.{range_in, asks}
-use Rattle.packet.specs.declared.field.Ask.TheVariants.{Holds}
+use Rattle.packet.specs.Field.{range_in}
 use Rattle.packet.proofs.Fields.{nothing_told, found_told}
-use Rattle.packet.proofs.Gathering.{first_is}
 use Rattle.questions.proofs.Asking.{range_there}
-use lib.ListN.{get_or}
 use mathlib.Core.Path.{sym, ap, ◌∙◌}
 use Rattle.questions.proofs.described.first_range.Goals as goal
 

@@ -5,7 +5,7 @@ use Rattle.packet.proofs.Opening.{was_there}
 use Rattle.refusal.proofs.Told.{passed_on}
 use Rattle.questions.specs.Described.{named}
 use Rattle.questions.proofs.Asking.{type_none, type_at_lem, type_unnamed, type_named, was_unnamed}
-use mathlib.Core.Path.{refl, sym, ap, ◌∙◌}
+use mathlib.Core.Path.{ap, ◌∙◌}
 use native.Mathlib.Omega.{arith}
 use Rattle.questions.proofs.described.type_in.Goals as goal
 

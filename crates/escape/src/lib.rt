@@ -1,8 +1,6 @@
 // A book's name as it is shown: a name may have any byte below 128, and none of them may end a row or steer a terminal.
 #![tactic(auto)]
 
-pub mod at;
-
 ghost use Rattle.std.specs.Prelude.{◌≡◌, ◌*◌, length};
 ghost use Rattle.print.specs.Page.{Puts};
 ghost use Rattle.listing_rows.specs.Rows.{Room, PutOn};

@@ -1,4 +1,4 @@
-// Which numbers of 16 bits were met: one bit each.
+// Which numbers of 16 bits were met: one bit each. Kept two functions on one array: a struct around it would say no more.
 ghost use Rattle.std.specs.Prelude.{◌≡◌};
 ghost use Rattle.book.specs.Seen.{is_marked, marked};
 

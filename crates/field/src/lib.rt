@@ -90,7 +90,7 @@ fn source_of(kind: u8, book: &[u8], entry: usize) -> Source
     Source::Protocol(Place { at: entry })
 }
 
-// The place of a field's entry, 0 for none.
+// The place of a field's entry. Kept a number with 0 for none: the theorems of fields (`entry_of`, `inside`) read it so, as the lent places have it.
 pub fn entry_of(field: Field) -> usize
     ensures { result ≡ entry_of field }
 {

@@ -43,7 +43,7 @@ pub fn feed(framing: Framing, part: &[u8], from: usize, unit: &mut [u8], held: u
     }
 }
 
-// How many units these bytes end.
+// How many units these bytes end. A loop of its own: each end says where the next unit begins.
 pub fn units_in(framing: Framing, s: &[u8]) -> usize
     ensures { result ≡ units_in framing s.now }
 {

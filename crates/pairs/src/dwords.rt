@@ -18,7 +18,7 @@ pub struct NextPiece {
     pub dword: Option<u32>,
 }
 
-// How many dwords the pieces are, and whether one of the pieces is bad.
+// How many dwords the pieces are, and whether one of the pieces is bad: both stand, as lenient takes the dwords all the same.
 #[derive(Clone, Copy)]
 pub struct Tally {
     pub dwords: usize,
@@ -127,7 +127,7 @@ fn eight_digits(s: &[u8], t: &[u8; 256], at: usize) -> Option<u32>
     Some(v as u32)
 }
 
-// The piece of that number, from 0.
+// The piece of that number, from 0. A loop of its own: each piece says where the next one begins.
 pub fn nth_piece(inner: &[u8], i: usize) -> Option<Span>
     ensures { NthPiece inner.now i result }
 {

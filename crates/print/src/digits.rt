@@ -18,6 +18,7 @@ impl Digits {
     }
 }
 
+// From the last digit to the first. The place is counted by hand, as where it stops is half of the answer.
 pub fn digits_of(n: u64) -> Digits
     ensures { DigitsOf n result.bytes result.from }
 {

@@ -5,7 +5,8 @@ ghost use Rattle.slots.specs.Look.{asked_of, look_of, ranked_of, bit_of, before}
 use crate::Slot;
 use crate::ask::Ask;
 
-// How many slots wait, a bit for each of the ranks 1 to 64 that one of them has, and whether none breaks a rule by itself.
+// How many slots wait, a bit for each of the ranks 1 to 64 that one of them has, and whether none breaks a rule by itself: three
+// facts, none in another's place.
 #[derive(Clone, Copy)]
 pub struct Ranks {
     pub count: u32,

@@ -138,7 +138,7 @@ pub fn is_kept(framing: Framing, state: State, rest: &[u8]) -> bool
     is_left(framing, &rest[..held], state.passed)
 }
 
-// How many units have ended in a stream that came so far.
+// How many units have ended in a stream that came so far. A loop of its own: each end says where the next unit begins.
 pub fn units_in(framing: Framing, s: &[u8]) -> usize
     ensures { Ended framing s.now result }
 {

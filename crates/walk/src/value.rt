@@ -80,7 +80,7 @@ fn digits_start(s: &[u8], v: usize, base: u64) -> usize
     v + digits_from(&s[v..])
 }
 
-// Digits from a place on, `SHORT` at most.
+// Digits from a place on, `SHORT` at most. The index is counted by hand, as where it stops is half of the answer.
 fn digits_at(s: &[u8], t: &[u8; 256], from: usize, base: u64) -> Digits
     requires { (t.now ≡ table) × (from ≤ length s.now) × (base ≤ 16) }
     ensures { DigitsRead s.now base from result }

@@ -96,6 +96,7 @@ impl<'a> Asking<'a> {
         }
     }
 
+    // Piece by piece. A loop of its own: the last piece ends with the text, and an empty text has one.
     fn say_pieces(&mut self, inner: &[u8])
         requires { length inner.now ≤ 4096 }
         ensures { Gone self.old (pieces_found 0 (cut inner.now)) self.new }

@@ -1,13 +1,7 @@
 -- There is one answer of a stream as a plain struct. Assumes nothing.
-use Rattle.std.specs.Prelude.{Err, None, Ok, Option, Result, Some}
-use Rattle.refusal.specs.declared.Refusal.{Refusal}
 use Prim.Native.Nat.{ℕ}
 use mathlib.Core.Path.{◌≡◌, sym, ap, ◌∙◌}
 use mathlib.Core.List.{List}
-use borrow.Author.Tests.{ne_eqb}
-use Rattle.entry.specs.declared.Entry.{Entry}
-use Rattle.c_entry.specs.declared.Flat.{Flat}
-use Rattle.c_entry.specs.Flat.{flat_of}
 use Rattle.scan.specs.declared.Pieces.{Pieces}
 use Rattle.units.specs.declared.State.{State}
 use Rattle.stream.specs.declared.Fed.{Fed}
@@ -15,8 +9,7 @@ use Rattle.stream.specs.declared.Finished.{Finished}
 use Rattle.stream.proofs.States.{states_left}
 use Rattle.refusal.specs.Told.{told_maybe}
 use Rattle.capi.specs.declared.streams.StreamAnswer.{StreamAnswer}
-use Rattle.capi.specs.Calls.{blank_entry}
-use Rattle.capi.specs.Streams.{ended_by, stream_by, StreamFed, StreamEnded}
+use Rattle.capi.specs.Streams.{stream_by, StreamFed, StreamEnded}
 
 -- no second answer keeps the contract of a call that feeds
 pub no_second_fed : (pieces : Pieces) (s rest slots : List ℕ) (st : State) (rest' slots' rest'' slots'' : List ℕ) (r q : StreamAnswer) → StreamFed pieces s rest slots st rest' slots' r → StreamFed pieces s rest slots st rest'' slots'' q → (r ≡ q) × (rest' ≡ rest'') × (slots' ≡ slots'')

@@ -11,7 +11,7 @@ use mathlib.Core.List.{List}
 use mathlib.Core.Logic.{inl, inr}
 use native.Mathlib.Omega.{arith}
 use lib.Dec.{leb, ltb}
-use lib.ListN.{length, get_or}
+use lib.ListN.{length}
 use Rattle.refusal.specs.Number.{number_of}
 use Rattle.refusal.specs.Told.{told, told_maybe}
 use Rattle.text.specs.Told as T

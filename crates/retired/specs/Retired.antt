@@ -61,7 +61,7 @@ pub record CallsNever : Type 0 where
   pub payload_of : (text : List ℕ) (answer : Result Place Refusal) → PayloadAt text answer → told answer ≡ refused 10 → ⊥
   -- `read` of `record`; the text is bytes, as every lent text is.
   pub record_read : (text : List ℕ) → Bytes text → (slots left : List ℕ) (answer : Result Entry Refusal) → Reading text slots answer left → told answer ≡ refused 10 → ⊥
-  -- `refusal` of `record`, whose answer is a bare number.
+  -- The number that `judge` of `record` refuses by.
   pub refusal : (text : List ℕ) → Bytes text → (answer : ℕ) → answer ≡ refusal_of text → answer ≡ 10 → ⊥
   -- `write` of `writer`, whatever the entry.
   pub write : (text : List ℕ) (e : Entry) (dwords buffer left : List ℕ) (answer : Result ℕ Refusal) → Writing text e dwords buffer answer left → told answer ≡ refused 10 → ⊥
@@ -110,7 +110,7 @@ pub record CallsForCNever : Type 0 where
 pub record RowsNever : Type 0 where
   -- A line as `filters` sees it: a row of the listing, by lenient, and of `unpack`, and what `pack` tells of a line.
   pub see_line : (pieces : Pieces) (text : List ℕ) (answer : Seen) → answer ≡ seen_line pieces text → answer ≡ S.Refused 10 → ⊥
-  -- `see_unit` of `filters`, and what `pack` tells: a row of each filter, whatever the unit.
+  -- A unit as `put_row` of `filters` says it: a row of each filter, and what `pack` tells, whatever the unit.
   pub see_unit : (f : Filter) (unit : List ℕ) → Bytes unit → (answer : Seen) → answer ≡ seen_of f unit → answer ≡ S.Refused 10 → ⊥
   -- `step_line` of `desk`, whatever is kept: a row of `unanswered`.
   pub step_line : (pieces : Pieces) (text : List ℕ) (desk left : Desk) (answer : Result Row Refusal) → Turned pieces text desk left answer

@@ -95,7 +95,7 @@ refused_short n k =
 
 -- the row of a unit, by its answer
 module _ (out : List ℕ) (run : Run) (out' : List ℕ) (answer : Result (Option Entry) Refusal) {next : Counts}
-  (count : next ≡ counted run.counts (seen_by (told_maybe answer))) (r : ℕ) where
+    (count : next ≡ counted run.counts (seen_by (told_maybe answer))) (r : ℕ) where
   abbrev with_row : Run
   with_row = record { from = run.from; state = run.state; at = r; told = run.told; counts = next }
 

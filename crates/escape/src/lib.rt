@@ -9,7 +9,7 @@ ghost use Rattle.escape.specs.Escape.{is_plain, shown_byte, escaped};
 use print::hex::digit;
 use print::page::Page;
 
-// The escaped name. Asked for: four bytes of room for each of its bytes, which its callers, `say_name` and `put_shown` of why_rows, make.
+// The escaped name. Asked for: four bytes of room for each of its bytes, which its callers, `say_piece` of saying and `put_shown` of why_rows, make.
 pub fn put_escaped(page: &mut Page, s: &[u8])
     requires { Room page.old (4 * length s.now) }
     ensures { PutOn page.old (escaped s.now) page.new }

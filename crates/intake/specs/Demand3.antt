@@ -2,7 +2,7 @@
 -- of crate `writer`, so it holds of whatever they answer and leave behind, and over document 02's choice `pieces`, strict or lenient: a line is read by that
 -- choice, and a record by any.
 -- How to read it: `a ≡ b` is "a equals b"; `P → Q` "if P then Q"; `P → ⊥` "P never holds"; `P × Q` "P and Q"; `(x : A) × P` "there is an x so that P";
--- `(x : A) → P` "for every x, P"; `↔` "exactly when". A name before a dot tells whose answer it is: `A.` the reader's, `W.` the writer's.
+-- `(x : A) → P` "for every x, P"; `↔` "exactly when". `Ok x` is an answer that gives x, `Err k` one that refuses by k.
 use Rattle.refusal.specs.declared.Refusal.{Refusal}
 use Rattle.std.specs.Prelude.{ℕ, ◌≤◌, ◌≡◌, true, false, List, ◌↔◌, length, take, drop, Ok, Result}
 use Rattle.tlv.specs.Number.{Bytes}

@@ -1,5 +1,5 @@
 -- What a text is: a record, a line, or neither, which a number tells. The auditor's question, and what the call `what_is` answers to it.
--- It is stated over the choice: a line is one of the choice's grammar. How to read it: as Demand3. `W.` before a name tells the call's answer.
+-- It is stated over the choice: a line is one of the choice's grammar. How to read it: as Demand3. `W.Record` and `W.Line` are the two grammars; `told answer ≡ refused k` is "the answer refuses by number k".
 use Rattle.std.specs.Prelude.{ℕ, ◌≤◌, ◌≡◌, true, false, cond, List, ◌↔◌, take, Ok, Result}
 use Rattle.tlv.specs.Number.{Bytes}
 use Rattle.refusal.specs.declared.Refusal.{Refusal}

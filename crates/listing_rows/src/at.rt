@@ -1,5 +1,5 @@
 // The rows at a place of a buffer, for callers that keep no page.
-// `filters` keeps two buffers with their places in one struct between calls, which no page can lend at once.
+// `filters` is lent two buffers at each call and keeps their places in between, so it has no page.
 ghost use Rattle.std.specs.Prelude.{◌+◌, ◌≤◌, length};
 ghost use Rattle.listing_rows.specs.Rows.{Put, refused_row, entry_row, totals_row};
 

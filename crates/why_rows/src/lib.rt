@@ -30,7 +30,7 @@ pub enum What {
 }
 
 // The row of a number of the line with that number, and why it is none. A bad digit's place counts from the text's start, a leading `0x` counted. Asked
-// for: room, and a bad digit that is in the text, both of which `say_row` of the program has.
+// for: room, and a bad digit that is in the text, both of which `say_text` of the program has.
 pub fn put_row(page: &mut Page, line: u64, what: What, text: &[u8], reason: BadNumber)
     requires room { Room page.old (256 + 5 * length text.now) }
     requires within { PlaceWithin reason (length text.now) }

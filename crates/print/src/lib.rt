@@ -1,4 +1,4 @@
-// Text put into a lent buffer at a place: whole where it fits, else nothing. A page keeps the place behind what was put; `put` hands it back.
+// Text put into a lent buffer at a place: whole where it fits, else nothing. Each call hands back the place behind what it put.
 #![tactic(auto)]
 
 pub mod digits;

@@ -1,4 +1,4 @@
--- What a call tells: of an Option `maybe` says it, of an answer that may refuse `told` and `told_maybe` of crate `refusal`.
+-- What a call tells, whatever enum its answer is: each crate says for each of its answers what each case tells.
 -- Assumes nothing.
 use Rattle.std.specs.Prelude.{ℕ, zero, suc, None, Option, Some}
 

@@ -6,8 +6,8 @@ use native.Mathlib.Omega.{arith}
 use mathlib.Core.Bool.{Bool, true, false, cond, ◌&&◌}
 use mathlib.Core.List.{List, [], ◌∷◌}
 use lib.ListN.{length, get_or}
-use lib.Dec.{eqb}
-use borrow.Author.Tests.{lt-ltb, eq-eqb, ne_eqb, eqb-true, eqb-false, ltb-true, ltb-false}
+use lib.Dec.{eqb, ltb}
+use borrow.Author.Tests.{lt-ltb, le-ltb, eq-eqb, ne_eqb, eqb-true, eqb-false, ltb-true, ltb-false}
 use Rattle.slots.specs.declared.Slot.{Slot}
 use Rattle.slots.specs.declared.ask.Ask.{Ask}
 use Rattle.slots.specs.declared.look.Oldest.{Oldest}
@@ -25,10 +25,14 @@ pub data FirstIs (l : List Slot) (i : ℕ) (r : Option ℕ) : Type 0 where
   spare : (m : ℕ) → m < length l → rank_at l m ≡ 0 → ((j : ℕ) → j < m → 0 < rank_at l j) → r ≡ Some (i + m) → FirstIs l i r
   full : ((m : ℕ) → m < length l → 0 < rank_at l m) → r ≡ None → FirstIs l i r
 
-first_stays : (l : List Slot) (i f : ℕ) → first_all l i (Some f) ≡ Some f
+first_stays : (n : ℕ) (l : List Slot) (i f : ℕ) → f < i → first_all n l i (Some f) ≡ Some f
 unfolding first_all first_of
-first_stays [] i f = refl
-first_stays (s ∷ l) i f = first_stays l (suc i) f
+first_stays n [] i f h = refl
+first_stays n (s ∷ l) i f h = by_b (first_stays n l (suc i) f (omega (arith, h))) (eqb s.rank 0)
+  where
+    by_b : first_all n l (suc i) (Some f) ≡ Some f → (b : Bool) → first_all n l (suc i) (cond (b && ltb i f) (Some i) (Some f)) ≡ Some f
+    by_b e true = rw (le-ltb i f (omega (arith, h))) e
+    by_b e false = e
 
 step_first : (s : Slot) (l : List Slot) (i : ℕ) (r : Option ℕ) → 0 < s.rank → FirstIs l (suc i) r → FirstIs (s ∷ l) i r
 step_first s l i r z (spare m h e b q) = let n : suc i + m ≡ i + suc m = omega arith in spare (suc m) (omega (arith, h)) e (λ j g. before j g) (q ∙ ap Some n)
@@ -42,13 +46,15 @@ step_first s l i r z (full h q) = full all q
     all zero g = z
     all (suc m) g = h m (omega (arith, g))
 
-pub first_is : (l : List Slot) (i : ℕ) → FirstIs l i (first_all l i None)
+pub first_is : (n : ℕ) (l : List Slot) (i : ℕ) → i + length l ≤ n → FirstIs l i (first_all n l i None)
 unfolding first_all first_of
-first_is [] i = full (λ m g. absurd (omega (arith, g))) refl
-first_is (s ∷ l) i = by_b (first_is l (suc i)) (eqb s.rank 0) refl
+first_is n [] i h = full (λ m g. absurd (omega (arith, g))) refl
+first_is n (s ∷ l) i h = by_b (first_is n l (suc i) (omega (arith, h))) (eqb s.rank 0) refl
   where
-    by_b : FirstIs l (suc i) (first_all l (suc i) None) → (b : Bool) → eqb s.rank 0 ≡ b → FirstIs (s ∷ l) i (first_all l (suc i) (cond b (Some i) None))
-    by_b more true e = let k : i ≡ i + 0 = omega arith in spare 0 (omega arith) (eqb-true s.rank 0 e) (λ j g. absurd (omega (arith, g))) (first_stays l (suc i) i ∙ ap Some k)
+    by_b : FirstIs l (suc i) (first_all n l (suc i) None) → (b : Bool) → eqb s.rank 0 ≡ b → FirstIs (s ∷ l) i (first_all n l (suc i) (cond (b && ltb i n) (Some i) None))
+    by_b more true e =
+        let c = lt-ltb i n (omega (arith, h)) in let k : i ≡ i + 0 = omega arith in
+        rw c (spare 0 (omega arith) (eqb-true s.rank 0 e) (λ j g. absurd (omega (arith, g))) (first_stays n l (suc i) i (omega arith) ∙ ap Some k))
     by_b more false e = step_first s l i _ (nonzero s.rank e) more
 
 -- ---- as many wait as slots are not free

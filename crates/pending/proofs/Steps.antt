@@ -45,7 +45,7 @@ changed (C.Free k) t = freed k t
 
 -- ---- what is seen of a table
 abbrev seen_by : Ask → List Slot → Seen
-seen_by ask t = record { ask = ask; size = length t; free = first_all t 0 None; ranks = ranks_all t r₀; oldest = oldest_all t 0 ask None }
+seen_by ask t = record { ask = ask; size = length t; free = first_all (length t) t 0 None; ranks = ranks_all t r₀; oldest = oldest_all t 0 ask None }
 
 seen_is : (ask : Ask) (t : List Slot) → look_all t 0 (asked_of ask (length t)) ≡ seen_by ask t
 seen_is ask t = parts t 0 (asked_of ask (length t))
@@ -82,7 +82,7 @@ module _ (e : Entry) (t : List Slot) where
   Does p = Step e t (Ok p.report) (changed p.change t)
 
   module _ (good : Table t) where
-    asks_request : (four : Four) → ask_of e ≡ A.Request four → FirstIs t 0 (first_all t 0 None) → Does (request_of (seen_by (A.Request four) t) four)
+    asks_request : (four : Four) → ask_of e ≡ A.Request four → FirstIs t 0 (first_all (length t) t 0 None) → Does (request_of (seen_by (A.Request four) t) four)
     unfolding request_of
     asks_request four q (spare m g z b r) =
         let c = count_is t good.sound good.sized.1 in let v = waiting_less t m g z in let l = good.sized.1 in
@@ -110,7 +110,7 @@ module _ (e : Entry) (t : List Slot) where
     does A.Dropped q n = Do.dropped good q
     does A.Other q n = Do.other good q
     does A.NoSeq q n = Do.no_seq good q
-    does (A.Request four) q n = asks_request four q (first_is t 0)
+    does (A.Request four) q n = asks_request four q (first_is (length t) t 0 (omega arith))
     does (A.Response four) q n = asks_response four q (oldest_is t 0 (A.Response four) None)
     does (A.Rank k) q n = absurd (n k refl)
 

@@ -20,10 +20,10 @@ start_of e n = asked_of (ask_of e) n
 unfoldable pub seek_of : ℕ → ℕ → Seen
 seek_of k n = asked_of (A.Rank k) n
 
--- the first free place stays
-unfoldable pub first_of : Option ℕ → Slot → ℕ → Option ℕ
-first_of (Some f) s i = Some f
-first_of None s i = cond (eqb s.rank 0) (Some i) None
+-- the smallest free place below the size
+unfoldable pub first_of : ℕ → Option ℕ → Slot → ℕ → Option ℕ
+first_of size (Some f) s i = cond (eqb s.rank 0 && ltb i f) (Some i) (Some f)
+first_of size None s i = cond (eqb s.rank 0 && ltb i size) (Some i) None
 
 unfoldable pub bit_of : ℕ → ℕ
 bit_of k = cond (eqb k 0) 0 (cond (ltb 64 k) 0 (2 ^ (k - 1)))
@@ -63,7 +63,7 @@ look_of a s i =
     record {
       ask = a.ask;
       size = a.size;
-      free = first_of a.free s i;
+      free = first_of a.size a.free s i;
       ranks = ranked_of a.ranks s;
       oldest = older_of a.oldest a.ask s i;
     }

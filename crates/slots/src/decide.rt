@@ -7,7 +7,7 @@ use crate::look::{Ranks, Seen};
 use crate::{Four, Slot};
 use refusal::Refusal;
 
-// Each entry is one of these: `Taken` and `Answered` say at which place.
+// Each entry is one of these, unless the table is refused: `Taken` and `Answered` say at which place.
 #[derive(Clone, Copy, Debug, PartialEq, Eq, Hash)]
 pub enum Report {
     Dropped,

@@ -55,7 +55,7 @@ impl Seen {
         ensures { self.new ≡ look_of self.old slot place }
     {
         if slot.rank == 0 {
-            if self.free.is_none() {
+            if place < self.free.unwrap_or(self.size) {
                 self.free = Some(place);
             }
             return;

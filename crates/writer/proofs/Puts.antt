@@ -1,6 +1,6 @@
 -- A run of bytes written piece by piece: what is still to be written from a place on shortens as the place moves, and all else stays. One law serves
 -- every loop and every call behind a call. Assumes nothing.
-use Rattle.std.specs.Prelude.{None, Some}
+use Rattle.std.specs.Prelude.{None, Option, Some}
 use Prim.Native.Nat.{ℕ, zero, suc, ◌+◌, ◌*◌, ◌/◌, ◌%◌, ◌^◌, ◌≤◌, ◌<◌}
 use mathlib.Core.Path.{◌≡◌, ◌∙◌, sym, ap, refl}
 use mathlib.Core.List.{List, [], ◌∷◌, ◌++◌, map}
@@ -13,12 +13,17 @@ use lib.ListN.{length-drop, drop_of_length-le}
 use borrow.Rule.Slice.PartMut.{put_mid}
 use Rattle.std.proofs.lemmas.Slice.{put_mid-paste}
 use Rattle.std.specs.Int.{byte_at, bytes_low_first}
+use lib.Dec.{leb}
+use borrow.Author.Tests.{leb-true}
+use mathlib.Core.Bool.{Bool, true, false, cond}
 use Rattle.tlv.specs.Number.{number_bytes}
-use Rattle.tlv.specs.Grammar.{field_bytes}
+use Rattle.tlv.specs.Grammar.{field_bytes, All}
+use Rattle.tlv.proofs.Numbers.{number_bytes_length}
 use Rattle.tlv.proofs.Pieces.{field_bytes_length}
-use Rattle.entry.specs.Entry.{part_of}
+use Rattle.entry.specs.declared.Entry.{Entry}
+use Rattle.entry.specs.Entry.{part_of, value_of}
 use Rattle.entry.proofs.Parts.{part_in}
-use Rattle.record.specs.Grammar.{dwords_bytes}
+use Rattle.record.specs.Grammar.{dwords_bytes, rows_of, optional, flag}
 use Rattle.record.proofs.Bodies.{dwords_bytes_length}
 use Rattle.record.specs.declared.rule.Width.{Width}
 use Rattle.record.specs.declared.rule.Width.TheVariants.{One, Two, Four, Eight}
@@ -29,7 +34,7 @@ use denote.Ref.{MutBor}
 use Rattle.writer.specs.declared.small.Writer.{Writer}
 use Rattle.writer.specs.Put.{Put}
 use Rattle.writer.specs.Small.{Appended}
-use Rattle.writer.specs.Item.{body_of, row_of, head_bytes, row_bytes, rows_bytes}
+use Rattle.writer.specs.Item.{body_of, row_of, Short, head_bytes, row_bytes, rows_bytes}
 
 -- a text copied to a place is put there
 pub put_copied : (out : List ℕ) (at : ℕ) (bytes : List ℕ) (k : ℕ) (now : List ℕ) → at + length bytes ≤ length out → now ≡ bytes → length bytes ≡ k
@@ -160,24 +165,26 @@ module _ (r : Row) where
   pub row_size : {item : Item} → r.item ≡ Some item → length (row_bytes (row_of r)) ≡ length (body_of item) + 3
   row_size {item} e = ap length (row_some e) ∙ field_bytes_length r.tag (body_of item)
 
+  pub row_short : {item : Item} → r.item ≡ Some item → Short (row_of r) → length (body_of item) < 65536
+  row_short e h = rw e at h
+
 pub row_over : (rs : List Row) (i : ℕ) → length rs ≤ i → rows_bytes (map row_of (drop i rs)) ≡ []
 unfolding rows_bytes
 row_over rs i h = rw (drop_of_length-le rs {i = i} h)
 
-rows_shorter : (rs : List Row) (i : ℕ) → length (rows_bytes (map row_of (drop i rs))) ≤ length (rows_bytes (map row_of rs))
-unfolding rows_bytes
-rows_shorter rs zero = omega arith
-rows_shorter [] (suc i) = omega arith
-rows_shorter (r ∷ rs) (suc i) = omega (arith, rows_shorter rs i, length-append (row_bytes (row_of r)) (rows_bytes (map row_of rs)))
+short_at : (rs : List Row) (d : Row) (i : ℕ) → i < length rs → All Short (map row_of rs) → Short (row_of (get_or rs i d))
+short_at [] d i h short = absurd (omega arith)
+short_at (r ∷ rs) d zero h short = short.0
+short_at (r ∷ rs) d (suc i) h short = short_at rs d i (omega arith) short.1
 
--- the next one is no longer than all, and there is room for it
+-- the next one is as short as all are, and there is room for it
 pub row_room : (rs : List Row) (d : Row) (i at : ℕ) {found out : List ℕ} {place : ℕ}
     → Filling found at (rows_bytes (map row_of rs)) out place (rows_bytes (map row_of (drop i rs)))
-    → i < length rs → length (rows_bytes (map row_of rs)) < 65536 → at + length (rows_bytes (map row_of rs)) ≤ length found
-    → (length (row_bytes (row_of (get_or rs i d))) < 65536) × (place + length (row_bytes (row_of (get_or rs i d))) ≤ length out)
-row_room rs d i at {found} {out} {place} f h small room =
+    → i < length rs → All Short (map row_of rs) → at + length (rows_bytes (map row_of rs)) ≤ length found
+    → Short (row_of (get_or rs i d)) × (place + length (row_bytes (row_of (get_or rs i d))) ≤ length out)
+row_room rs d i at {found} {out} {place} f h short room =
     let next = ap length (row_first rs d i h) ∙ length-append (row_bytes (row_of (get_or rs i d))) (rows_bytes (map row_of (drop (i + 1) rs))) in
-    (omega (arith, rows_shorter rs i, next), omega (arith, f.size, f.sum, next))
+    (short_at rs d i h short, omega (arith, f.size, f.sum, next))
 
 -- ---- a number by its width
 
@@ -189,6 +196,54 @@ width_small Eight = omega arith
 
 pub width_bytes : (w : Width) (n : ℕ) {k : ℕ} {s : List ℕ} → k ≡ bytes_of w → s ≡ bytes_low_first 0 8 n → take k s ≡ number_bytes (bytes_of w) n
 width_bytes w n a b = rw (a, b) (number_cut (bytes_of w) n (width_small w))
+
+-- ---- no row of a record is long
+
+part_short : (l : List ℕ) (at n : ℕ) → length (part_of l at n) ≤ n
+unfolding part_of
+part_short l at n = go (leb (at + n) (length l)) refl
+  where
+    go : (x : Bool) → leb (at + n) (length l) ≡ x → length (cond x (take n (drop at l)) []) ≤ n
+    go true e = let h : at + n ≤ length l = leb-true _ _ e in omega (arith, length-take-le n (drop at l) (rw (length-drop at l) (omega arith)))
+    go false e = omega arith
+
+optional_short : (tag k : ℕ) (n : Option ℕ) → k < 65536 → Short (optional tag k n)
+optional_short tag k None h = tt
+optional_short tag k (Some n) h = omega (arith, number_bytes_length k n)
+
+-- what holds of a row, and of all behind it
+infixr 5 ◌&◌
+◌&◌ : {A B : Type 0} → A → B → A × B
+a & b = (a, b)
+
+pub rows_short : (text : List ℕ) (e : Entry) (dwords : List ℕ) → (e.task_len < 65536) × (e.function_len < 65536) × (4 * e.dwords < 65536)
+    → All Short (rows_of (value_of e text dwords))
+unfolding rows_of value_of
+rows_short text e dwords h =
+    let o = optional_short in
+    let task : length (part_of text e.task_at e.task_len) < 65536 = omega (arith, part_short text e.task_at e.task_len, h.0) in
+    let function : length (part_of text e.function_at e.function_len) < 65536 = omega (arith, part_short text e.function_at e.function_len, h.1) in
+    let words : length (dwords_bytes (part_of dwords 0 e.dwords)) < 65536 = omega (arith, part_short dwords 0 e.dwords, dwords_bytes_length (part_of dwords 0 e.dwords), h.2) in
+    task
+    & o 0x02 4 (Some e.pid) (omega arith)
+    & o 0x03 2 (Some e.cpu) (omega arith)
+    & o 0x04 8 (Some e.seconds) (omega arith)
+    & o 0x05 8 (Some e.microseconds) (omega arith)
+    & function
+    & o 0x07 1 (Some e.kind) (omega arith)
+    & o 0x08 2 (Some e.size) (omega arith)
+    & o 0x09 1 (Some (flag e.dropped)) (omega arith)
+    & o 0x0A 4 (Some e.domain) (omega arith)
+    & o 0x0B 8 (Some e.route) (omega arith)
+    & o 0x0C 2 e.offset (omega arith)
+    & o 0x0D 1 e.code (omega arith)
+    & o 0x0E 2 e.len (omega arith)
+    & o 0x0F 1 e.port (omega arith)
+    & o 0x10 1 e.config (omega arith)
+    & o 0x11 1 e.seq (omega arith)
+    & o 0x12 1 e.unplug (omega arith)
+    & words
+    & tt
 
 -- ---- the head and the rows of a record, in a writer that was new
 

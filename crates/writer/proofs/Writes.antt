@@ -2,7 +2,7 @@
 -- Assumes nothing.
 use Rattle.std.specs.Prelude.{Err, None, Ok, Option, Some}
 use Rattle.refusal.specs.declared.Refusal.TheVariants as R
-use Prim.Native.Nat.{ℕ, ◌+◌, ◌-◌, ◌≤◌, ◌<◌}
+use Prim.Native.Nat.{ℕ, ◌+◌, ◌-◌, ◌*◌, ◌≤◌, ◌<◌}
 use mathlib.Core.Path.{◌≡◌, ◌∙◌, sym, ap, refl}
 use mathlib.Core.Bool.{Bool, true, false, cond, ◌&&◌, false≢true}
 use mathlib.Core.List.{List, [], ◌∷◌, ◌++◌}
@@ -191,12 +191,12 @@ module _ (text : List ℕ) (e : Entry) (dwords out : List ℕ) where
 
     pub record_asks : (n : ℕ) → n ≡ record_size e → n ≤ length out
         → (n - 3 < 65536)
-        × (length (rows_bytes (rows_of (value_of e text dwords))) < 65536)
+        × ((e.task_len < 65536) × (e.function_len < 65536) × (4 * e.dwords < 65536))
         × (3 + length (rows_bytes (rows_of (value_of e text dwords))) ≤ length out)
     record_asks n s k =
         let small = size_small text e dwords f in
         let size = size_is text e dwords f in
-        (omega (arith, small.1), omega (arith, small.1, size), omega (arith, size))
+        (omega (arith, small.1), (omega (arith, f.together), omega (arith, f.together), omega (arith, f.few)), omega (arith, size))
 
     pub refused_36 : (n : ℕ) → n ≡ record_size e → length out < n → Writing text e dwords out (Err R.ShortBuffer) out
     unfolding write_of buffer_by

@@ -1,6 +1,6 @@
 -- The rows of the record as the code holds them, and the size of the record.
 -- Assumes nothing.
-use Rattle.std.specs.Prelude.{ℕ, ◌+◌, ◌*◌, ◌/◌, ◌%◌, List, [], ◌∷◌, ◌++◌, None, Option, Some}
+use Rattle.std.specs.Prelude.{ℕ, ◌+◌, ◌*◌, ◌/◌, ◌%◌, ◌<◌, List, [], ◌∷◌, ◌++◌, length, IfSome, None, Option, Some}
 use Rattle.std.specs.Option.{option_map}
 use Rattle.tlv.specs.Number.{number_bytes}
 use Rattle.tlv.specs.Grammar.{field_bytes}
@@ -21,6 +21,10 @@ body_of (I.Dwords ds) = dwords_bytes ds.now
 -- a row of the record's grammar
 abbrev pub row_of : Row → Grammar.Row
 row_of r = record { tag = r.tag; body = option_map body_of r.item }
+
+-- a row's body, where there is one, has a length that fits two bytes
+abbrev pub Short : Grammar.Row → Type 0
+Short r = IfSome r.body (λ body. length body < 65536)
 
 -- tag and length of a field
 unfoldable pub head_bytes : ℕ → ℕ → List ℕ

@@ -1,8 +1,9 @@
 // The small writer: a lent record buffer, and the place of the next byte. Others call `put_record`, whose parameters are plain.
 ghost use Rattle.std.specs.Prelude.{◌≡◌, ◌+◌, ◌*◌, ◌≤◌, ◌<◌, ◌++◌, length, map};
 ghost use Rattle.entry.specs.Entry.{value_of};
+ghost use Rattle.tlv.specs.Grammar.{All};
 ghost use Rattle.record.specs.Grammar.{rows_of, dwords_bytes};
-ghost use Rattle.writer.specs.Item.{body_of, row_of, head_bytes, row_bytes, rows_bytes};
+ghost use Rattle.writer.specs.Item.{body_of, row_of, Short, head_bytes, row_bytes, rows_bytes};
 ghost use Rattle.writer.specs.Put.{Put};
 ghost use Rattle.writer.specs.Small.{Appended};
 
@@ -66,7 +67,7 @@ impl<'a> Writer<'a> {
 
     // A field, nothing where it is absent.
     fn put_row(&mut self, row: Row)
-        requires { (length (row_bytes (row_of row)) < 65536) × (self.old.at + length (row_bytes (row_of row)) ≤ length self.old.out.now) }
+        requires { Short (row_of row) × (self.old.at + length (row_bytes (row_of row)) ≤ length self.old.out.now) }
         ensures { Appended self.old (row_bytes (row_of row.entry)) self.new }
     {
         if let Some(item) = row.item {
@@ -77,7 +78,7 @@ impl<'a> Writer<'a> {
 
     // Fields, one behind the other.
     fn put_rows(&mut self, rows: &[Row])
-        requires { (length (rows_bytes (map row_of rows.now)) < 65536) × (self.old.at + length (rows_bytes (map row_of rows.now)) ≤ length self.old.out.now) }
+        requires { All Short (map row_of rows.now) × (self.old.at + length (rows_bytes (map row_of rows.now)) ≤ length self.old.out.now) }
         ensures { Appended self.old (rows_bytes (map row_of rows.now)) self.new }
     {
         for row in rows {
@@ -89,7 +90,7 @@ impl<'a> Writer<'a> {
 // The record of an entry whose fields take so many bytes, from the start of the buffer: no writer is seen from outside.
 pub fn put_record(out: &mut [u8], size: usize, text: &[u8], e: Entry, dwords: &[u32]) -> usize
     requires { (size < 65536)
-        × (length (rows_bytes (rows_of (value_of e text.now dwords.now))) < 65536)
+        × ((e.task_len < 65536) × (e.function_len < 65536) × (4 * e.dwords < 65536))
         × (3 + length (rows_bytes (rows_of (value_of e text.now dwords.now))) ≤ length out.old) }
     ensures { Put out.old 0 (head_bytes 0xA1 size ++ rows_bytes (rows_of (value_of e text.now dwords.now))) result out.new }
 {

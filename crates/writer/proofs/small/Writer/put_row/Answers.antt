@@ -2,16 +2,16 @@
 use native.Mathlib.Omega.{arith}
 use mathlib.Core.Path.{refl, sym, ◌∙◌}
 use Rattle.writer.specs.Item.{body_of}
-use Rattle.writer.proofs.Puts.{row_some, row_none, row_size, put_none, put_then, put_length, head_length, field_head}
+use Rattle.writer.proofs.Puts.{row_some, row_none, row_size, row_short, put_none, put_then, put_length, head_length, field_head}
 use Rattle.writer.proofs.small.Writer.put_row.Goals as goal
 
 pub size-requires : goal.size-requires
-size-requires c = omega (arith, c.requires.0, row_size c.args.row c.in-Some.is)
+size-requires c = row_short c.args.row c.in-Some.is c.requires.0
 
 pub put_head-requires : goal.put_head-requires
 put_head-requires c =
     let size = row_size c.args.row c.in-Some.is in
-    (omega (arith, c.requires.0, size, c.size.ensures), omega (arith, c.requires.1, size))
+    (omega (arith, row_short c.args.row c.in-Some.is c.requires.0, c.size.ensures), omega (arith, c.requires.1, size))
 
 pub put_body-requires : goal.put_body-requires
 put_body-requires c =

@@ -11,9 +11,8 @@ use borrow.Author.Tests.{eq-eqb, eqb-true}
 use Rattle.text.proofs.Places.{clash, first_is, first_free}
 use Rattle.text.specs.Place.{first_byte, is_at}
 use Rattle.units.specs.declared.Framing.{Framing}
-use Rattle.units.specs.declared.growing.LineEnd.{LineEnd}
 use Rattle.units.specs.Units.{marked, stated, Whole, Open, Rest, Sofar}
-use Rattle.units.specs.Feeding.{between, LineEnds, end_by, is_found}
+use Rattle.units.specs.Feeding.{between, LineEnd, LineEnds, end_in, end_by, is_found}
 use Rattle.units.specs.Counting.{UnitEnds, RecordEnds}
 use Rattle.units.proofs.Firsts.{record_take, states_three, stated_take}
 use Rattle.units.proofs.Streams.{whole_some, no_open, one_first_unit}
@@ -60,6 +59,10 @@ module _ (f : Framing) where
       counting_stops q us v so =
           let a = x.counts us v so in
           omega (arith, a.1.0, ap length (none_ended (Rest.some (y.open_is q)) a.1.1))
+
+    pub counting_fails : (o : Option ℕ) → ((k : ℕ) → o ≡ Some k → ⊥) → UnitEnds f s at (end_in s o) → (us : List (List ℕ)) (v : List ℕ) → Sofar f s us v → n ≡ length us
+    counting_fails None h y = counting_stops _ y refl
+    counting_fails (Some k) h y = absurd (h k refl)
 
     pub counting_ends : length s ≤ at → (us : List (List ℕ)) (v : List ℕ) → Sofar f s us v → n ≡ length us
     counting_ends h us v so =

@@ -1,5 +1,6 @@
 -- A line up to its newline, else to the part's end: the first 4,097 bytes of it are kept. Assumes nothing.
-use Rattle.std.specs.Prelude.{None, Option, Some}
+use Rattle.std.specs.Prelude.{None, Option, Some, is_some}
+use Rattle.std.specs.Option.{unwrap_or}
 use Prim.Native.Nat.{ℕ, zero, suc, min, ◌+◌, ◌-◌, ◌≤◌, ◌<◌}
 use mathlib.Core.Path.{◌≡◌, refl, sym, ap, subst, ◌∙◌}
 use mathlib.Core.Bool.{Bool, true, false}
@@ -14,10 +15,9 @@ use Rattle.print.specs.Put.{Placed}
 use Rattle.units.specs.declared.Framing.{Framing}
 use Rattle.units.specs.declared.Unit.TheVariants as U
 use Rattle.units.specs.declared.Fed as F
-use Rattle.units.specs.declared.growing.LineEnd.{LineEnd}
 use Rattle.units.specs.Units.{marked, is_record, Bare, Whole, Open, Rest}
 use Rattle.units.specs.Kept.{kept_text, stood, Keeps}
-use Rattle.units.specs.Feeding.{between, wants_at, ends_at, Answered, FedOn, first_of, LineEnds, end_by, is_found}
+use Rattle.units.specs.Feeding.{between, wants_at, ends_at, Answered, FedOn, first_of, LineEnd, LineEnds, end_in, end_by, is_found}
 use Rattle.units.proofs.Firsts.{record_some, record_append}
 use Rattle.units.proofs.WhatIsKept.{line_kept, kept_first, nothing_kept, length_between, Added, placed_added, added_stands}
 
@@ -154,6 +154,11 @@ module _ (f : Framing) (s : List ℕ) (from : ℕ) (near : from ≤ length s) (r
                 Answered.ends (Whole.line (length u + (j - from)) no_record (omega (arith, w_length, at_is, x.from)) b y)
                 (ap (λ (n : ℕ). ends_at e.at (U.Text n)) (stands.1 ∙ ap length (line_kept f w no_record).0) ∙ ap (ends_at e.at) (sym (line_kept f w no_record).2));
           }
+
+-- the place and the sign that are read off an end
+pub ends_found : (s : List ℕ) (from : ℕ) (o : Option ℕ) (at : ℕ) (whole : Bool) → LineEnds s from (end_in s o) → at ≡ unwrap_or o (length s) → whole ≡ is_some o → LineEnds s from (record { at = at; whole = whole })
+ends_found s from None at whole x a w = rw (a, w) x
+ends_found s from (Some k) at whole x a w = rw (a, w) x
 
 -- the end of a line, by its first newline
 module _ (s : List ℕ) (from : ℕ) where

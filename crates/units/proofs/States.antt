@@ -1,10 +1,11 @@
 -- The test of 53 is right both ways: what passes is one of the cases, each case is left by some stream, and what a stream leaves passes.
 -- Assumes nothing.
-use Rattle.std.specs.Prelude.{None, Option, Some}
+use Rattle.std.specs.Prelude.{None, Option, Some, is_some}
 use Prim.Native.Nat.{ℕ, ◌+◌, ◌-◌, ◌≤◌, ◌<◌}
 use mathlib.Core.Path.{◌≡◌, refl, sym, ap, subst, ◌∙◌}
-use mathlib.Core.Bool.{Bool, true, false, cond}
+use mathlib.Core.Bool.{Bool, true, false, cond, not}
 use mathlib.Core.List.{List, [], ◌++◌, append-nil}
+use mathlib.Core.Logic.{◌⊎◌, inl, inr}
 use native.Mathlib.Omega.{arith}
 use lib.Dec.{eqb, ltb, leb}
 use lib.ListN.{length, get_or, take, drop, replicate, length-append, length-take, length-replicate, get_or-append, get_or-eq_default}
@@ -38,6 +39,12 @@ module _ (l : List ℕ) where
   pub line_free : length l ≤ 4097 → first_byte 10 l 0 ≡ None → true ≡ line_left l
   unfolding none_found line_left
   line_free h e = rw (e, le-leb _ _ h)
+
+  pub line_none : length l ≤ 4097 → (o : Option ℕ) → o ≡ first_byte 10 l 0 → (b : Bool) → is_some o ≡ not b → b ≡ line_left l
+  line_none h None e true q = line_free h (sym e)
+  line_none h None e false q = absurd (clash q refl)
+  line_none h (Some k) e true q = absurd (clash refl q)
+  line_none h (Some k) e false q = line_found (sym e)
 
   less_three : (passed n : ℕ) → 3 ≤ n → ltb passed (n - 3) ≡ ltb (3 + passed) n
   less_three passed n h = go (ltb (3 + passed) n) refl
@@ -124,6 +131,10 @@ module _ (f : Framing) (rest : List ℕ) (held passed : ℕ) where
   pub kept_far : length rest ≡ 8192 → 8192 < held → false ≡ is_kept f rest held passed
   unfolding is_kept
   kept_far n h = rw (n, lt-leb _ _ h)
+
+  pub kept_past : length rest ≡ 8192 → ((length rest ≡ 8192) × (8192 < held)) ⊎ (length rest ≡ 8192 → ⊥) → leb held 8192 ≡ is_kept f rest held passed
+  kept_past n (inl x) = lt-leb _ _ x.1 ∙ kept_far n x.1
+  kept_past n (inr x) = absurd (x n)
 
   pub kept_by : length rest ≡ 8192 → held ≤ 8192 → is_left f (take held rest) passed ≡ is_kept f rest held passed
   unfolding is_kept

@@ -1,9 +1,8 @@
 -- How many units have ended.
 use Rattle.std.specs.Prelude.{ℕ, ◌+◌, ◌-◌, ◌≤◌, ◌<◌, ◌≡◌, true, false, List, length, drop}
 use Rattle.units.specs.declared.Framing.{Framing}
-use Rattle.units.specs.declared.growing.LineEnd.{LineEnd}
 use Rattle.units.specs.Units.{stated, Whole, Open, Sofar}
-use Rattle.units.specs.Feeding.{between}
+use Rattle.units.specs.Feeding.{between, LineEnd}
 
 -- HOW MANY UNITS HAVE ENDED in a stream that came so far
 abbrev pub Ended : Framing → List ℕ → ℕ → Type 0

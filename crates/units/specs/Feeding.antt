@@ -6,7 +6,6 @@ use Rattle.units.specs.declared.State.{State}
 use Rattle.units.specs.declared.Unit as UnitModule
 use Rattle.units.specs.declared.Unit.TheVariants as U
 use Rattle.units.specs.declared.Fed as FedModule
-use Rattle.units.specs.declared.growing.LineEnd.{LineEnd}
 use Rattle.units.specs.Units.{is_record, stated, Whole, Rest}
 use Rattle.units.specs.Kept.{most, is_long, kept_text, kept_count, stood, Keeps, is_kept}
 
@@ -84,6 +83,16 @@ is_found None = false
 unfoldable pub end_by : List ℕ → Option ℕ → ℕ
 end_by s (Some k) = k + 1
 end_by s None = length s
+
+-- where a unit ends or the part does, and whether the unit ends there
+pub record LineEnd : Type 0 where
+  pub at : ℕ
+  pub whole : Bool
+
+-- a part in which the unit does not end is all of it
+abbrev pub end_in : List ℕ → Option ℕ → LineEnd
+end_in s (Some at) = record { at = at; whole = true }
+end_in s None = record { at = length s; whole = false }
 
 pub record LineEnds (s : List ℕ) (from : ℕ) (e : LineEnd) : Type 0 where
   pub up : from ≤ e.at

@@ -1,19 +1,12 @@
 // The open unit with the bytes that a part has of it.
-ghost use Rattle.std.specs.Prelude.{◌≡◌, true, false, min, ◌≤◌, ◌<◌, length};
+ghost use Rattle.std.specs.Prelude.{◌≡◌, true, false, ◌≤◌, ◌<◌, length};
 ghost use Rattle.units.specs.Units.{marked};
-ghost use Rattle.units.specs.Feeding.{Ready, BodyFed, FedFor, LineEnds, first_of, wants_at, ends_at};
+ghost use Rattle.units.specs.Feeding.{Ready, BodyFed, FedFor, LineEnds, first_of, wants_at, ends_at, end_in};
 
 use crate::keeping::stated;
 use crate::{Fed, Framing, State, Unit};
 use print::put::put;
 use text::place::first;
-
-// Where a line ends in a part, or that the part has not its end. `whole` is no absence: the place stands either way.
-#[derive(Clone, Copy)]
-pub struct LineEnd {
-    pub at: usize,
-    pub whole: bool,
-}
 
 // A record's first three bytes, and on. Asked for: that the unit is a record of which fewer than three are held, which
 // `feed_on` has seen.
@@ -21,7 +14,7 @@ pub fn head_on(framing: Framing, part: &[u8], from: usize, rest: &mut [u8], held
     requires { (from ≤ length part.now) × (length rest.old ≡ 8192) × (held < 3) × (marked framing (first_of part.now from rest.old held) ≡ true) }
     ensures { BodyFed framing part.now from rest.old held 0 rest.new result }
 {
-    let more = least(part.len() - from, 3 - held);
+    let more = (part.len() - from).min(3 - held);
     let to = from + more;
     let now = put(rest, held, &part[from..to]);
     if now < 3 {
@@ -44,14 +37,14 @@ pub fn body_on(
 {
     let size = stated(rest);
     if 5227 < size {
-        let more = least(part.len() - from, size - 3 - passed);
+        let more = (part.len() - from).min(size - 3 - passed);
         let now = passed + more;
         if 3 + now < size {
             return wants(from + more, 3, now);
         }
         return ends(from + more, Unit::Long);
     }
-    let more = least(part.len() - from, size - held);
+    let more = (part.len() - from).min(size - held);
     let to = from + more;
     let now = put(rest, held, &part[from..to]);
     if now < size {
@@ -66,31 +59,23 @@ pub fn line_on(framing: Framing, part: &[u8], from: usize, rest: &mut [u8], held
     ensures { FedFor framing part.now from rest.old held 0 rest.new result }
 {
     let end = line_end(part, from);
-    let at = end.at;
-    let count = least(at - from, 4097 - held);
+    let at = end.unwrap_or(part.len());
+    let count = (at - from).min(4097 - held);
     let to = from + count;
     let now = put(rest, held, &part[from..to]);
-    if end.whole {
+    if end.is_some() {
         return ends(at, Unit::Text(now));
     }
     wants(at, now, 0)
 }
 
 // Behind the first newline.
-pub fn line_end(part: &[u8], from: usize) -> LineEnd
+pub fn line_end(part: &[u8], from: usize) -> Option<usize>
     requires { from ≤ length part.now }
-    ensures { LineEnds part.now from result }
+    ensures { LineEnds part.now from (end_in part.now result) }
 {
-    match first(part, b'\n', from) {
-        Some(k) => LineEnd {
-            at: k + 1,
-            whole: true,
-        },
-        None => LineEnd {
-            at: part.len(),
-            whole: false,
-        },
-    }
+    let newline = first(part, b'\n', from)?;
+    Some(newline + 1)
 }
 
 // No unit ended: what is kept of it.
@@ -98,11 +83,8 @@ fn wants(at: usize, held: usize, passed: usize) -> Fed
     ensures { result ≡ wants_at at held passed }
 {
     Fed {
-        at: at,
-        state: State {
-            held: held,
-            passed: passed,
-        },
+        at,
+        state: State { held, passed },
         unit: Unit::Open,
     }
 }
@@ -112,17 +94,8 @@ fn ends(at: usize, unit: Unit) -> Fed
     ensures { result ≡ ends_at at unit }
 {
     Fed {
-        at: at,
+        at,
         state: State { held: 0, passed: 0 },
-        unit: unit,
+        unit,
     }
-}
-
-fn least(a: usize, b: usize) -> usize
-    ensures { result ≡ min a b }
-{
-    if a < b {
-        return a;
-    }
-    b
 }

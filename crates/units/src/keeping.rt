@@ -20,48 +20,25 @@ pub fn marks(framing: Framing, first: u8) -> bool
 pub fn stated(unit: &[u8]) -> usize
     ensures { (result ≡ statedOf unit.now) × (result ≤ 65538) }
 {
-    let low = byte_at(unit, 1);
-    let high = byte_at(unit, 2);
-    3 + (wide(low) + 256 * wide(high))
-}
-
-fn wide(b: u8) -> usize
-    ensures { (result ≡ b) × (result ≤ 255) }
-{
-    b as usize
+    3 + usize::from(u16::from_le_bytes([byte_at(unit, 1), byte_at(unit, 2)]))
 }
 
 // Does a stream leave this of its open unit, with so many bytes passed?
 pub fn is_left(framing: Framing, kept: &[u8], passed: usize) -> bool
     ensures { result ≡ is_left framing kept.now passed }
 {
-    if marks(framing, byte_at(kept, 0)) {
-        let size = stated(kept);
-        if 5227 < size {
-            if kept.len() == 3 {
-                return passed < size - 3;
-            }
-            return false;
-        }
-        if passed == 0 {
-            return kept.len() < size;
-        }
-        return false;
+    if !marks(framing, byte_at(kept, 0)) {
+        return passed == 0 && line_left(kept);
     }
-    if passed == 0 {
-        return line_left(kept);
+    let size = stated(kept);
+    if 5227 < size {
+        return kept.len() == 3 && passed < size - 3;
     }
-    false
+    passed == 0 && kept.len() < size
 }
 
 fn line_left(kept: &[u8]) -> bool
     ensures { result ≡ line_left kept.now }
 {
-    if 4097 < kept.len() {
-        return false;
-    }
-    match first(kept, b'\n', 0) {
-        Some(k) => false,
-        None => true,
-    }
+    kept.len() <= 4097 && first(kept, b'\n', 0).is_none()
 }

@@ -22,7 +22,7 @@ use crate::keeping::{is_left, marks, stated};
 use text::place::byte_at;
 
 // What a stream is made of: lines alone, whatever they start with; or lines and records, which start with A1.
-#[derive(Clone, Copy)]
+#[derive(Clone, Copy, Debug, PartialEq, Eq)]
 pub enum Framing {
     Lines,
     Both,
@@ -30,7 +30,7 @@ pub enum Framing {
 
 // How many bytes of the open unit stand in the buffer; and of a record that says too much how many behind its third were passed over, else 0.
 #[repr(C)]
-#[derive(Clone, Copy)]
+#[derive(Clone, Copy, Debug, PartialEq, Eq)]
 pub struct State {
     pub held: usize,
     pub passed: usize,
@@ -38,7 +38,7 @@ pub struct State {
 
 // What ended: a unit with so many of its bytes in the buffer, to be read; a record that says too much; another that the end cuts; or nothing. Or no
 // stream leaves what was lent.
-#[derive(Clone, Copy)]
+#[derive(Clone, Copy, Debug, PartialEq, Eq)]
 pub enum Unit {
     Text(usize),
     Long,
@@ -48,7 +48,7 @@ pub enum Unit {
 }
 
 // Up to where the part was read, what is kept for the next call, and the unit.
-#[derive(Clone, Copy)]
+#[derive(Clone, Copy, Debug, PartialEq, Eq)]
 pub struct Fed {
     pub at: usize,
     pub state: State,
@@ -66,7 +66,7 @@ pub fn feed(framing: Framing, state: State, part: &[u8], from: usize, rest: &mut
     }
     Fed {
         at: from,
-        state: state,
+        state,
         unit: Unit::Alien,
     }
 }
@@ -112,7 +112,7 @@ pub fn finish(framing: Framing, state: State, rest: &[u8]) -> Unit
 fn end_unit(framing: Framing, kept: &[u8]) -> Unit
     ensures { result ≡ end_unit framing kept.now }
 {
-    if kept.len() == 0 {
+    if kept.is_empty() {
         return Unit::Open;
     }
     if marks(framing, byte_at(kept, 0)) {
@@ -129,28 +129,21 @@ pub fn is_kept(framing: Framing, state: State, rest: &[u8]) -> bool
     ensures { result ≡ is_kept framing rest.now state.held state.passed }
 {
     let held = state.held;
-    if rest.len() != 8192 {
-        return false;
-    }
-    if 8192 < held {
-        return false;
-    }
-    is_left(framing, &rest[..held], state.passed)
+    rest.len() == 8192 && held <= 8192 && is_left(framing, &rest[..held], state.passed)
 }
 
 // How many units have ended in a stream that came so far. A loop of its own: each end says where the next unit begins.
 pub fn units_in(framing: Framing, s: &[u8]) -> usize
     ensures { Ended framing s.now result }
 {
-    let mut n: usize = 0;
-    let mut at: usize = 0;
+    let mut n = 0;
+    let mut at = 0;
     while at < s.len() {
-        let end = unit_end(framing, s, at);
-        if !end.whole {
-            return n;
-        }
+        let Some(end) = unit_end(framing, s, at) else {
+            break;
+        };
         n += 1;
-        at = end.at;
+        at = end;
     }
     n
 }

@@ -4,11 +4,11 @@ use mathlib.Core.Path.{sym, ◌∙◌}
 use native.Mathlib.Omega.{arith}
 use Rattle.units.proofs.growing.line_end.Goals as goal
 
+pub returns-in_err-newline : goal.returns-in_err-newline
+returns-in_err-newline c = rw c.from_residual.ensures (line_not _ _ c.requires (sym c.first.ensures ∙ c.in_err-newline.was))
+
 pub overflow_add-result : goal.overflow_add-result
-overflow_add-result c = omega (arith, (newline_within _ _ (sym c.first.ensures ∙ c.in-Some.is)).1)
+overflow_add-result c = omega (arith, (newline_within _ _ (sym c.first.ensures ∙ c.in_ok-newline.was)).1)
 
-pub returns-in-Some : goal.returns-in-Some
-returns-in-Some c = line_whole _ _ (sym c.first.ensures ∙ c.in-Some.is)
-
-pub returns-in-None : goal.returns-in-None
-returns-in-None c = line_not _ _ c.requires (sym c.first.ensures ∙ c.in-None.is)
+pub returns : goal.returns
+returns c = line_whole _ _ (sym c.first.ensures ∙ c.in_ok-newline.was)

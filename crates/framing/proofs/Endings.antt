@@ -152,8 +152,8 @@ module _ (s : List ℕ) (from : ℕ) (h : List ℕ) (some : from < length s) whe
     unfolding stated_size
     no_mark n = rw (enough, ne_eqb _ _ n)
 
-    pub stated : get_or (h ++ drop from s) 0 0 ≡ 0xA1 → {low high : ℕ} → low ≡ get_or (h ++ drop from s) 1 0 → high ≡ get_or (h ++ drop from s) 2 0 → low < 256 → high < 256 → 3 + low + 256 * high ≡ stated_size (h ++ drop from s)
+    pub stated : get_or (h ++ drop from s) 0 0 ≡ 0xA1 → {low high : ℕ} → low ≡ get_or (h ++ drop from s) 1 0 → high ≡ get_or (h ++ drop from s) 2 0 → low < 256 → high < 256 → {word : ℕ} → word ≡ low + 256 * high → 3 + word ≡ stated_size (h ++ drop from s)
     unfolding stated_size
-    stated m {low} {high} a b l k =
+    stated m {low} {high} a b l k w =
         let least : min (low + 256 * high) 65535 ≡ low + 256 * high = omega arith in
         rw (enough, eq-eqb _ _ m, ← a, ← b, least) (omega arith)

@@ -97,9 +97,9 @@ fn open_size(part: &[u8], from: usize, held: &[u8]) -> usize
     if !has_three(part, from, held) || open_byte(part, from, held, 0) != 0xA1 {
         return 0;
     }
-    let low = open_byte(part, from, held, 1) as usize;
-    let high = open_byte(part, from, held, 2) as usize;
-    3 + low + 256 * high
+    let low = open_byte(part, from, held, 1);
+    let high = open_byte(part, from, held, 2);
+    3 + usize::from(u16::from_le_bytes([low, high]))
 }
 
 // The open unit has three bytes, of which the part has the last ones.

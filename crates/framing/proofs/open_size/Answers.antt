@@ -14,4 +14,4 @@ returns-then-not-has_three c =
 
 pub returns : goal.returns
 returns c =
-    stated c.args.part.now c.args.from c.args.held.now c.requires (search rules) (sym c.open_byte.ensures ∙ c.if-open_byte.false) c.open_byte-low.ensures c.open_byte-high.ensures (search rules) (search rules)
+    stated c.args.part.now c.args.from c.args.held.now c.requires (search rules) (sym c.open_byte.ensures ∙ c.if-open_byte.false) c.open_byte-low.ensures c.open_byte-high.ensures (search rules) (search rules) (search rules)

@@ -70,7 +70,7 @@ whole_by (P.Show p) e x = absurd (clash refl (sym (ap is_ok e)))
 pub kept_after : (s r : Moving) (unit : List ℕ) → Roomy s r → Keeps unit s → Keeps unit r
 kept_after s r unit x k = rw (x.program, x.state) k
 
-pub kept_begun : (r : Moving) (unit : List ℕ) → length unit ≡ 8192 → Begun r → Keeps unit r
+pub kept_begun : {p : Program} (r : Moving) (unit : List ℕ) → length unit ≡ 8192 → Begun p r → Keeps unit r
 kept_begun r unit size b = rw (b.held, b.passed) (begun_kept (framing_by r.program) unit size)
 
 -- ---- what is shown

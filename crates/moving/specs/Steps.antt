@@ -1,14 +1,16 @@
 -- What each step makes of where a program stands, field by field, so that no fault and no count is lost on the way.
-use Rattle.std.specs.Prelude.{ℕ, ◌+◌, ◌-◌, ◌^◌, ◌≤◌, ◌<◌, min, ◌≡◌, Bool, true, false, cond, List, length, take, Option, Some, None, is_some, Result, Ok, Err}
+use Rattle.std.specs.Prelude.{ℕ, ◌+◌, ◌-◌, ◌^◌, ◌≤◌, ◌<◌, min, ◌≡◌, Bool, true, false, cond, List, length, take, Option, Some, None, is_some, Result, Ok, Err, is_ok}
 use Rattle.units.specs.declared.Unit as UnitModule
 use Rattle.units.specs.declared.Unit.TheVariants as U
 use Rattle.channel.specs.declared.fault.Fault.{Fault}
 use Rattle.units.specs.Kept.{is_kept}
-use Rattle.moving.specs.Programs.{framing_by, WholeIn}
+use Rattle.moving.specs.declared.program.Program.{Program}
+use Rattle.moving.specs.Programs.{filter_by, framing_by, WholeIn}
 use Rattle.moving.specs.declared.moving.Moving.{Moving}
 
--- before the first read: nothing held, waiting or counted, and no fault
-pub record Begun (r : Moving) : Type 0 where
+-- before the first read: this program, nothing held, waiting or counted, and no fault
+pub record Begun (p : Program) (r : Moving) : Type 0 where
+  pub program : r.program ≡ p
   pub from : r.run.from ≡ 0
   pub held : r.run.state.held ≡ 0
   pub passed : r.run.state.passed ≡ 0
@@ -75,9 +77,15 @@ pub record Ending (s : Moving) : Type 0 where
   pub out_room : s.run.at + 5400 ≤ length s.out.now
   pub told_room : s.run.told + 400 ≤ length s.told.now
 
+-- the program stands, and a write to standard error that failed is not forgotten
+pub record Lasting (s r : Moving) : Type 0 where
+  pub program : r.program ≡ s.program
+  pub untold : s.untold ≡ true → r.untold ≡ true
+
 -- room was made, and the part is where it was
 pub record Roomy (s r : Moving) : Type 0 where
   pub program : r.program ≡ s.program
+  pub untold : s.untold ≡ true → r.untold ≡ true
   pub from : r.run.from ≡ s.run.from
   pub state : r.run.state ≡ s.run.state
   pub ending : Ending r
@@ -87,10 +95,14 @@ pub record Ready (part : ℕ) (s : Moving) : Type 0 where
   pub from : s.run.from < part
   pub ending : Ending s
 
--- some of the part was taken
+-- some of the part was taken: a filter writes nothing, so what is counted and the fault of a write are as they were
 pub record Went (part : ℕ) (s r : Moving) : Type 0 where
   pub up : s.run.from < r.run.from
   pub within : r.run.from ≤ part
+  pub program : r.program ≡ s.program
+  pub untold : r.untold ≡ s.untold
+  pub whole : is_ok (filter_by s.program) ≡ true → r.whole ≡ s.whole
+  pub unwritten : is_ok (filter_by s.program) ≡ true → r.unwritten ≡ s.unwritten
 
 -- a unit was cut off: in the other cases none has ended
 unfoldable pub is_cut : UnitModule.Unit → Bool
@@ -107,6 +119,8 @@ pub record Shown (cut : UnitModule.Unit) (s r : Moving) : Type 0 where
   pub from : r.run.from ≡ s.run.from
   pub state : r.run.state ≡ s.run.state
   pub told_at_is : r.run.told ≡ s.run.told
+  pub untold : r.untold ≡ s.untold
+  pub uncut : is_cut cut ≡ false → r ≡ s
 
 -- the status at the end: 0 where no write and no read failed
 unfoldable pub end_status : Option Fault → Result (Prim.Unit {0}) Fault → Bool → ℕ

@@ -38,7 +38,7 @@ pub struct Moving<'a> {
 
 impl<'a> Moving<'a> {
     ghost use Rattle.std.specs.Process.{exit_status};
-    ghost use Rattle.moving.specs.Steps.{Begun, Keeps, Ready, Went, Shown, end_status};
+    ghost use Rattle.moving.specs.Steps.{Begun, Keeps, Lasting, Ready, Went, Shown, end_status};
 
     // Before the first read.
     pub fn new(
@@ -49,7 +49,7 @@ impl<'a> Moving<'a> {
         told: &'a mut [u8],
     ) -> Moving<'a>
         requires { (5400 ≤ length out.old) × (400 ≤ length told.old) }
-        ensures { Begun result }
+        ensures { Begun program result }
     {
         let run = Run {
             from: 0,
@@ -74,6 +74,7 @@ impl<'a> Moving<'a> {
     // Part after part to the end of the input; after a write that failed nothing more is read. No input lasts for all the turns.
     pub fn read_all(&mut self, input: &mut [u8], unit: &mut [u8]) -> Result<(), Fault>
         requires { Keeps unit.old self.old }
+        ensures { Lasting self.old self.new }
     {
         let mut from = self.to.input;
         for _ in 0..u64::MAX {
@@ -92,7 +93,8 @@ impl<'a> Moving<'a> {
     // All of it, with room made where too little is left.
     fn take_part(&mut self, part: &[u8], unit: &mut [u8])
         requires { Keeps unit.old self.old }
-        ensures { Keeps unit.new self.new }
+        ensures kept { Keeps unit.new self.new }
+        ensures lasting { Lasting self.old self.new }
     {
         self.run.from = 0;
         while self.run.from < part.len() && self.unwritten.is_none() {
@@ -125,6 +127,7 @@ impl<'a> Moving<'a> {
     // What is open still, and the totals. A last unit that has not ended counts if it has a byte.
     fn end(&mut self, unit: &[u8])
         requires { Keeps unit.now self.old }
+        ensures { Lasting self.old self.new }
     {
         self.make_room();
         let run = self.run;

@@ -1,13 +1,14 @@
 -- `Moving::show` meets its contract: a unit that was cut off is counted. Assumes nothing.
 use borrow.Author.Rules.{rules}
-use mathlib.Core.Path.{refl}
+use mathlib.Core.Path.{refl, sym, ◌∙◌}
 use native.Mathlib.Omega.{arith}
+use Rattle.text.proofs.Places.{clash}
 use Rattle.moving.proofs.Places.{cut_counts, none_counts}
 use Rattle.moving.proofs.moving.Moving.show.Goals as goal
 
 pub returns-then-not-is_cut : goal.returns-then-not-is_cut
 returns-then-not-is_cut c =
-    record { counts_are = none_counts _ c.is_cut.ensures (search rules); program = refl; from = refl; state = refl; told_at_is = refl }
+    record { counts_are = none_counts _ c.is_cut.ensures (search rules); program = refl; from = refl; state = refl; told_at_is = refl; untold = refl; uncut = λ e. refl }
 
 pub invariant_of-self : goal.invariant_of-self
 invariant_of-self c =
@@ -15,4 +16,4 @@ invariant_of-self c =
 
 pub returns : goal.returns
 returns c =
-    record { counts_are = cut_counts _ _ c.is_cut.ensures (search rules) c.saturating_add-units.ensures; program = refl; from = refl; state = refl; told_at_is = refl }
+    record { counts_are = cut_counts _ _ c.is_cut.ensures (search rules) c.saturating_add-units.ensures; program = refl; from = refl; state = refl; told_at_is = refl; untold = refl; uncut = λ e. absurd (clash (sym c.is_cut.ensures ∙ c.if-not-is_cut.false) e) }

@@ -1,6 +1,8 @@
 -- `Moving::step` meets its contract: what a filter took, or one step of the stream and what is shown of the unit that it ends. Assumes nothing.
 use Rattle.moving.proofs.Places.{framing_both}
-use mathlib.Core.Path.{sym, ◌∙◌}
+use mathlib.Core.Path.{sym, ap, ◌∙◌}
+use Rattle.std.specs.Prelude.{is_ok}
+use Rattle.text.proofs.Places.{clash}
 use native.Mathlib.Omega.{arith}
 use Rattle.moving.proofs.moving.Moving.step.Goals as goal
 
@@ -14,7 +16,7 @@ show-requires c = c.next_unit-fed.ensures.fits
 
 pub returns-in-Err-clause-went : goal.returns-in-Err-clause-went
 returns-in-Err-clause-went c =
-    record { up = omega (arith, c.next_unit-fed.ensures.on, c.show.ensures.from); within = omega (arith, c.next_unit-fed.ensures.on, c.show.ensures.from) }
+    record { up = omega (arith, c.next_unit-fed.ensures.on, c.show.ensures.from); within = omega (arith, c.next_unit-fed.ensures.on, c.show.ensures.from); program = c.show.ensures.program; untold = c.show.ensures.untold; whole = λ h. absurd (clash h (ap is_ok (sym c.filter.ensures ∙ c.in-Err.is))); unwritten = λ h. absurd (clash h (ap is_ok (sym c.filter.ensures ∙ c.in-Err.is))) }
 
 pub returns-in-Err-clause-kept : goal.returns-in-Err-clause-kept
 returns-in-Err-clause-kept c =

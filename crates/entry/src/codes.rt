@@ -5,6 +5,7 @@ ghost use Rattle.entry.specs.declared.events.Event.TheVariants.{Unknown};
 ghost use Rattle.entry.specs.Event.{event_of, name_at, padded};
 
 use crate::events::{Event, Name};
+use text::copy::copy;
 
 // What a code stands for, and the name that it prints.
 #[derive(Clone, Copy, Debug, PartialEq, Eq, Hash)]
@@ -96,6 +97,6 @@ fn pad(s: &[u8]) -> Name
 {
     let len = s.len();
     let mut bytes = [0; 14];
-    bytes[..len].copy_from_slice(s);
+    copy(s, &mut bytes[..len]);
     Name { bytes, len }
 }

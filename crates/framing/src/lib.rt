@@ -7,6 +7,7 @@ ghost use Rattle.framing.specs.declared.Framing.TheVariants as F;
 ghost use Rattle.framing.specs.Units.{stated_size};
 ghost use Rattle.framing.specs.Feeding.{Fed as FedBy, Ends, end_of, units_in};
 
+use text::copy::copy;
 use text::place::{byte_at, first};
 
 // How a stream is cut: a line ends with its newline, a record where its length says.
@@ -35,7 +36,7 @@ pub fn feed(framing: Framing, part: &[u8], from: usize, unit: &mut [u8], held: u
     let end = unit_end(framing, part, from, &unit[..held]);
     let at = end.unwrap_or(part.len());
     let count = (at - from).min(unit.len() - held);
-    unit[held..held + count].copy_from_slice(&part[from..from + count]);
+    copy(&part[from..from + count], &mut unit[held..held + count]);
     Fed {
         at,
         held: held + count,

@@ -47,7 +47,7 @@ pub fn copy(dwords: &[u32], slots: &mut [u32])
     requires { length dwords.now ≤ length slots.old }
     ensures { slots.new ≡ filled dwords.now slots.old }
 {
-    slots[..dwords.len()].copy_from_slice(dwords);
+    text::copy::copy(dwords, &mut slots[..dwords.len()]);
 }
 
 // Is a line refused, by whether a piece of its data is bad?

@@ -5,6 +5,7 @@
 
 mod block;
 pub mod class;
+pub mod copy;
 pub mod number;
 pub mod place;
 pub mod run;

@@ -2,11 +2,13 @@
 ghost use Rattle.std.specs.Prelude.{◌+◌, ◌≤◌, length};
 ghost use Rattle.writer.specs.Put.{Put};
 
+use text::copy::copy;
+
 pub(crate) fn put(out: &mut [u8], at: usize, bytes: &[u8]) -> usize
     requires { at + length bytes.now ≤ length out.old }
     ensures { Put out.old at bytes.now result out.new }
 {
     let end = at + bytes.len();
-    out[at..end].copy_from_slice(bytes);
+    copy(bytes, &mut out[at..end]);
     end
 }

@@ -3,4 +3,4 @@ use Rattle.entry.proofs.Pads.{copied}
 use Rattle.entry.proofs.codes.pad.Goals as goal
 
 pub returns : goal.returns
-returns c = copied _ (rw c.copy_from_slice.ensures.after)
+returns c = copied _ (rw c.copy.ensures)

@@ -2,21 +2,13 @@
 use Prim.Native.Nat.{ℕ}
 use mathlib.Core.Path.{◌∙◌}
 use mathlib.Core.List.{List, [], ◌∷◌}
-use Rattle.print.specs.declared.page.Page.{Page}
-use Rattle.print.specs.Page.{Puts}
-use Rattle.channel.specs.Sentence.{buffer_by, place_by, LaidOn}
+use Rattle.print.specs.Put.{Placed}
+use Rattle.channel.specs.Sentence.{buffer_by, place_by, Laid}
 
-pub laid_next : {p q r : Page} {s : List ℕ} {ss : List (List ℕ)} → Puts p s q → LaidOn q ss r → LaidOn p (s ∷ ss) r
+pub laid_next : {out mid exit s : List ℕ} {at p r : ℕ} {ss : List (List ℕ)} → Placed out at s mid p → Laid mid p ss exit r → Laid out at (s ∷ ss) exit r
 unfolding buffer_by place_by
-laid_next x y =
-    record {
-      laid = record {
-        buffer = y.laid.buffer ∙ rw (x.placed.buffer, x.placed.place);
-        place = y.laid.place ∙ rw (x.placed.buffer, x.placed.place);
-      };
-      same = y.same ∙ x.same;
-    }
+laid_next {ss = ss} x y = record { buffer = y.buffer ∙ rw (x.buffer, x.place); place = y.place ∙ rw (x.buffer, x.place) }
 
-pub laid_last : {p q : Page} {s : List ℕ} → Puts p s q → LaidOn p (s ∷ []) q
+pub laid_last : {out exit s : List ℕ} {at r : ℕ} → Placed out at s exit r → Laid out at (s ∷ []) exit r
 unfolding buffer_by place_by
-laid_last x = record { laid = record { buffer = x.placed.buffer; place = x.placed.place }; same = x.same }
+laid_last x = record { buffer = x.buffer; place = x.place }

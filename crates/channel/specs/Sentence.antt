@@ -1,6 +1,5 @@
 -- The sentence that tells a fault.
 use Rattle.std.specs.Prelude.{ℕ, ◌≡◌, cond, List, [], ◌∷◌, eqb}
-use Rattle.print.specs.declared.page.Page.{Page}
 use Rattle.text.specs.Decimal.{decimal_text}
 use Rattle.text.specs.Quote.{bytes}
 use Rattle.print.specs.Put.{buffer_after, place_after}
@@ -19,11 +18,6 @@ place_by out at (s ∷ ss) = place_by (buffer_after out at s) (place_after out a
 pub record Laid (out : List ℕ) (at : ℕ) (ss : List (List ℕ)) (exit : List ℕ) (r : ℕ) : Type 0 where
   pub buffer : exit ≡ buffer_by out at ss
   pub place : r ≡ place_by out at ss
-
--- likewise on a page; the buffer is the one that was lent
-pub record LaidOn (p : Page) (ss : List (List ℕ)) (q : Page) : Type 0 where
-  pub laid : Laid p.out.now p.at ss q.out.now q.at
-  pub same : q.out.ghost_name ≡ p.out.ghost_name
 
 -- the reason behind an error's number, where it has words here
 unfoldable pub reason_of : ℕ → List ℕ

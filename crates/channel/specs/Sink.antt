@@ -1,8 +1,10 @@
--- Texts that wait on a page, and rows that were written whole.
-use Rattle.std.specs.Prelude.{ℕ, ◌+◌, ◌-◌, ◌^◌, ◌≤◌, ◌<◌, min, ◌≡◌, true, cond, List, [], ◌∷◌, eqb, length, take, None, is_some}
+-- Texts that wait in a buffer, and rows that were written whole.
+use Rattle.std.specs.Prelude.{ℕ, ◌+◌, ◌-◌, ◌^◌, ◌≤◌, ◌<◌, min, ◌≡◌, true, cond, List, [], ◌∷◌, eqb, length, take, Option, Some, None, is_some, Result, Ok, Err}
 use Rattle.std.proofs.lemmas.List.Edits.{sets}
+use Rattle.channel.specs.declared.fault.Fault.{Fault}
+use Rattle.channel.specs.declared.writing.Cut.{Cut}
 use Rattle.channel.specs.declared.sink.Sink.{Sink}
-use Rattle.channel.specs.declared.sink.Wrote.{Wrote}
+use Rattle.channel.specs.declared.sink.Outlet.{Outlet}
 
 -- a newline ends one row, and no other byte ends any
 unfoldable pub row_end : ℕ → ℕ
@@ -13,49 +15,67 @@ unfoldable pub rows_in : List ℕ → ℕ
 rows_in [] = 0
 rows_in (b ∷ s) = row_end b + rows_in s
 
--- the rows that ended in what was written are counted; there is no fault exactly when all of the text was written
-pub record RowsWritten (text : List ℕ) (w : Wrote) : Type 0 where
+-- how many bytes of a text were written, and the fault that kept the others
+abbrev pub bytes_of : Result ℕ Cut → ℕ
+bytes_of (Ok n) = n
+bytes_of (Err cut) = cut.bytes
+
+abbrev pub fault_of : Result ℕ Cut → Option Fault
+fault_of (Ok n) = None
+fault_of (Err cut) = Some cut.fault
+
+-- nothing waits; the rows that ended in what was written of a text are counted, and its fault is kept
+pub record Counted (text : List ℕ) (whole : ℕ) (wrote : Result ℕ Cut) (r : Sink) : Type 0 where
+  pub empty : r.at ≡ 0
+  pub rows : r.whole ≡ min (whole + rows_in (take (bytes_of wrote) text)) (2 ^ 64 - 1)
+  pub fault : r.fault ≡ fault_of wrote
+
+-- nothing waits; the rows that ended in what was written are counted; there is no fault exactly when all of the text was written
+pub record Passed (text : List ℕ) (whole : ℕ) (r : Sink) : Type 0 where
   pub bytes : ℕ
   pub within : bytes ≤ length text
-  pub all : w.fault ≡ None → bytes ≡ length text
-  pub cut : is_some w.fault ≡ true → bytes < length text
-  pub rows : w.rows ≡ rows_in (take bytes text)
-
--- the buffer is the one that was lent, as it was found
-pub record Untouched (s r : Sink) : Type 0 where
-  pub bytes : r.page.out.now ≡ s.page.out.now
-  pub same : r.page.out.ghost_name ≡ s.page.out.ghost_name
-
--- nothing waits, and what was written is counted
-pub record Passed (w : Wrote) (s r : Sink) : Type 0 where
-  pub fault : r.fault ≡ w.fault
-  pub empty : r.page.at ≡ 0
-  pub rows : r.whole ≡ min (s.whole + w.rows) (2 ^ 64 - 1)
-  pub buffer : Untouched s r
-
--- a text was written, as far as no write failed, and nothing waits
-pub record Gone (text : List ℕ) (s r : Sink) : Type 0 where
-  pub wrote : Wrote
-  pub written : RowsWritten text wrote
-  pub passed : Passed wrote s r
+  pub all : r.fault ≡ None → bytes ≡ length text
+  pub cut : is_some r.fault ≡ true → bytes < length text
+  pub empty : r.at ≡ 0
+  pub rows : r.whole ≡ min (whole + rows_in (take bytes text)) (2 ^ 64 - 1)
 
 -- what waited was passed on; after a write that failed nothing is
-pub record Flushed (s r : Sink) : Type 0 where
-  pub after_fault : is_some s.fault ≡ true → r ≡ s
-  pub passed : s.fault ≡ None → Gone (take s.page.at s.page.out.now) s r
+pub record Flushed (out : List ℕ) (sink r : Sink) : Type 0 where
+  pub after_fault : is_some sink.fault ≡ true → r ≡ sink
+  pub passed : sink.fault ≡ None → Passed (take (min sink.at (length out)) out) sink.whole r
 
--- the text stands on the page from a place on, all else as found, and waits there
-pub record Waits (s : Sink) (at : ℕ) (text : List ℕ) (whole : ℕ) (r : Sink) : Type 0 where
-  pub buffer : r.page.out.now ≡ sets s.page.out.now at text
-  pub place : r.page.at ≡ at + length text
+-- the text stands in the buffer from a place on, all else as found, and waits there
+pub record Waits (out : List ℕ) (at : ℕ) (text exit : List ℕ) (whole : ℕ) (r : Sink) : Type 0 where
+  pub buffer : exit ≡ sets out at text
+  pub place : r.at ≡ at + length text
   pub rows : r.whole ≡ whole
   pub sound : r.fault ≡ None
 
 -- after a write that failed nothing is put; where there is room the text waits behind what waited; else what waited is written and the text waits alone, or goes out by itself where the buffer is too short for it
-pub record Said (s : Sink) (text : List ℕ) (r : Sink) : Type 0 where
-  pub after_fault : is_some s.fault ≡ true → r ≡ s
-  pub behind : s.fault ≡ None → s.page.at + length text ≤ length s.page.out.now → Waits s s.page.at text s.whole r
-  pub alone : s.fault ≡ None → length s.page.out.now < s.page.at + length text → length text ≤ length s.page.out.now → r.fault ≡ None →
-      Waits s 0 text (min (s.whole + rows_in (take s.page.at s.page.out.now)) (2 ^ 64 - 1)) r
-  pub past : s.fault ≡ None → length s.page.out.now < length text → r.page.at ≡ 0
-  pub same : r.page.out.ghost_name ≡ s.page.out.ghost_name
+pub record Said (out : List ℕ) (sink : Sink) (text exit : List ℕ) (r : Sink) : Type 0 where
+  pub after_fault : is_some sink.fault ≡ true → (r ≡ sink) × (exit ≡ out)
+  pub behind : sink.fault ≡ None → sink.at + length text ≤ length out → Waits out sink.at text exit sink.whole r
+  pub alone : sink.fault ≡ None → sink.at ≤ length out → length out < sink.at + length text → length text ≤ length out → r.fault ≡ None →
+      Waits out 0 text exit (min (sink.whole + rows_in (take sink.at out)) (2 ^ 64 - 1)) r
+  pub past : sink.fault ≡ None → length out < length text → r.at ≡ 0
+  pub within : sink.at ≤ length out → r.at ≤ length out
+
+-- an outlet's buffer is the one that was lent, and as long, and what waited within it waits within it
+pub record Kept (s r : Outlet) : Type 0 where
+  pub to : r.to ≡ s.to
+  pub same : r.out.ghost_name ≡ s.out.ghost_name
+  pub size : length r.out.now ≡ length s.out.now
+  pub within : s.sink.at ≤ length s.out.now → r.sink.at ≤ length r.out.now
+
+-- what waited in an outlet was passed on, and its buffer is as found; after a write that failed all is
+pub record FlushedThrough (s r : Outlet) : Type 0 where
+  pub after_fault : is_some s.sink.fault ≡ true → r ≡ s
+  pub flushed : Flushed s.out.now s.sink r.sink
+  pub buffer : r.out.now ≡ s.out.now
+  pub kept : Kept s r
+
+-- a text was said through an outlet; after a write that failed all is as found
+pub record SaidThrough (s : Outlet) (text : List ℕ) (r : Outlet) : Type 0 where
+  pub after_fault : is_some s.sink.fault ≡ true → r ≡ s
+  pub said : Said s.out.now s.sink text r.out.now r.sink
+  pub kept : Kept s r

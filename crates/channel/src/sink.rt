@@ -1,100 +1,87 @@
-// Standard output through a page: texts wait there until there is no room for the next one.
-ghost use Rattle.std.specs.Prelude.{◌≡◌, None, length};
-ghost use Rattle.channel.specs.Sink.{rows_in, RowsWritten, Passed, Flushed, Said};
+// Standard output through a buffer: texts wait there until there is no room for the next one.
+ghost use Rattle.std.specs.Prelude.{◌≡◌, ◌+◌, ◌≤◌, None, length};
+ghost use Rattle.channel.specs.Moving.{Written};
+ghost use Rattle.channel.specs.Sink.{rows_in, Counted, Passed, Flushed, Waits, Said, FlushedThrough, SaidThrough};
 
 use crate::fault::Fault;
-use crate::writing::write_whole;
-use print::page::Page;
+use crate::writing::{Cut, write_whole};
+use print::put::put;
 use std::io::Stdout;
 
-// What waits on the page, how many rows were written whole so far, and the fault of the write that failed.
-#[derive(Drop)]
-pub struct Sink<'a> {
-    pub to: Stdout,
-    pub page: Page<'a>,
+// How much waits in the buffer, how many rows were written whole so far, and the fault of the write that failed.
+#[derive(Clone, Copy)]
+pub struct Sink {
+    pub at: usize,
     pub whole: u64,
     pub fault: Option<Fault>,
 }
 
-impl<'a> Sink<'a> {
-    // A sink in which nothing waits.
-    pub fn new(to: Stdout, out: &'a mut [u8]) -> Sink<'a>
-        ensures same { result.page.out.ghost_name ≡ out.entry.ghost_name }
-        ensures bytes { result.page.out.now ≡ out.old }
-        ensures at { result.page.at ≡ 0 }
-        ensures whole { result.whole ≡ 0 }
-        ensures fault { result.fault ≡ None }
-    {
-        Sink {
-            to,
-            page: Page::new(out),
-            whole: 0,
-            fault: None,
-        }
+// Puts a text behind what waits; where there is no room, what waits is written first. After a write that failed nothing is put or written.
+pub fn say(to: Stdout, out: &mut [u8], sink: Sink, text: &[u8]) -> Sink
+    ensures { Said out.old sink text.now out.new result }
+{
+    if sink.fault.is_some() {
+        return sink;
     }
-
-    // Puts a text behind what waits; where there is no room, what waits is written first. After a write that failed nothing is put or written.
-    pub fn say(&mut self, text: &[u8])
-        ensures { Said self.old text.now self.new }
-    {
-        if self.fault.is_some() {
-            return;
-        }
-        if text.len() <= self.page.out.len() - self.page.at {
-            self.page.put(text);
-            return;
-        }
-        self.flush();
-        if self.fault.is_some() {
-            return;
-        }
-        if self.page.out.len() < text.len() {
-            let wrote = write_rows(self.to, text);
-            self.passed(wrote);
-            return;
-        }
-        self.page.put(text);
+    let at = sink.at.min(out.len());
+    if text.len() <= out.len() - at {
+        return wait(out, sink.whole, at, text);
     }
-
-    // Writes what waits.
-    pub fn flush(&mut self)
-        ensures { Flushed self.old self.new }
-    {
-        if self.fault.is_some() {
-            return;
-        }
-        let wrote = write_rows(self.to, self.page.text());
-        self.passed(wrote);
+    let clear = flush(to, out, sink);
+    if clear.fault.is_some() {
+        return clear;
     }
-
-    // Nothing waits, and the rows that were written whole are counted.
-    fn passed(&mut self, wrote: Wrote)
-        ensures { Passed wrote self.old self.new }
-    {
-        self.page.at = 0;
-        self.whole = self.whole.saturating_add(wrote.rows);
-        self.fault = wrote.fault;
+    if out.len() < text.len() {
+        return pass(to, text, clear.whole);
     }
+    wait(out, clear.whole, 0, text)
 }
 
-// How many rows were written whole, and why no more.
-#[derive(Clone, Copy)]
-struct Wrote {
-    rows: u64,
-    fault: Option<Fault>,
+// Writes what waits.
+pub fn flush(to: Stdout, out: &[u8], sink: Sink) -> Sink
+    ensures { Flushed out.now sink result }
+{
+    if sink.fault.is_some() {
+        return sink;
+    }
+    let at = sink.at.min(out.len());
+    pass(to, &out[..at], sink.whole)
+}
+
+fn wait(out: &mut [u8], whole: u64, at: usize, text: &[u8]) -> Sink
+    requires { at + length text.now ≤ length out.old }
+    ensures { Waits out.old at text.now out.new whole result }
+{
+    let at = put(out, at, text);
+    Sink {
+        at,
+        whole,
+        fault: None,
+    }
 }
 
 // Writes a text, and counts the rows that it ends.
-fn write_rows(mut to: Stdout, text: &[u8]) -> Wrote
-    ensures { RowsWritten text.now result }
+fn pass(mut to: Stdout, text: &[u8], whole: u64) -> Sink
+    ensures { Passed text.now whole result }
 {
-    match write_whole(&mut to, text) {
-        Ok(_) => Wrote {
-            rows: rows_in(text),
+    let wrote = write_whole(&mut to, text);
+    count(text, whole, wrote)
+}
+
+// Counts the rows that end in what was written of a text.
+fn count(text: &[u8], whole: u64, wrote: Result<usize, Cut>) -> Sink
+    requires { Written (length text.now) wrote }
+    ensures { Counted text.now whole wrote result }
+{
+    match wrote {
+        Ok(_) => Sink {
+            at: 0,
+            whole: whole.saturating_add(rows_in(text)),
             fault: None,
         },
-        Err(cut) => Wrote {
-            rows: rows_in(&text[..cut.bytes]),
+        Err(cut) => Sink {
+            at: 0,
+            whole: whole.saturating_add(rows_in(&text[..cut.bytes])),
             fault: Some(cut.fault),
         },
     }
@@ -106,4 +93,52 @@ pub fn rows_in(text: &[u8]) -> u64
     ensures { result ≡ rows_in text.now }
 {
     text.iter().filter(|b| **b == b'\n').count() as u64
+}
+
+// Standard output behind a lent buffer, and what waits there.
+#[derive(Drop)]
+pub struct Outlet<'a> {
+    pub to: Stdout,
+    pub out: &'a mut [u8],
+    pub sink: Sink,
+}
+
+impl<'a> Outlet<'a> {
+    // An outlet in which nothing waits.
+    pub fn new(to: Stdout, out: &'a mut [u8]) -> Outlet<'a>
+        ensures same { result.out.ghost_name ≡ out.entry.ghost_name }
+        ensures bytes { result.out.now ≡ out.old }
+        ensures to { result.to ≡ to }
+        ensures at { result.sink.at ≡ 0 }
+        ensures whole { result.sink.whole ≡ 0 }
+        ensures fault { result.sink.fault ≡ None }
+    {
+        let sink = Sink {
+            at: 0,
+            whole: 0,
+            fault: None,
+        };
+        Outlet { to, out, sink }
+    }
+
+    // Puts a text behind what waits; where there is no room, what waits is written first. After a write that failed nothing is put or written.
+    pub fn say(&mut self, text: &[u8])
+        ensures { SaidThrough self.old text.now self.new }
+    {
+        self.sink = say(self.to, self.out, self.sink, text);
+    }
+
+    // Writes what waits.
+    pub fn flush(&mut self)
+        ensures { FlushedThrough self.old self.new }
+    {
+        self.sink = self.flushed();
+    }
+
+    // The sink that is left. The buffer is read as it stands behind `&self`, so it is known to stay as found.
+    fn flushed(&self) -> Sink
+        ensures { Flushed self.now.out.now self.now.sink result }
+    {
+        flush(self.to, self.out, self.sink)
+    }
 }

@@ -7,11 +7,10 @@ use crate::program::Program;
 use channel::fault::{Fault, NO_REASON};
 use channel::reading::read_some;
 use channel::sentence::tell_fault;
-use channel::sink::Sink;
+use channel::sink::{Outlet, Sink};
 use channel::status::Status;
 use channel::streams::Streams;
 use filters::{Counts, Run, finish, take_some};
-use print::page::Page;
 use scan::Pieces;
 use shown::show_unit;
 use std::process::ExitCode;
@@ -152,20 +151,20 @@ impl<'a> Moving<'a> {
         }
         let size = self.out.len();
         let units = self.run.counts.units.saturating_add(1);
-        let mut sink = Sink {
+        let mut outlet = Outlet {
             to: self.to.output,
-            page: Page {
-                out: self.out,
+            out: self.out,
+            sink: Sink {
                 at: self.run.at,
+                whole: self.whole,
+                fault: self.unwritten,
             },
-            whole: self.whole,
-            fault: self.unwritten,
         };
-        show_unit(&mut sink, self.book, cut, unit, pieces, units);
-        self.run.at = sink.page.at.min(size);
+        show_unit(&mut outlet, self.book, cut, unit, pieces, units);
+        self.run.at = outlet.sink.at.min(size);
         self.run.counts.units = units;
-        self.whole = sink.whole;
-        self.unwritten = sink.fault;
+        self.whole = outlet.sink.whole;
+        self.unwritten = outlet.sink.fault;
     }
 
     // One sentence for what kept the program from its work, and its status; success where all went well.
@@ -191,7 +190,7 @@ impl<'a> Moving<'a> {
             self.to.error,
             self.program.name(),
             what,
-            fault,
+            fault.errno,
             self.program.units(),
             self.whole,
         );

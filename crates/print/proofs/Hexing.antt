@@ -7,9 +7,7 @@ use native.Mathlib.Omega.{arith}
 use lib.ListN.{length, get_or, drop}
 use lib.Seq.{sets, length-sets, drop-cons, drop-length}
 use borrow.Author.Tests.{le-leb, lt-ltb, le-ltb}
-use Rattle.print.specs.declared.page.Page.{Page}
-use Rattle.print.specs.Put.{buffer_after, place_after}
-use Rattle.print.specs.Page.{Puts}
+use Rattle.print.specs.Put.{buffer_after, place_after, Placed}
 use Rattle.print.specs.Hex.{hex_digit, byte_text, hex_text}
 use Rattle.print.proofs.Copying.{no_room}
 
@@ -36,53 +34,46 @@ two_sets : (l : List ℕ) (k j g : ℕ) (t : List ℕ) → j ≡ suc (suc k) →
 unfolding hex_text
 two_sets l k j g t e = rw e
 
--- a text of hex digits for which a page has no room
-pub hex_no_room : (p : Page) (s : List ℕ) → length p.out.now < p.at + 2 * length s → Puts p (hex_text s) p
-hex_no_room p s h =
-    record { placed = no_room p.out.now p.at (hex_text s) (omega (arith, hex_length s)); same = refl }
+pub hex_no_room : (out : List ℕ) (at : ℕ) (s : List ℕ) → length out < at + 2 * length s → Placed out at (hex_text s) out at
+hex_no_room out at s h = no_room out at (hex_text s) (omega (arith, hex_length s))
 
-module _ (p : Page) (s : List ℕ) where
+module _ (out : List ℕ) (at : ℕ) (s : List ℕ) where
   -- i bytes are in place, and the digits of the others are what is left
-  pub record Hexed (q : Page) (i : ℕ) : Type 0 where
+  pub record Hexed (now : List ℕ) (r i : ℕ) : Type 0 where
     pub within : i ≤ length s
-    pub place : q.at ≡ p.at + 2 * i
-    pub size : length q.out.now ≡ length p.out.now
-    pub rest : sets q.out.now q.at (hex_text (drop i s)) ≡ sets p.out.now p.at (hex_text s)
-    pub same : q.out.ghost_name ≡ p.out.ghost_name
+    pub place : r ≡ at + 2 * i
+    pub size : length now ≡ length out
+    pub rest : sets now r (hex_text (drop i s)) ≡ sets out at (hex_text s)
 
-  module _ (fits : p.at + 2 * length s ≤ length p.out.now) where
-    pub hexed_starts : Hexed p 0
-    hexed_starts = record { within = omega arith; place = omega arith; size = refl; rest = refl; same = refl }
+  module _ (fits : at + 2 * length s ≤ length out) where
+    pub hexed_starts : Hexed out at 0
+    hexed_starts = record { within = omega arith; place = omega arith; size = refl; rest = refl }
 
-    pub hexed_steps : {q r : Page} {i : ℕ} → Hexed q i → i < length s → Puts q (byte_text (get_or s i 0)) r → Hexed r (i + 1)
+    pub hexed_steps : {now exit : List ℕ} {r behind i : ℕ} → Hexed now r i → i < length s → Placed now r (byte_text (get_or s i 0)) exit behind → Hexed exit behind (i + 1)
     unfolding buffer_after place_after
-    hexed_steps {q} {r} {i} h l put =
-        let room : q.at + 2 ≤ length q.out.now = omega (arith, h.place, h.size) in
-        let b : r.out.now ≡ sets q.out.now q.at (byte_text (get_or s i 0)) = put.placed.buffer ∙ rw (le-leb _ _ room) refl in
-        let e : r.at ≡ q.at + 2 = put.placed.place ∙ rw (le-leb _ _ room) refl in
+    hexed_steps {now} {exit} {r} {behind} {i} h l put =
+        let room : r + 2 ≤ length now = omega (arith, h.place, h.size) in
+        let b : exit ≡ sets now r (byte_text (get_or s i 0)) = put.buffer ∙ rw (le-leb _ _ room) refl in
+        let e : behind ≡ r + 2 = put.place ∙ rw (le-leb _ _ room) refl in
         let d : drop i s ≡ get_or s i 0 ∷ drop (i + 1) s = rw add-one (drop-cons s i 0 l) in
         record {
           within = omega arith;
           place = omega (arith, e, h.place);
-          size = ap length b ∙ length-sets q.out.now q.at (byte_text (get_or s i 0)) ∙ h.size;
+          size = ap length b ∙ length-sets now r (byte_text (get_or s i 0)) ∙ h.size;
           rest =
-              ap (λ (m : List ℕ). sets m r.at (hex_text (drop (i + 1) s))) b
-              ∙ two_sets q.out.now q.at r.at (get_or s i 0) (drop (i + 1) s) (omega (arith, e))
-              ∙ ap (λ (t : List ℕ). sets q.out.now q.at (hex_text t)) (sym d)
+              ap (λ (m : List ℕ). sets m behind (hex_text (drop (i + 1) s))) b
+              ∙ two_sets now r behind (get_or s i 0) (drop (i + 1) s) (omega (arith, e))
+              ∙ ap (λ (t : List ℕ). sets now r (hex_text t)) (sym d)
               ∙ h.rest;
-          same = put.same ∙ h.same;
         }
 
-    pub hexed_ends : {q : Page} {i : ℕ} → Hexed q i → length s ≤ i → Puts p (hex_text s) q
+    pub hexed_ends : {now : List ℕ} {r i : ℕ} → Hexed now r i → length s ≤ i → Placed out at (hex_text s) now r
     unfolding buffer_after place_after hex_text
-    hexed_ends {q} {i} h l =
+    hexed_ends {now} {r} {i} h l =
         let e : i ≡ length s = omega (arith, h.within) in
-        let fit : p.at + length (hex_text s) ≤ length p.out.now = omega (arith, hex_length s) in
+        let fit : at + length (hex_text s) ≤ length out = omega (arith, hex_length s) in
         let d : drop i s ≡ [] = rw e (drop-length s) in
         record {
-          placed = record {
-            buffer = rw (le-leb _ _ fit) (ap (λ (t : List ℕ). sets q.out.now q.at (hex_text t)) (sym d) ∙ h.rest);
-            place = rw (le-leb _ _ fit) (omega (arith, h.place, hex_length s, e));
-          };
-          same = h.same;
+          buffer = rw (le-leb _ _ fit) (ap (λ (t : List ℕ). sets now r (hex_text t)) (sym d) ∙ h.rest);
+          place = rw (le-leb _ _ fit) (omega (arith, h.place, hex_length s, e));
         }

@@ -3,9 +3,8 @@ ghost use Rattle.std.specs.Prelude.{◌≡◌, ◌≤◌, min, length, take};
 ghost use Rattle.text.specs.Decimal.{decimal_text};
 ghost use Rattle.print.specs.Hex.{byte_text, hex_text, dword_text};
 
-use crate::digits::digits_of;
-use crate::hex::{digit, nibble};
-use crate::put::put;
+use crate::hex::{put_byte, put_dword, put_hex};
+use crate::put::{put, put_decimal};
 
 // What stands before the place was put or found; the place is in the buffer or at its end.
 #[derive(Drop)]
@@ -55,42 +54,27 @@ impl<'a> Page<'a> {
     pub fn put_decimal(&mut self, n: u64)
         ensures { Puts self.old (decimal_text n) self.new }
     {
-        let digits = digits_of(n);
-        self.put(digits.text());
+        self.at = put_decimal(self.out, self.at, n);
     }
 
     // The bytes of a text, two hex digits each.
     pub fn put_hex(&mut self, s: &[u8])
         ensures { Puts self.old (hex_text s.now) self.new }
     {
-        if (self.out.len() - self.at) / 2 < s.len() {
-            return;
-        }
-        for b in s {
-            self.put_byte(*b);
-        }
+        self.at = put_hex(self.out, self.at, s);
     }
 
     // A byte, two hex digits.
     pub fn put_byte(&mut self, b: u8)
         ensures { Puts self.old (byte_text b) self.new }
     {
-        self.put(&[digit(b / 16), digit(b % 16)]);
+        self.at = put_byte(self.out, self.at, b);
     }
 
     // A dword, eight hex digits.
     pub fn put_dword(&mut self, d: u32)
         ensures { Puts self.old (dword_text d) self.new }
     {
-        self.put(&[
-            nibble(d / 0x1000_0000),
-            nibble(d / 0x100_0000),
-            nibble(d / 0x10_0000),
-            nibble(d / 0x1_0000),
-            nibble(d / 0x1000),
-            nibble(d / 0x100),
-            nibble(d / 0x10),
-            nibble(d),
-        ]);
+        self.at = put_dword(self.out, self.at, d);
     }
 }

@@ -82,8 +82,8 @@ fn show_book(streams: Streams, book: &[u8], pieces: Pieces) -> ExitCode {
 
 fn refuse(to: Stderr, why: NoBook) -> ExitCode {
     match why {
-        NoBook::Opening(fault) => tell_failed(to, b"show", b"opening the book", fault),
-        NoBook::Reading(fault) => tell_failed(to, b"show", b"reading the book", fault),
+        NoBook::Opening(fault) => tell_failed(to, b"show", b"opening the book", fault.errno),
+        NoBook::Reading(fault) => tell_failed(to, b"show", b"reading the book", fault.errno),
         NoBook::TooLong => tell(to, b"show: the book has more than 65535 bytes\n"),
         NoBook::BadGrammar => tell(to, b"show: the book breaks its grammar (20)\n"),
     }

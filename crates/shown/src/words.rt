@@ -1,6 +1,8 @@
 // A kind, a description's source, and what document 01's numbers mean, in words.
 // A kind is a number here, as the entry has it.
-use channel::sink::Sink;
+ghost use Rattle.channel.specs.Sink.{Kept};
+
+use channel::sink::Outlet;
 use entry::kind::Kind;
 use field::Source;
 use refusal::Refusal;
@@ -35,11 +37,13 @@ pub fn source_words(source: Source) -> &'static [u8] {
 }
 
 // What refuses a line, a packet or a record: its number and its sentence.
-pub fn say_refusal(sink: &mut Sink, word: &[u8], refusal: Refusal) {
-    say_number(sink, word, refusal.number() as u64);
-    sink.say(b": ");
-    sink.say(refusal_words(refusal));
-    sink.say(b"\n");
+pub fn say_refusal(outlet: &mut Outlet, word: &[u8], refusal: Refusal)
+    ensures { Kept outlet.old outlet.new }
+{
+    say_number(outlet, word, refusal.number() as u64);
+    outlet.say(b": ");
+    outlet.say(refusal_words(refusal));
+    outlet.say(b"\n");
 }
 
 fn refusal_words(refusal: Refusal) -> &'static [u8] {

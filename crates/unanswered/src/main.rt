@@ -10,7 +10,7 @@ ghost use Rattle.std.specs.Prelude.{◌≤◌, length};
 
 use channel::fault::Fault;
 use channel::sentence::{tell, tell_fault};
-use channel::sink::Sink;
+use channel::sink::Outlet;
 use channel::status::Status;
 use channel::streams::{Streams, streams_of};
 use choice::ask_choice;
@@ -47,11 +47,11 @@ fn run(
 ) -> ExitCode
     requires { 65539 ≤ length unit.old }
 {
-    let mut matching = Matching::new(Sink::new(streams.output, out), unit, pieces);
+    let mut matching = Matching::new(Outlet::new(streams.output, out), unit, pieces);
     let read = matching.read_all(streams.input, input);
     matching.sink.flush();
-    let whole = matching.sink.whole;
-    if let Some(fault) = matching.sink.fault {
+    let whole = matching.sink.sink.whole;
+    if let Some(fault) = matching.sink.sink.fault {
         return fail(streams.error, b"writing standard output", fault, whole);
     }
     if let Err(fault) = read {
@@ -61,6 +61,6 @@ fn run(
 }
 
 fn fail(to: Stderr, call: &[u8], fault: Fault, whole: u64) -> ExitCode {
-    tell_fault(to, b"unanswered", call, fault, b"rows", whole);
+    tell_fault(to, b"unanswered", call, fault.errno, b"rows", whole);
     ExitCode::from(Status::Fault)
 }

@@ -4,7 +4,7 @@ ghost use Rattle.std.specs.Prelude.{◌≡◌, ◌≤◌, length};
 use crate::rows::{say_end, say_line};
 use channel::fault::{Fault, NO_REASON};
 use channel::reading::read_some;
-use channel::sink::Sink;
+use channel::sink::Outlet;
 use desk::Desk;
 use framing::{Framing, feed};
 use scan::Pieces;
@@ -13,7 +13,7 @@ use std::io::Stdin;
 // What waits to be written, what is kept of the lines, and so many bytes of the open line.
 #[derive(Drop)]
 pub struct Matching<'a> {
-    pub sink: Sink<'a>,
+    pub sink: Outlet<'a>,
     pub desk: Desk,
     pub pieces: Pieces,
     pub unit: &'a mut [u8],
@@ -23,7 +23,7 @@ pub struct Matching<'a> {
 }
 
 impl<'a> Matching<'a> {
-    pub fn new(sink: Sink<'a>, unit: &'a mut [u8], pieces: Pieces) -> Matching<'a>
+    pub fn new(sink: Outlet<'a>, unit: &'a mut [u8], pieces: Pieces) -> Matching<'a>
         requires { 65539 ≤ length unit.old }
         ensures { result.held ≡ 0 }
     {
@@ -44,7 +44,7 @@ impl<'a> Matching<'a> {
                 return Ok(());
             };
             self.take_part(&input[..n]);
-            if self.sink.fault.is_some() {
+            if self.sink.sink.fault.is_some() {
                 return Ok(());
             }
         }
@@ -54,7 +54,7 @@ impl<'a> Matching<'a> {
     // All lines that end in a part; what is open is held.
     fn take_part(&mut self, part: &[u8]) {
         let mut from = 0;
-        while from < part.len() && self.sink.fault.is_none() {
+        while from < part.len() && self.sink.sink.fault.is_none() {
             let fed = feed(Framing::Lines, part, from, self.unit, self.held);
             from = fed.at;
             self.held = fed.held;

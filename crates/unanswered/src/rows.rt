@@ -1,14 +1,14 @@
 // The rows through a sink.
 ghost use Rattle.unanswered.specs.Saying.{LineSaid};
 
-use channel::sink::Sink;
+use channel::sink::Outlet;
 use desk::Desk;
 use print::page::Page;
 use scan::Pieces;
 use unanswered_rows::{put_row, put_totals, put_waits};
 
 // A line's row.
-pub fn say_line(sink: &mut Sink, desk: &mut Desk, line: &[u8], pieces: Pieces)
+pub fn say_line(sink: &mut Outlet, desk: &mut Desk, line: &[u8], pieces: Pieces)
     ensures { LineSaid pieces line.now desk.old sink.old desk.new sink.new }
 {
     let row = desk.step_line(line, pieces);
@@ -19,7 +19,7 @@ pub fn say_line(sink: &mut Sink, desk: &mut Desk, line: &[u8], pieces: Pieces)
 }
 
 // What waits, the oldest first, and the totals.
-pub fn say_end(sink: &mut Sink, desk: &Desk) {
+pub fn say_end(sink: &mut Outlet, desk: &Desk) {
     for rank in 1..65 {
         let Some(place) = desk.table.place_of_rank(rank) else {
             break;
@@ -32,7 +32,7 @@ pub fn say_end(sink: &mut Sink, desk: &Desk) {
     sink.say(page.text());
 }
 
-fn say_waits(sink: &mut Sink, desk: &Desk, place: usize) {
+fn say_waits(sink: &mut Outlet, desk: &Desk, place: usize) {
     let slot = desk.table.slot_at(place);
     let note = desk.note_at(place);
     let mut room = [0u8; 256];

@@ -54,11 +54,11 @@ fn tell_kept(to: Stderr, kept: Kept) -> ExitCode {
             ExitCode::from(Status::BadCall)
         }
         Kept::Reading(fault) => {
-            tell_failed(to, b"what", b"reading standard input", fault);
+            tell_failed(to, b"what", b"reading standard input", fault.errno);
             ExitCode::from(Status::Fault)
         }
         Kept::Writing(fault) => {
-            tell_failed(to, b"what", b"writing standard output", fault);
+            tell_failed(to, b"what", b"writing standard output", fault.errno);
             ExitCode::from(Status::Fault)
         }
     }

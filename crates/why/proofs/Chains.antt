@@ -7,7 +7,7 @@ use lib.ListN.{length, take, drop}
 use lib.Seq.{sets-eq, take_at}
 use Rattle.text.specs.declared.number.BadNumber.{BadNumber}
 use Rattle.print.specs.declared.page.Page.{Page}
-use Rattle.channel.specs.declared.sink.Sink.{Sink}
+use Rattle.channel.specs.declared.sink.Outlet.{Outlet}
 use Rattle.listing_rows.specs.Rows.{Put, PutOn}
 use Rattle.why_rows.specs.declared.tally.Counts.{Counts}
 use Rattle.why_rows.specs.Rows.{row_text}
@@ -26,7 +26,7 @@ unfolding tallied
 tallied_append c [] gs = refl
 tallied_append c (f ∷ fs) gs = tallied_append (tally c f.reason) fs gs
 
-said_then : {m r : Sink} {more : List (List ℕ)} {sink : Sink} {rows : List (List ℕ)} → SaidAll m sink rows → SaidAll r m more → SaidAll r sink (rows ++ more)
+said_then : {m r : Outlet} {more : List (List ℕ)} {sink : Outlet} {rows : List (List ℕ)} → SaidAll m sink rows → SaidAll r m more → SaidAll r sink (rows ++ more)
 said_then (SaidAll.none q) y = rw (← q) y
 said_then (SaidAll.next x xs) y = SaidAll.next x (said_then xs y)
 

@@ -1,8 +1,8 @@
 -- What was said and counted: a row for each unreadable number, one behind the other.
 use Rattle.std.specs.Prelude.{ℕ, ◌≡◌, List, [], ◌∷◌}
 use Rattle.text.specs.Told.{Told, is, absent, refused}
-use Rattle.channel.specs.declared.sink.Sink.{Sink}
-use Rattle.channel.specs.Sink.{Said}
+use Rattle.channel.specs.declared.sink.Outlet.{Outlet}
+use Rattle.channel.specs.Sink.{SaidThrough}
 use Rattle.reasons.specs.declared.payload.Place.{Place}
 use Rattle.reasons.specs.Reasons.{payload_place}
 use Rattle.why_rows.specs.declared.tally.Counts.{Counts}
@@ -28,9 +28,9 @@ line_counts c absent = with_line c
 line_counts c (refused k) = with_line c
 
 -- each of these rows was said through the sink, in order, and nothing else
-pub data SaidAll (r : Sink) : Sink → List (List ℕ) → Type 0 where
-  none : {s : Sink} → r ≡ s → SaidAll r s []
-  next : {row : List ℕ} {s m : Sink} {rows : List (List ℕ)} → Said s row m → SaidAll r m rows → SaidAll r s (row ∷ rows)
+pub data SaidAll (r : Outlet) : Outlet → List (List ℕ) → Type 0 where
+  none : {s : Outlet} → r ≡ s → SaidAll r s []
+  next : {row : List ℕ} {s m : Outlet} {rows : List (List ℕ)} → SaidThrough s row m → SaidAll r m rows → SaidAll r s (row ∷ rows)
 
 -- the rows of unreadable numbers of the line that was counted last were said, and counted
 pub record Gone (d : Asking) (fs : List Finding) (r : Asking) : Type 0 where
@@ -44,5 +44,5 @@ pub record LineSaid (t : List ℕ) (d r : Asking) : Type 0 where
 
 -- the totals were said
 pub record TotalsSaid (d r : Asking) : Type 0 where
-  pub says : Said d.sink (totals_text d.counts) r.sink
+  pub says : SaidThrough d.sink (totals_text d.counts) r.sink
   pub counts : r.counts ≡ d.counts

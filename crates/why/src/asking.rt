@@ -6,7 +6,7 @@ ghost use Rattle.why.specs.Finding.{unread, key_found, data_found, pieces_found,
 ghost use Rattle.reasons.specs.Reasons.{data_span};
 ghost use Rattle.pairs.specs.Data.{cut};
 
-use channel::sink::Sink;
+use channel::sink::Outlet;
 use pairs::dwords::piece_end;
 use pairs::pair::Span;
 use print::page::Page;
@@ -19,17 +19,17 @@ use why_rows::{What, put_row, put_totals};
 // What waits to be written, what was counted, and a buffer that has room for a row of the longest line.
 #[derive(Drop)]
 pub struct Asking<'a> {
-    pub sink: Sink<'a>,
+    pub sink: Outlet<'a>,
     pub counts: Counts,
     pub row: &'a mut [u8],
     ghost room: { 20736 ≤ length row.now },
 }
 
 impl<'a> Asking<'a> {
-    ghost use Rattle.channel.specs.Sink.{Flushed};
+    ghost use Rattle.channel.specs.Sink.{FlushedThrough};
     ghost use Rattle.why.specs.Saying.{Gone, LineSaid, TotalsSaid};
 
-    pub fn new(sink: Sink<'a>, row: &'a mut [u8]) -> Asking<'a>
+    pub fn new(sink: Outlet<'a>, row: &'a mut [u8]) -> Asking<'a>
         requires { 20736 ≤ length row.old }
         ensures { result.counts ≡ no_counts }
     {
@@ -49,7 +49,7 @@ impl<'a> Asking<'a> {
 
     // Writes what waits.
     pub fn flush(&mut self)
-        ensures { Flushed self.old.sink self.new.sink }
+        ensures { FlushedThrough self.old.sink self.new.sink }
     {
         self.sink.flush();
     }

@@ -10,7 +10,7 @@ ghost use Rattle.std.specs.Prelude.{◌≤◌, length};
 use asking::Asking;
 use channel::fault::Fault;
 use channel::sentence::{tell, tell_fault, tell_numbered};
-use channel::sink::Sink;
+use channel::sink::Outlet;
 use channel::status::Status;
 use channel::streams::{Streams, streams_of};
 use choice::arg_count;
@@ -41,12 +41,12 @@ fn run(
     requires unit { 65539 ≤ length unit.old }
     requires row { 20736 ≤ length row.old }
 {
-    let sink = Sink::new(streams.output, out);
+    let sink = Outlet::new(streams.output, out);
     let mut reading = Reading::new(Asking::new(sink, row), unit);
     let read = reading.read_all(streams.input, input);
     reading.asking.flush();
-    let whole = reading.asking.sink.whole;
-    if let Some(fault) = reading.asking.sink.fault {
+    let whole = reading.asking.sink.sink.whole;
+    if let Some(fault) = reading.asking.sink.sink.fault {
         return fail(streams.error, b"writing standard output", fault, whole);
     }
     match read {
@@ -67,6 +67,6 @@ fn stop(to: Stderr, line: u64) -> ExitCode {
 }
 
 fn fail(to: Stderr, call: &[u8], fault: Fault, whole: u64) -> ExitCode {
-    tell_fault(to, b"why", call, fault, b"rows", whole);
+    tell_fault(to, b"why", call, fault.errno, b"rows", whole);
     ExitCode::from(Status::Fault)
 }

@@ -44,7 +44,7 @@ impl<'a> Reading<'a> {
                 return self.end();
             };
             self.take_part(&input[..n])?;
-            if self.asking.sink.fault.is_some() {
+            if self.asking.sink.sink.fault.is_some() {
                 return Ok(());
             }
         }
@@ -54,7 +54,7 @@ impl<'a> Reading<'a> {
     // All lines that end in a part; what is open is held.
     fn take_part(&mut self, part: &[u8]) -> Result<(), Stop> {
         let mut from = 0;
-        while from < part.len() && self.asking.sink.fault.is_none() {
+        while from < part.len() && self.asking.sink.sink.fault.is_none() {
             let fed = feed(Framing::Lines, part, from, self.unit, self.held);
             from = fed.at;
             self.held = fed.held;

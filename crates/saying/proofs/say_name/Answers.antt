@@ -15,4 +15,4 @@ loop-rest-preserved c =
     rw c.split_at.ensures.back (pieces_step c.say.new.self c.args.name.now c.min.result c.loop-rest.invariant (rw (← c.split_at.ensures.front) c.say_piece.ensures))
 
 pub returns : goal.returns
-returns c = pieces_end c.args.sink.now c.args.name.now (λ e. grind (arith, common_steps)) c.say.ensures c.loop-rest.invariant (grind (arith, common_steps))
+returns c = pieces_end c.args.outlet.now c.args.name.now (λ e. grind (arith, common_steps)) c.say.ensures c.loop-rest.invariant (grind (arith, common_steps))

@@ -4,7 +4,7 @@ use lib.ListN.{length}
 use Rattle.saying.proofs.say_name.Given as goal
 
 abbrev pub invariant-loop-rest : goal.invariant-loop-rest
-invariant-loop-rest l = Pieces l.initial.sink l.name l.sink l.rest
+invariant-loop-rest l = Pieces l.initial.outlet l.name l.outlet l.rest
 
 abbrev pub decreases-loop-rest : goal.decreases-loop-rest
 decreases-loop-rest l = length l.rest

@@ -5,4 +5,4 @@ use Rattle.channel.proofs.sentence.put_count.Goals as goal
 
 pub returns : goal.returns
 unfolding count_parts
-returns c = laid_next c.put.ensures (laid_next c.put-2.ensures (laid_next c.put-3.ensures (laid_last c.put_decimal.ensures)))
+returns c = laid_next c.put-a.ensures (laid_next c.put-b.ensures (laid_next c.put-c.ensures (laid_last c.put_decimal.ensures)))

@@ -5,4 +5,4 @@ use Rattle.channel.proofs.sentence.put_failed.Goals as goal
 
 pub returns : goal.returns
 unfolding failed_parts
-returns c = laid_next c.put.ensures (laid_next c.put-2.ensures (laid_next c.put-3.ensures (laid_next c.put-4.ensures (laid_next c.put_decimal.ensures (laid_next c.put_reason.ensures (laid_last c.put-5.ensures))))))
+returns c = laid_next c.put-a.ensures (laid_next c.put-b.ensures (laid_next c.put-c.ensures (laid_next c.put-d.ensures (laid_next c.put_decimal-e.ensures (laid_next c.put_reason-f.ensures (laid_last c.put.ensures))))))

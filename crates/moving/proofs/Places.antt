@@ -32,7 +32,7 @@ use Rattle.moving.specs.declared.program.Program.{Program}
 use Rattle.moving.specs.declared.program.Program.TheVariants as P
 use Rattle.moving.specs.Programs.{filter_by, framing_by, WholeIn}
 use Rattle.moving.specs.declared.moving.Moving.{Moving}
-use Rattle.moving.specs.Steps.{Keeps, Begun, Over, Lasting, Roomy, Went, end_status}
+use Rattle.moving.specs.Steps.{Keeps, Begun, FaultStays, Lasting, Roomy, Went, end_status}
 
 -- a stream that has not begun
 pub begun_kept : (f : Framing) (unit : List ℕ) → length unit ≡ 8192 → is_kept f unit 0 0 ≡ true
@@ -85,24 +85,24 @@ kept_begun r unit size b = rw (b.held, b.passed) (begun_kept (framing_by r.progr
 
 -- ---- a fault of a write stays
 
-pub over_none : {s r : Moving} → is_some s.unwritten ≡ false → Over s r
-over_none e = record { unwritten = λ h. absurd (clash h e); whole = λ h. absurd (clash h e) }
+pub stays_none : {s r : Moving} → is_some s.unwritten ≡ false → FaultStays s r
+stays_none e = record { unwritten = λ h. absurd (clash h e); whole = λ h. absurd (clash h e) }
 
-pub over_then : {s m r : Moving} → Over s m → Over m r → Over s r
-over_then x y =
+pub stays_then : {s m r : Moving} → FaultStays s m → FaultStays m r → FaultStays s r
+stays_then x y =
     record {
       unwritten = λ h. y.unwritten (ap is_some (x.unwritten h) ∙ h) ∙ x.unwritten h;
       whole = λ h. y.whole (ap is_some (x.unwritten h) ∙ h) ∙ x.whole h;
     }
 
 pub lasting_then : {s m r : Moving} → Lasting s m → Lasting m r → Lasting s r
-lasting_then x y = record { program = y.program ∙ x.program; untold = λ h. y.untold (x.untold h); over = over_then x.over y.over }
+lasting_then x y = record { program = y.program ∙ x.program; untold = λ h. y.untold (x.untold h); fault_stays = stays_then x.fault_stays y.fault_stays }
 
 pub roomy_lasting : {s r : Moving} → Roomy s r → Lasting s r
-roomy_lasting x = record { program = x.program; untold = x.untold; over = x.over }
+roomy_lasting x = record { program = x.program; untold = x.untold; fault_stays = x.fault_stays }
 
 pub went_lasting : {n : ℕ} {s r : Moving} → Went n s r → Lasting s r
-went_lasting x = record { program = x.program; untold = λ h. x.untold ∙ h; over = x.over }
+went_lasting x = record { program = x.program; untold = λ h. x.untold ∙ h; fault_stays = x.fault_stays }
 
 -- ---- what is shown
 

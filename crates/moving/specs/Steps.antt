@@ -80,7 +80,7 @@ pub record Ending (s : Moving) : Type 0 where
   pub told_room : s.run.told + 400 ≤ length s.told.now
 
 -- after a write to standard output that failed nothing more is written there: its fault stays, and so does what is counted
-pub record Over (s r : Moving) : Type 0 where
+pub record FaultStays (s r : Moving) : Type 0 where
   pub unwritten : is_some s.unwritten ≡ true → r.unwritten ≡ s.unwritten
   pub whole : is_some s.unwritten ≡ true → r.whole ≡ s.whole
 
@@ -88,7 +88,7 @@ pub record Over (s r : Moving) : Type 0 where
 pub record Lasting (s r : Moving) : Type 0 where
   pub program : r.program ≡ s.program
   pub untold : s.untold ≡ true → r.untold ≡ true
-  pub over : Over s r
+  pub fault_stays : FaultStays s r
 
 -- room was made, and the part and the counts are as they were
 pub record Roomy (s r : Moving) : Type 0 where
@@ -97,7 +97,7 @@ pub record Roomy (s r : Moving) : Type 0 where
   pub from : r.run.from ≡ s.run.from
   pub state : r.run.state ≡ s.run.state
   pub counts : r.run.counts ≡ s.run.counts
-  pub over : Over s r
+  pub fault_stays : FaultStays s r
   pub ending : Ending r
 
 -- a byte of the part is left, and there is room
@@ -113,7 +113,7 @@ pub record Went (part : ℕ) (s r : Moving) : Type 0 where
   pub untold : r.untold ≡ s.untold
   pub whole : is_ok (filter_by s.program) ≡ true → r.whole ≡ s.whole
   pub unwritten : is_ok (filter_by s.program) ≡ true → r.unwritten ≡ s.unwritten
-  pub over : Over s r
+  pub fault_stays : FaultStays s r
 
 -- where a filter runs, its run and its buffers are what `take_some` answered
 abbrev pub Filtered : List ℕ → List ℕ → Moving → List ℕ → Moving → Type 0
@@ -155,7 +155,7 @@ pub record Shown (cut : UnitModule.Unit) (s r : Moving) : Type 0 where
   pub state : r.run.state ≡ s.run.state
   pub told_at_is : r.run.told ≡ s.run.told
   pub untold : r.untold ≡ s.untold
-  pub over : Over s r
+  pub fault_stays : FaultStays s r
   pub uncut : is_cut cut ≡ false → r ≡ s
 
 -- the status at the end: 0 where no write and no read failed

@@ -1,6 +1,6 @@
 -- `Moving::end` meets its contract: what the end puts out lies in the buffers, and a filter's end is what `finish` answered. Assumes nothing.
 use borrow.Author.Rules.{rules}
-use Rattle.moving.proofs.Places.{framing_is, framing_both, kept_after, finish_within, finished_by, no_filter, ended_fits, over_then}
+use Rattle.moving.proofs.Places.{framing_is, framing_both, kept_after, finish_within, finished_by, no_filter, ended_fits, stays_then}
 use mathlib.Core.Path.{refl, sym, ◌∙◌}
 use Rattle.moving.proofs.moving.Moving.end.Goals as goal
 
@@ -18,7 +18,7 @@ show-requires c =
 pub returns-in-Ok-clause-lasting : goal.returns-in-Ok-clause-lasting
 returns-in-Ok-clause-lasting c =
     let m = c.make_room.ensures in
-    record { program = m.program; untold = m.untold; over = record { unwritten = m.over.unwritten; whole = m.over.whole } }
+    record { program = m.program; untold = m.untold; fault_stays = record { unwritten = m.fault_stays.unwritten; whole = m.fault_stays.whole } }
 
 pub returns-in-Ok-clause-closed : goal.returns-in-Ok-clause-closed
 returns-in-Ok-clause-closed c = λ g h.
@@ -35,7 +35,7 @@ returns-in-Ok-clause-closed c = λ g h.
 pub returns-in-Err-clause-lasting : goal.returns-in-Err-clause-lasting
 returns-in-Err-clause-lasting c =
     let m = c.make_room.ensures in
-    record { program = c.show.ensures.program ∙ m.program; untold = λ h. c.show.ensures.untold ∙ m.untold h; over = over_then m.over c.show.ensures.over }
+    record { program = c.show.ensures.program ∙ m.program; untold = λ h. c.show.ensures.untold ∙ m.untold h; fault_stays = stays_then m.fault_stays c.show.ensures.fault_stays }
 
 pub returns-in-Err-clause-closed : goal.returns-in-Err-clause-closed
 returns-in-Err-clause-closed c = λ g h. absurd (no_filter c.make_room.new.self.program {f = g} (rw c.make_room.ensures.program h) (sym c.filter.ensures ∙ c.in-Err.is))

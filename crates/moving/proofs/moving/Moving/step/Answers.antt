@@ -22,7 +22,7 @@ returns-in-Err-clause-filtered c = λ g h. absurd (no_filter c.args.self.now.pro
 
 pub returns-in-Err-clause-went : goal.returns-in-Err-clause-went
 returns-in-Err-clause-went c =
-    record { up = omega (arith, c.next_unit-fed.ensures.on, c.show.ensures.from); within = omega (arith, c.next_unit-fed.ensures.on, c.show.ensures.from); program = c.show.ensures.program; untold = c.show.ensures.untold; over = record { unwritten = c.show.ensures.over.unwritten; whole = c.show.ensures.over.whole }; whole = λ h. absurd (clash h (ap is_ok (sym c.filter.ensures ∙ c.in-Err.is))); unwritten = λ h. absurd (clash h (ap is_ok (sym c.filter.ensures ∙ c.in-Err.is))) }
+    record { up = omega (arith, c.next_unit-fed.ensures.on, c.show.ensures.from); within = omega (arith, c.next_unit-fed.ensures.on, c.show.ensures.from); program = c.show.ensures.program; untold = c.show.ensures.untold; fault_stays = record { unwritten = c.show.ensures.fault_stays.unwritten; whole = c.show.ensures.fault_stays.whole }; whole = λ h. absurd (clash h (ap is_ok (sym c.filter.ensures ∙ c.in-Err.is))); unwritten = λ h. absurd (clash h (ap is_ok (sym c.filter.ensures ∙ c.in-Err.is))) }
 
 pub returns-in-Err-clause-kept : goal.returns-in-Err-clause-kept
 returns-in-Err-clause-kept c =

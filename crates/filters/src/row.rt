@@ -1,8 +1,10 @@
 // The row of a line or a record.
 ghost use Rattle.std.specs.Prelude.{◌≡◌, ◌+◌, ◌≤◌, length};
-ghost use Rattle.refusal.specs.Told.{told_maybe};
+ghost use Rattle.refusal.specs.Told.{told, told_maybe};
+ghost use Rattle.scan.specs.declared.Pieces.TheVariants.{Lenient};
+ghost use Rattle.scan.specs.Parse.{parse_of};
 ghost use Rattle.units.specs.Feeding.{text_length};
-ghost use Rattle.filters.specs.Texts.{seen_by, line_told};
+ghost use Rattle.filters.specs.Texts.{seen_by, seen_line, line_told};
 ghost use Rattle.filters.specs.Rows.{RowPut};
 
 use crate::Run;
@@ -20,8 +22,17 @@ pub fn read_line(cut: Unit, unit: &[u8]) -> Result<Option<Entry>, Refusal>
     let Unit::Text(n) = cut else {
         return Ok(None);
     };
+    Ok(Some(read_text(&unit[..n])?))
+}
+
+// A line's answer, read leniently.
+#[tactic(auto, unfolding(crate::specs::Texts::seen_line))]
+fn read_text(line: &[u8]) -> Result<Entry, Refusal>
+    ensures answer { told result ≡ parse_of Lenient line.now 256 }
+    ensures seen { seen_by (told result) ≡ seen_line Lenient line.now }
+{
     let mut slots = [0u32; 256];
-    Ok(Some(parse(&unit[..n], Pieces::Lenient, &mut slots)?))
+    parse(line, Pieces::Lenient, &mut slots)
 }
 
 // The row of the next unit, by its answer. Asked for: room for a row, which the callers in this crate have.

@@ -1,11 +1,11 @@
 -- What is open is kept as a stream keeps it after each step, and what the end says. Assumes nothing.
 use Prim.Native.Nat.{ℕ, min, ◌+◌, ◌-◌, ◌^◌, ◌≤◌, ◌<◌}
-use mathlib.Core.Path.{◌≡◌, refl, sym, ap}
+use mathlib.Core.Path.{◌≡◌, refl, sym, ap, ◌∙◌}
 use mathlib.Core.Bool.{Bool, true, false, cond}
 use mathlib.Core.List.{List, []}
 use native.Mathlib.Omega.{arith}
 use lib.ListN.{length}
-use Rattle.std.specs.Prelude.{Option, Some, None, Result, Ok, Err, is_ok}
+use Rattle.std.specs.Prelude.{Option, Some, None, is_some, Result, Ok, Err, is_ok}
 use Rattle.text.proofs.Places.{clash}
 use Rattle.scan.specs.declared.Pieces.{Pieces}
 use Rattle.scan.specs.declared.Pieces.TheVariants.{Strict}
@@ -25,14 +25,14 @@ use Rattle.filters.specs.declared.Filter.{Filter}
 use Rattle.filters.specs.declared.Filter.TheVariants as F
 use Rattle.filters.specs.declared.Run.{Run}
 use Rattle.filters.specs.Texts.{framing_of, put_framing}
-use Rattle.filters.specs.Calls.{Finished}
+use Rattle.filters.specs.Calls.{Took, Finished}
 use Rattle.filters.proofs.Turns.{turn_fits, still, end_fits}
 use Rattle.channel.specs.declared.fault.Fault.{Fault}
 use Rattle.moving.specs.declared.program.Program.{Program}
 use Rattle.moving.specs.declared.program.Program.TheVariants as P
 use Rattle.moving.specs.Programs.{filter_by, framing_by, WholeIn}
 use Rattle.moving.specs.declared.moving.Moving.{Moving}
-use Rattle.moving.specs.Steps.{Keeps, Begun, Roomy, end_status}
+use Rattle.moving.specs.Steps.{Keeps, Begun, FaultStays, Lasting, Roomy, Went, end_status}
 
 -- a stream that has not begun
 pub begun_kept : (f : Framing) (unit : List ℕ) → length unit ≡ 8192 → is_kept f unit 0 0 ≡ true
@@ -60,6 +60,16 @@ framing_both (P.Pack x) e = refl
 framing_both (P.Unpack x) e = refl
 framing_both (P.Show x) e = refl
 
+-- what one filter did is what the program's filter did
+pub took_by : (p : Program) {f g : Filter} → filter_by p ≡ Ok f → filter_by p ≡ Ok g → {s u o t u' o' t' : List ℕ} {run r : Run} → Took f s u o t run u' o' t' r → Took g s u o t run u' o' t' r
+took_by p e h x = rw (← same_ok (sym e ∙ h)) x
+
+pub finished_by : (p : Program) {f g : Filter} → filter_by p ≡ Ok f → filter_by p ≡ Ok g → (u o t : List ℕ) (run : Run) (o' t' : List ℕ) (r : Run) → Finished f u o t run o' t' r → Finished g u o t run o' t' r
+finished_by p e h u o t run o' t' r x = rw (← same_ok (sym e ∙ h)) x
+
+pub no_filter : (p : Program) {f : Filter} {x : Pieces} → filter_by p ≡ Ok f → filter_by p ≡ Err x → ⊥
+no_filter p h e = clash (ap is_ok h) (ap is_ok e)
+
 pub whole_by : (p : Program) {f : Filter} {s : List ℕ} {n : ℕ} → filter_by p ≡ Ok f → Ended (put_framing f) s n → WholeIn p s n
 whole_by P.Listing e x = rw (← same_ok e) at x
 whole_by (P.Pack p) e x = rw (← same_ok e) at x
@@ -72,6 +82,27 @@ kept_after s r unit x k = rw (x.program, x.state) k
 
 pub kept_begun : {p : Program} (r : Moving) (unit : List ℕ) → length unit ≡ 8192 → Begun p r → Keeps unit r
 kept_begun r unit size b = rw (b.held, b.passed) (begun_kept (framing_by r.program) unit size)
+
+-- ---- a fault of a write stays
+
+pub stays_none : {s r : Moving} → is_some s.unwritten ≡ false → FaultStays s r
+stays_none e = record { unwritten = λ h. absurd (clash h e); whole = λ h. absurd (clash h e) }
+
+pub stays_then : {s m r : Moving} → FaultStays s m → FaultStays m r → FaultStays s r
+stays_then x y =
+    record {
+      unwritten = λ h. y.unwritten (ap is_some (x.unwritten h) ∙ h) ∙ x.unwritten h;
+      whole = λ h. y.whole (ap is_some (x.unwritten h) ∙ h) ∙ x.whole h;
+    }
+
+pub lasting_then : {s m r : Moving} → Lasting s m → Lasting m r → Lasting s r
+lasting_then x y = record { program = y.program ∙ x.program; untold = λ h. y.untold (x.untold h); fault_stays = stays_then x.fault_stays y.fault_stays }
+
+pub roomy_lasting : {s r : Moving} → Roomy s r → Lasting s r
+roomy_lasting x = record { program = x.program; untold = x.untold; fault_stays = x.fault_stays }
+
+pub went_lasting : {n : ℕ} {s r : Moving} → Went n s r → Lasting s r
+went_lasting x = record { program = x.program; untold = λ h. x.untold ∙ h; fault_stays = x.fault_stays }
 
 -- ---- what is shown
 
@@ -110,7 +141,7 @@ finish_within f {unit} {run = run} kept x =
 
 -- ---- the status at the end
 
-no_some : {A : Type 0} (o : Option A) → ((x : A) → o ≡ Some x → ⊥) → o ≡ None
+pub no_some : {A : Type 0} (o : Option A) → ((x : A) → o ≡ Some x → ⊥) → o ≡ None
 no_some None h = refl
 no_some (Some x) h = absurd (h x refl)
 

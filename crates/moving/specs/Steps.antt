@@ -4,6 +4,8 @@ use Rattle.units.specs.declared.Unit as UnitModule
 use Rattle.units.specs.declared.Unit.TheVariants as U
 use Rattle.channel.specs.declared.fault.Fault.{Fault}
 use Rattle.units.specs.Kept.{is_kept}
+use Rattle.filters.specs.declared.Filter.{Filter}
+use Rattle.filters.specs.Calls.{Took, Finished}
 use Rattle.moving.specs.declared.program.Program.{Program}
 use Rattle.moving.specs.Programs.{filter_by, framing_by, WholeIn}
 use Rattle.moving.specs.declared.moving.Moving.{Moving}
@@ -77,17 +79,25 @@ pub record Ending (s : Moving) : Type 0 where
   pub out_room : s.run.at + 5400 ≤ length s.out.now
   pub told_room : s.run.told + 400 ≤ length s.told.now
 
--- the program stands, and a write to standard error that failed is not forgotten
+-- after a write to standard output that failed nothing more is written there: its fault stays, and so does what is counted
+pub record FaultStays (s r : Moving) : Type 0 where
+  pub unwritten : is_some s.unwritten ≡ true → r.unwritten ≡ s.unwritten
+  pub whole : is_some s.unwritten ≡ true → r.whole ≡ s.whole
+
+-- the program stands, and no write that failed is forgotten
 pub record Lasting (s r : Moving) : Type 0 where
   pub program : r.program ≡ s.program
   pub untold : s.untold ≡ true → r.untold ≡ true
+  pub fault_stays : FaultStays s r
 
--- room was made, and the part is where it was
+-- room was made, and the part and the counts are as they were
 pub record Roomy (s r : Moving) : Type 0 where
   pub program : r.program ≡ s.program
   pub untold : s.untold ≡ true → r.untold ≡ true
   pub from : r.run.from ≡ s.run.from
   pub state : r.run.state ≡ s.run.state
+  pub counts : r.run.counts ≡ s.run.counts
+  pub fault_stays : FaultStays s r
   pub ending : Ending r
 
 -- a byte of the part is left, and there is room
@@ -103,6 +113,30 @@ pub record Went (part : ℕ) (s r : Moving) : Type 0 where
   pub untold : r.untold ≡ s.untold
   pub whole : is_ok (filter_by s.program) ≡ true → r.whole ≡ s.whole
   pub unwritten : is_ok (filter_by s.program) ≡ true → r.unwritten ≡ s.unwritten
+  pub fault_stays : FaultStays s r
+
+-- where a filter runs, its run and its buffers are what `take_some` answered
+abbrev pub Filtered : List ℕ → List ℕ → Moving → List ℕ → Moving → Type 0
+Filtered part unit s unit' r = (f : Filter) → filter_by s.program ≡ Ok f → Took f part unit s.out.now s.told.now s.run unit' r.out.now r.told.now r.run
+
+-- a filter's end: room was made, and then its run and its buffers are what `finish` answered; it writes nothing
+pub record FilterClosed (f : Filter) (unit : List ℕ) (s r : Moving) : Type 0 where
+  pub mid : Moving
+  pub roomy : Roomy s mid
+  pub finished : Finished f unit mid.out.now mid.told.now mid.run r.out.now r.told.now r.run
+  pub whole : r.whole ≡ mid.whole
+  pub unwritten : r.unwritten ≡ mid.unwritten
+  pub untold : r.untold ≡ mid.untold
+
+-- so where a filter runs
+abbrev pub Closed : List ℕ → Moving → Moving → Type 0
+Closed unit s r = (f : Filter) → filter_by s.program ≡ Ok f → FilterClosed f unit s r
+
+-- how the reading goes on behind a read: behind a part it goes on, unless a write failed; the end of the input ends it well; a read that failed ends it with its fault, and all is as it was
+abbrev pub ReadTaken : Result (Option ℕ) Fault → Moving → Moving → Option (Result (Prim.Unit {0}) Fault) → Type 0
+ReadTaken (Ok (Some n)) s r end = end ≡ cond (is_some r.unwritten) (Some (Ok tt)) None
+ReadTaken (Ok None) s r end = end ≡ Some (Ok tt)
+ReadTaken (Err fault) s r end = (end ≡ Some (Err fault)) × (r ≡ s)
 
 -- a unit was cut off: in the other cases none has ended
 unfoldable pub is_cut : UnitModule.Unit → Bool
@@ -115,11 +149,13 @@ is_cut U.Alien = false
 -- a unit was shown and counted, or there was none: what is open is as it was
 pub record Shown (cut : UnitModule.Unit) (s r : Moving) : Type 0 where
   pub counts_are : r.run.counts.units ≡ cond (is_cut cut) (min (s.run.counts.units + 1) (2 ^ 64 - 1)) s.run.counts.units
+  pub entries : r.run.counts.entries ≡ s.run.counts.entries
   pub program : r.program ≡ s.program
   pub from : r.run.from ≡ s.run.from
   pub state : r.run.state ≡ s.run.state
   pub told_at_is : r.run.told ≡ s.run.told
   pub untold : r.untold ≡ s.untold
+  pub fault_stays : FaultStays s r
   pub uncut : is_cut cut ≡ false → r ≡ s
 
 -- the status at the end: 0 where no write and no read failed

@@ -1,6 +1,7 @@
 // Where a program stands between two parts of its input, and its steps.
-ghost use Rattle.std.specs.Prelude.{◌≡◌, ◌≤◌, length};
+ghost use Rattle.std.specs.Prelude.{◌≡◌, ◌≤◌, length, None};
 ghost use Rattle.units.specs.Feeding.{text_length};
+ghost use Rattle.channel.specs.Moving.{Read};
 
 use crate::cut::{is_cut, next_unit};
 use crate::program::Program;
@@ -37,7 +38,7 @@ pub struct Moving<'a> {
 
 impl<'a> Moving<'a> {
     ghost use Rattle.std.specs.Process.{exit_status};
-    ghost use Rattle.moving.specs.Steps.{Begun, Keeps, Lasting, Ready, Went, Shown, end_status};
+    ghost use Rattle.moving.specs.Steps.{Begun, Keeps, Lasting, Ready, Went, Filtered, Shown, Closed, ReadTaken, end_status};
 
     // Before the first read.
     pub fn new(
@@ -77,16 +78,38 @@ impl<'a> Moving<'a> {
     {
         let mut from = self.to.input;
         for _ in 0..u64::MAX {
-            let Some(n) = read_some(&mut from, input)? else {
-                self.end(unit);
-                return Ok(());
-            };
-            self.take_part(&input[..n], unit);
-            if self.unwritten.is_some() {
-                return Ok(());
+            let read = read_some(&mut from, input);
+            if let Some(end) = self.take_read(read, input, unit) {
+                return end;
             }
         }
         Err(NO_REASON)
+    }
+
+    // The part that was read, or the end; how the reading ends, where it does. A read that failed ends it with its fault, and nothing else is done.
+    fn take_read(
+        &mut self,
+        read: Result<Option<usize>, Fault>,
+        input: &[u8],
+        unit: &mut [u8],
+    ) -> Option<Result<(), Fault>>
+        requires read { Read (length input.now) read }
+        requires kept { Keeps unit.old self.old }
+        ensures taken { ReadTaken read self.old self.new result }
+        ensures kept { result ≡ None → Keeps unit.new self.new }
+        ensures lasting { Lasting self.old self.new }
+    {
+        match read {
+            Ok(Some(n)) => {
+                self.take_part(&input[..n], unit);
+                self.unwritten.is_some().then_some(Ok(()))
+            }
+            Ok(None) => {
+                self.end(unit);
+                Some(Ok(()))
+            }
+            Err(fault) => Some(Err(fault)),
+        }
     }
 
     // All of it, with room made where too little is left.
@@ -107,6 +130,7 @@ impl<'a> Moving<'a> {
         requires ready { Ready (length part.now) self.old }
         requires kept { Keeps unit.old self.old }
         ensures went { Went (length part.now) self.old self.new }
+        ensures filtered { Filtered part.now unit.old self.old unit.new self.new }
         ensures kept { Keeps unit.new self.new }
     {
         let run = self.run;
@@ -126,7 +150,8 @@ impl<'a> Moving<'a> {
     // What is open still, and the totals. A last unit that has not ended counts if it has a byte.
     fn end(&mut self, unit: &[u8])
         requires { Keeps unit.now self.old }
-        ensures { Lasting self.old self.new }
+        ensures lasting { Lasting self.old self.new }
+        ensures closed { Closed unit.now self.old self.new }
     {
         self.make_room();
         let run = self.run;
@@ -141,7 +166,8 @@ impl<'a> Moving<'a> {
         }
     }
 
-    // What is shown of a unit that was cut off: nothing where none was. Asked for: that its bytes stand in the unit buffer.
+    // What is shown of a unit that was cut off: nothing where none was, and after a write that failed. Asked for: that its bytes stand in the unit
+    // buffer.
     fn show(&mut self, cut: Unit, unit: &[u8], pieces: Pieces)
         requires { text_length cut ≤ length unit.now }
         ensures { Shown cut self.old self.new }
@@ -151,6 +177,10 @@ impl<'a> Moving<'a> {
         }
         let size = self.out.len();
         let units = self.run.counts.units.saturating_add(1);
+        self.run.counts.units = units;
+        if self.unwritten.is_some() {
+            return;
+        }
         let mut outlet = Outlet {
             to: self.to.output,
             out: self.out,
@@ -162,7 +192,6 @@ impl<'a> Moving<'a> {
         };
         show_unit(&mut outlet, self.book, cut, unit, pieces, units);
         self.run.at = outlet.sink.at.min(size);
-        self.run.counts.units = units;
         self.whole = outlet.sink.whole;
         self.unwritten = outlet.sink.fault;
     }

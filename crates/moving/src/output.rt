@@ -8,12 +8,16 @@ use channel::writing::write_whole;
 use std::io;
 
 impl<'a> Moving<'a> {
-    // Room for what one unit may put out: what waits is written where there is less.
+    // Room for what one unit may put out: what waits is written where there is less. After a write that failed it is let go, and that fault stays.
     pub(crate) fn make_room(&mut self)
         ensures { Roomy self.old self.new }
     {
         if self.out.len() - self.run.at < 5400 {
-            self.write_out();
+            if self.unwritten.is_some() {
+                self.run.at = 0;
+            } else {
+                self.write_out();
+            }
         }
         if self.told.len() - self.run.told < 400 {
             self.write_told();

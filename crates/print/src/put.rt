@@ -3,6 +3,7 @@ ghost use Rattle.text.specs.Decimal.{decimal_text};
 ghost use Rattle.print.specs.Put.{Placed};
 
 use crate::digits::digits_of;
+use text::copy::copy;
 
 // The bytes of a text.
 pub fn put(out: &mut [u8], at: usize, s: &[u8]) -> usize
@@ -12,7 +13,7 @@ pub fn put(out: &mut [u8], at: usize, s: &[u8]) -> usize
         return at;
     }
     let end = at + s.len();
-    out[at..end].copy_from_slice(s);
+    copy(s, &mut out[at..end]);
     end
 }
 

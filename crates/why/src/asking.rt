@@ -42,7 +42,8 @@ impl<'a> Asking<'a> {
 
     // A line that nothing is said of.
     pub fn count_line(&mut self)
-        ensures { self.new.counts ≡ with_line self.old.counts }
+        ensures counted { self.new.counts ≡ with_line self.old.counts }
+        ensures unsaid { self.new.sink ≡ self.old.sink }
     {
         self.counts.count_line();
     }
@@ -58,7 +59,7 @@ impl<'a> Asking<'a> {
     pub fn say_line(&mut self, line: &[u8])
         ensures { LineSaid line.now self.old self.new }
     {
-        self.counts.count_line();
+        self.count_line();
         if let Ok(Place { from, to }) = payload_of(line) {
             self.counts.count_payload();
             self.say_payload(&line[from..to]);

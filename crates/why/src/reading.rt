@@ -1,5 +1,6 @@
 // The input, part after part and line after line.
-ghost use Rattle.std.specs.Prelude.{◌≡◌, ◌≤◌, length};
+ghost use Rattle.std.specs.Prelude.{◌≡◌, ◌≤◌, length, take};
+ghost use Rattle.channel.specs.Moving.{Read};
 
 use crate::asking::Asking;
 use channel::fault::{Fault, NO_REASON};
@@ -26,6 +27,8 @@ pub struct Reading<'a> {
 }
 
 impl<'a> Reading<'a> {
+    ghost use Rattle.why.specs.Reading.{ReadTaken, LineTaken, AtRecord};
+
     pub fn new(asking: Asking<'a>, unit: &'a mut [u8]) -> Reading<'a>
         requires { 65539 ≤ length unit.old }
         ensures { result.held ≡ 0 }
@@ -40,19 +43,46 @@ impl<'a> Reading<'a> {
     // Part after part to the end of the input; after a write that failed nothing more is read. No input lasts for all the turns.
     pub fn read_all(&mut self, mut from: Stdin, input: &mut [u8]) -> Result<(), Stop> {
         for _ in 0..u64::MAX {
+<<<<<<< HEAD
             let Some(n) = read_some(&mut from, input).map_err(Stop::Unread)? else {
                 return self.end();
             };
             self.take_part(&input[..n])?;
             if self.asking.sink.sink.fault.is_some() {
                 return Ok(());
+=======
+            let read = read_some(&mut from, input);
+            if let Some(end) = self.take_read(read, input) {
+                return end;
+>>>>>>> 3392e5adfbe582c9f8743eb889ddc56f550b139c
             }
         }
         Err(Stop::Unread(NO_REASON))
     }
 
+    // The part that was read, or the end; how the reading ends, where it does. A read that failed ends it with its fault, and nothing else is done.
+    fn take_read(
+        &mut self,
+        read: Result<Option<usize>, Fault>,
+        input: &[u8],
+    ) -> Option<Result<(), Stop>>
+        requires { Read (length input.now) read }
+        ensures { ReadTaken read self.old self.new result }
+    {
+        match read {
+            Ok(Some(n)) => match self.take_part(&input[..n]) {
+                Ok(()) => self.asking.sink.fault.is_some().then_some(Ok(())),
+                Err(stop) => Some(Err(stop)),
+            },
+            Ok(None) => Some(self.end()),
+            Err(fault) => Some(Err(Stop::Unread(fault))),
+        }
+    }
+
     // All lines that end in a part; what is open is held.
-    fn take_part(&mut self, part: &[u8]) -> Result<(), Stop> {
+    fn take_part(&mut self, part: &[u8]) -> Result<(), Stop>
+        ensures { AtRecord result }
+    {
         let mut from = 0;
         while from < part.len() && self.asking.sink.sink.fault.is_none() {
             let fed = feed(Framing::Lines, part, from, self.unit, self.held);
@@ -67,18 +97,23 @@ impl<'a> Reading<'a> {
 
     // The line that is held. One that starts with A1 is a record, and what follows may be pieces of it: nothing more is looked at. It is numbered, for the
     // sentence that tells of it.
-    fn take_line(&mut self) -> Result<(), Stop> {
-        if byte_at(&self.unit[..self.held], 0) == 0xA1 {
+    fn take_line(&mut self) -> Result<(), Stop>
+        ensures { LineTaken (take self.old.held self.old.unit.now) self.old self.new result }
+    {
+        let line = &self.unit[..self.held];
+        self.held = 0;
+        if byte_at(line, 0) == 0xA1 {
             self.asking.count_line();
             return Err(Stop::Record);
         }
-        self.asking.say_line(&self.unit[..self.held]);
-        self.held = 0;
+        self.asking.say_line(line);
         Ok(())
     }
 
     // A last line with no newline counts if it has a byte. Then the totals, unless the input stopped at a record.
-    fn end(&mut self) -> Result<(), Stop> {
+    fn end(&mut self) -> Result<(), Stop>
+        ensures { AtRecord result }
+    {
         if 0 < self.held {
             self.take_line()?;
         }

@@ -9,13 +9,9 @@ use Rattle.std.specs.Prelude.{Option, None, Some, is_some}
 use Rattle.text.proofs.Places.{clash}
 use Rattle.text.specs.declared.number.BadNumber.{BadNumber}
 use Rattle.print.specs.declared.page.Page.{Page}
-<<<<<<< HEAD
 use Rattle.channel.specs.declared.sink.Outlet.{Outlet}
-=======
 use Rattle.channel.specs.declared.fault.Fault.{Fault}
-use Rattle.channel.specs.declared.sink.Sink.{Sink}
-use Rattle.channel.specs.Sink.{Flushed}
->>>>>>> 3392e5adfbe582c9f8743eb889ddc56f550b139c
+use Rattle.channel.specs.Sink.{FlushedThrough}
 use Rattle.listing_rows.specs.Rows.{Put, PutOn}
 use Rattle.why_rows.specs.declared.tally.Counts.{Counts}
 use Rattle.why_rows.specs.Rows.{row_text}
@@ -77,9 +73,9 @@ pub row_alone : {p q : Page} {row : List ℕ} → p.at ≡ 0 → PutOn p row q �
 row_alone z x = put_taken z x.put
 
 -- what was flushed waits no more, unless a write failed
-pub flushed_out : {s r : Sink} → Flushed s r → r.fault ≡ None → r.page.at ≡ 0
-flushed_out {s} {r} x e = go s.fault refl
+pub flushed_out : {s r : Outlet} → FlushedThrough s r → r.sink.fault ≡ None → r.sink.at ≡ 0
+flushed_out {s} {r} x e = go s.sink.fault refl
   where
-    go : (o : Option Fault) → s.fault ≡ o → r.page.at ≡ 0
-    go None n = (x.passed n).passed.empty
-    go (Some f) n = absurd (clash (ap is_some n) (ap is_some (sym (ap (λ (t : Sink). t.fault) (x.after_fault (ap is_some n))) ∙ e)))
+    go : (o : Option Fault) → s.sink.fault ≡ o → r.sink.at ≡ 0
+    go None n = (x.flushed.passed n).empty
+    go (Some f) n = absurd (clash (ap is_some n) (ap is_some (sym (ap (λ (t : Outlet). t.sink.fault) (x.after_fault (ap is_some n))) ∙ e)))

@@ -23,6 +23,6 @@ AtRecord (Err stop) = stop ≡ Record
 
 -- likewise behind the part that was read and at the end of the input; behind a part it goes on else, unless a write failed; a read that failed ends it with its fault, and all is as it was
 abbrev pub ReadTaken : Result (Option ℕ) Fault → Reading → Reading → Option (Result (Unit {0}) Stop) → Type 0
-ReadTaken (Ok (Some n)) s r end = (end ≡ Some (Err Record)) ⊎ (end ≡ cond (is_some r.asking.sink.fault) (Some (Ok tt)) None)
+ReadTaken (Ok (Some n)) s r end = (end ≡ Some (Err Record)) ⊎ (end ≡ cond (is_some r.asking.sink.sink.fault) (Some (Ok tt)) None)
 ReadTaken (Ok None) s r end = (end ≡ Some (Err Record)) ⊎ (end ≡ Some (Ok tt))
 ReadTaken (Err fault) s r end = (end ≡ Some (Err (Unread fault))) × (r ≡ s)

@@ -45,23 +45,17 @@ fn run(
     let mut reading = Reading::new(Asking::new(sink, row), unit);
     let read = reading.read_all(streams.input, input);
     reading.asking.flush();
-<<<<<<< HEAD
-    let whole = reading.asking.sink.sink.whole;
-    if let Some(fault) = reading.asking.sink.sink.fault {
-        return fail(streams.error, b"writing standard output", fault, whole);
-=======
     tell_end(streams.error, &reading.asking, read)
 }
 
 // One sentence for what kept the program from its work, and its status; success where all went well. Asked for: that nothing waits, unless a write
 // failed.
 fn tell_end(to: Stderr, asking: &Asking, read: Result<(), Stop>) -> ExitCode
-    requires { asking.now.sink.fault ≡ None → asking.now.sink.page.at ≡ 0 }
+    requires { asking.now.sink.sink.fault ≡ None → asking.now.sink.sink.at ≡ 0 }
 {
-    let whole = asking.sink.whole;
-    if let Some(fault) = asking.sink.fault {
+    let whole = asking.sink.sink.whole;
+    if let Some(fault) = asking.sink.sink.fault {
         return fail(to, b"writing standard output", fault, whole);
->>>>>>> 3392e5adfbe582c9f8743eb889ddc56f550b139c
     }
     match read {
         Ok(()) => ExitCode::SUCCESS,

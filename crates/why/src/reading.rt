@@ -43,18 +43,9 @@ impl<'a> Reading<'a> {
     // Part after part to the end of the input; after a write that failed nothing more is read. No input lasts for all the turns.
     pub fn read_all(&mut self, mut from: Stdin, input: &mut [u8]) -> Result<(), Stop> {
         for _ in 0..u64::MAX {
-<<<<<<< HEAD
-            let Some(n) = read_some(&mut from, input).map_err(Stop::Unread)? else {
-                return self.end();
-            };
-            self.take_part(&input[..n])?;
-            if self.asking.sink.sink.fault.is_some() {
-                return Ok(());
-=======
             let read = read_some(&mut from, input);
             if let Some(end) = self.take_read(read, input) {
                 return end;
->>>>>>> 3392e5adfbe582c9f8743eb889ddc56f550b139c
             }
         }
         Err(Stop::Unread(NO_REASON))
@@ -71,7 +62,7 @@ impl<'a> Reading<'a> {
     {
         match read {
             Ok(Some(n)) => match self.take_part(&input[..n]) {
-                Ok(()) => self.asking.sink.fault.is_some().then_some(Ok(())),
+                Ok(()) => self.asking.sink.sink.fault.is_some().then_some(Ok(())),
                 Err(stop) => Some(Err(stop)),
             },
             Ok(None) => Some(self.end()),

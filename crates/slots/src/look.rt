@@ -55,8 +55,10 @@ impl Seen {
         ensures { self.new ≡ look_of self.old slot place }
     {
         if slot.rank == 0 {
-            if place < self.free.unwrap_or(self.size) {
-                self.free = Some(place);
+            match self.free {
+                Some(free) if free <= place => {}
+                None if self.size <= place => {}
+                _ => self.free = Some(place),
             }
             return;
         }

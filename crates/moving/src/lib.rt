@@ -38,6 +38,19 @@ pub fn run_chosen<F: Fn(Pieces) -> Program>(rt: &HostRuntime, program: F) -> Exi
     }
 }
 
+// The programs `pack` and `unpack`, which may be told their choice, and a program that takes no argument.
+pub fn run_pack(rt: &HostRuntime) -> ExitCode {
+    run_chosen(rt, Program::Pack)
+}
+
+pub fn run_unpack(rt: &HostRuntime) -> ExitCode {
+    run_chosen(rt, Program::Unpack)
+}
+
+pub fn run_filter(rt: &HostRuntime, program: Program) -> ExitCode {
+    run_plain(rt, program)
+}
+
 pub fn give_usage(to: Stderr, program: Program) -> ExitCode {
     tell(to, program.usage());
     ExitCode::from(Status::BadCall)

@@ -1,7 +1,7 @@
 // A field of a row: its name, and its value or a dash for none.
 //
-// These are helpers of the replaying programs, below their outer surface. A page keeps its place inside its buffer, so no call asks for it or
-// promises it; what they print is compared with the oracle in the gate.
+// These are helpers of the replaying programs, below their outer surface. A page keeps its place inside its buffer, so no call asks for it;
+// each promises that the page is over the same buffer still. What they print is compared with the oracle in the gate.
 ghost use Rattle.oracle_line_rows.specs.Lent.{OverSame, Keeps};
 
 use print::page::Page;

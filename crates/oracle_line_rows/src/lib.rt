@@ -5,7 +5,9 @@
 //     put_row       an entry's fields
 //     fields        a field of a row
 //     rows          what a replaying program reads and writes
-#![tactic(auto)]
+#![tactic(auto, using(crate::proofs::Lent::buffer_size))]
+
+ghost use Rattle.oracle_line_rows.specs.Lent.{OverSame};
 
 pub mod fields;
 pub mod rows;
@@ -16,7 +18,9 @@ use print::page::Page;
 use scan::{Pieces, parse};
 
 // The row of a line, read by the choice into the lent slots.
-pub fn put_answer(page: &mut Page, line: &[u8], pieces: Pieces, slots: &mut [u32]) {
+pub fn put_answer(page: &mut Page, line: &[u8], pieces: Pieces, slots: &mut [u32])
+    ensures { OverSame page.old page.new }
+{
     match parse(line, pieces, slots) {
         Ok(e) => put_row(page, line, slots, e),
         Err(refusal) => put_refused(page, b"refused ", refusal),
@@ -25,7 +29,9 @@ pub fn put_answer(page: &mut Page, line: &[u8], pieces: Pieces, slots: &mut [u32
 }
 
 // An entry's fields, with no newline. Task and function lie in the text, the dwords in the slots.
-pub fn put_row(page: &mut Page, text: &[u8], slots: &[u32], e: Entry) {
+pub fn put_row(page: &mut Page, text: &[u8], slots: &[u32], e: Entry)
+    ensures { OverSame page.old page.new }
+{
     put_head(page, text, e);
     put_body(page, e);
     put_optionals(page, e);
@@ -36,7 +42,9 @@ pub fn put_row(page: &mut Page, text: &[u8], slots: &[u32], e: Entry) {
 }
 
 // What the header says.
-fn put_head(page: &mut Page, text: &[u8], e: Entry) {
+fn put_head(page: &mut Page, text: &[u8], e: Entry)
+    ensures { OverSame page.old page.new }
+{
     put_bytes(page, b"entry task=", e.task(text));
     put_count(page, b" pid=", e.pid);
     put_count(page, b" cpu=", e.cpu);
@@ -46,7 +54,9 @@ fn put_head(page: &mut Page, text: &[u8], e: Entry) {
 }
 
 // What the payload must say.
-fn put_body(page: &mut Page, e: Entry) {
+fn put_body(page: &mut Page, e: Entry)
+    ensures { OverSame page.old page.new }
+{
     put_count(page, b" kind=", e.kind);
     put_count(page, b" size=", e.size);
     put_count(page, b" dropped=", e.dropped);
@@ -55,7 +65,9 @@ fn put_body(page: &mut Page, e: Entry) {
 }
 
 // What it may say.
-fn put_optionals(page: &mut Page, e: Entry) {
+fn put_optionals(page: &mut Page, e: Entry)
+    ensures { OverSame page.old page.new }
+{
     put_maybe(page, b" offset=", e.offset);
     put_maybe(page, b" event=", e.code);
     put_maybe(page, b" len=", e.len);
@@ -66,7 +78,9 @@ fn put_optionals(page: &mut Page, e: Entry) {
 }
 
 // What the entry's questions answer.
-fn put_questions(page: &mut Page, e: Entry) {
+fn put_questions(page: &mut Page, e: Entry)
+    ensures { OverSame page.old page.new }
+{
     put_maybe(page, b" adapter=", e.adapter_num());
     put_maybe(page, b" unplugged=", e.unplug());
     page.put(b" name=");

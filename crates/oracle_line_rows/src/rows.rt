@@ -1,5 +1,6 @@
 // What a replaying program reads and writes: frames of standard input, and the rows that answer them, which wait on a page to be written.
 ghost use Rattle.std.specs.Prelude.{◌≡◌, ◌+◌, ◌≤◌, length};
+ghost use Rattle.oracle_line_rows.specs.Lent.{RowsKept};
 
 use channel::reading::read_whole;
 use channel::streams::Streams;
@@ -9,12 +10,14 @@ use print::page::Page;
 #[derive(Drop)]
 pub struct Rows<'a> {
     streams: Streams,
-    page: Page<'a>,
+    pub page: Page<'a>,
 }
 
 impl<'a> Rows<'a> {
     pub fn new(streams: Streams, out: &'a mut [u8]) -> Rows<'a>
-        ensures { result.page.at ≡ 0 }
+        ensures same { result.page.out.ghost_name ≡ out.entry.ghost_name }
+        ensures bytes { result.page.out.now ≡ out.old }
+        ensures at { result.page.at ≡ 0 }
     {
         Rows {
             streams,
@@ -35,7 +38,9 @@ impl<'a> Rows<'a> {
     }
 
     // The buffer filled from the input; nothing where the input ends before, or a read fails.
-    pub fn fill(&mut self, buffer: &mut [u8]) -> Option<()> {
+    pub fn fill(&mut self, buffer: &mut [u8]) -> Option<()>
+        ensures { RowsKept self.old self.new }
+    {
         match read_whole(&mut self.streams.input, buffer) {
             Ok(n) if n == buffer.len() => Some(()),
             _ => None,
@@ -43,24 +48,27 @@ impl<'a> Rows<'a> {
     }
 
     // So many bytes of the input.
-    pub fn read<const N: usize>(&mut self) -> Option<[u8; N]> {
+    pub fn read<const N: usize>(&mut self) -> Option<[u8; N]>
+        ensures { RowsKept self.old self.new }
+    {
         let mut bytes = [0u8; N];
         self.fill(&mut bytes)?;
         Some(bytes)
     }
 
-    // The page for the next row; what stands on it is written before, once less than so much room is left.
-    pub fn page(&mut self, room: usize) -> &mut Page<'a>
-        ensures { room ≤ length result.now.out.now → result.now.at + room ≤ length result.now.out.now }
+    // Room on the page for the next row; what stands on it is written before, once less than so much is left.
+    pub fn make_room(&mut self, room: usize)
+        ensures kept { RowsKept self.old self.new }
+        ensures room { room ≤ length self.new.page.out.now → self.new.page.at + room ≤ length self.new.page.out.now }
     {
         if self.page.out.len() - self.page.at < room {
             self.write();
         }
-        &mut self.page
     }
 
     fn write(&mut self)
-        ensures { self.new.page.at ≡ 0 }
+        ensures kept { RowsKept self.old self.new }
+        ensures at { self.new.page.at ≡ 0 }
     {
         let _ = write_whole(&mut self.streams.output, self.page.text());
         self.page.at = 0;

@@ -1,5 +1,6 @@
 // The questions by name: for each name the UUID, the field of that name, and the field with a bit range of that name.
 ghost use Rattle.std.specs.Prelude.{◌<◌, length, IfSome};
+ghost use Rattle.oracle_line_rows.specs.Lent.{OverSame};
 
 use crate::Packet;
 use crate::told::{put_number, put_uuid};
@@ -11,7 +12,9 @@ use questions::{field_by_bitfield_name, field_by_name, uuid_by_name};
 use refusal::Refusal;
 
 // The first nine names are asked for as a caller does who has no places, the others by the places.
-pub fn put_all(page: &mut Page, packet: Packet, names: &[u8]) {
+pub fn put_all(page: &mut Page, packet: Packet, names: &[u8])
+    ensures { OverSame page.old page.new }
+{
     let mut left = names;
     let mut turn = 0u32;
     while let Some((name, rest)) = split_name(left) {
@@ -36,7 +39,9 @@ fn split_name(names: &[u8]) -> Option<(&[u8], &[u8])>
     rest.split_at_checked(*length as usize)
 }
 
-fn put_whole(page: &mut Page, packet: Packet, name: &[u8]) {
+fn put_whole(page: &mut Page, packet: Packet, name: &[u8])
+    ensures { OverSame page.old page.new }
+{
     let Packet {
         kind,
         book,
@@ -49,7 +54,9 @@ fn put_whole(page: &mut Page, packet: Packet, name: &[u8]) {
 }
 
 // The same by the places.
-fn put_described(page: &mut Page, packet: Packet, name: &[u8]) {
+fn put_described(page: &mut Page, packet: Packet, name: &[u8])
+    ensures { OverSame page.old page.new }
+{
     let Packet {
         kind,
         book,
@@ -68,7 +75,9 @@ fn put_described(page: &mut Page, packet: Packet, name: &[u8]) {
 }
 
 // The index of the dword that a field is of.
-fn put_index(page: &mut Page, told: Result<Option<Field>, Refusal>) {
+fn put_index(page: &mut Page, told: Result<Option<Field>, Refusal>)
+    ensures { OverSame page.old page.new }
+{
     put_number(
         page,
         b":",

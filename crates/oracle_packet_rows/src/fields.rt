@@ -1,5 +1,6 @@
 // The descriptions of a packet: the table of each dword's entry, and the fields with their bit ranges.
 ghost use Rattle.std.specs.Prelude.{◌≡◌};
+ghost use Rattle.oracle_line_rows.specs.Lent.{OverSame};
 ghost use Rattle.oracle_packet_rows.specs.Count.{control_count};
 
 use crate::Packet;
@@ -22,7 +23,9 @@ pub fn count_control(kind: u8, book: &[u8]) -> usize
 
 impl Packet<'_> {
     // The letter of each dword's table; a dash for no dword.
-    pub(crate) fn put_sources(self, page: &mut Page) {
+    pub(crate) fn put_sources(self, page: &mut Page)
+        ensures { OverSame page.old page.new }
+    {
         if self.dwords.is_empty() {
             page.put(b"-");
         }
@@ -39,7 +42,9 @@ impl Packet<'_> {
     }
 
     // The described fields with a comma between them; a dash for none.
-    pub(crate) fn put_fields(self, page: &mut Page) {
+    pub(crate) fn put_fields(self, page: &mut Page)
+        ensures { OverSame page.old page.new }
+    {
         let start = page.at;
         for i in 0..self.dwords.len() {
             match self.field(i) {
@@ -75,7 +80,9 @@ impl Packet<'_> {
 }
 
 // A described field: its index, its name and its bit ranges.
-fn put_field(page: &mut Page, book: &[u8], field: Field) {
+fn put_field(page: &mut Page, book: &[u8], field: Field)
+    ensures { OverSame page.old page.new }
+{
     page.put_decimal(field.offset as u64);
     put_name(page, b":", field_name(book, field));
     for k in 0..count_ranges(book, field) {
@@ -86,7 +93,9 @@ fn put_field(page: &mut Page, book: &[u8], field: Field) {
 }
 
 // A bit range: its bits, its value, and the value's name.
-fn put_range(page: &mut Page, book: &[u8], range: Range) {
+fn put_range(page: &mut Page, book: &[u8], range: Range)
+    ensures { OverSame page.old page.new }
+{
     put_count(page, b";", range.low);
     put_count(page, b"-", range.high);
     put_count(page, b"=", range.value);

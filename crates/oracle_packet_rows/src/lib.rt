@@ -3,7 +3,9 @@
 //
 //     put_answer    the row of a packet
 // A kind is a number here, as packet's `parse` takes it.
-#![tactic(auto)]
+#![tactic(auto, using(oracle_line_rows::proofs::Lent::buffer_size))]
+
+ghost use Rattle.oracle_line_rows.specs.Lent.{OverSame};
 
 mod asked;
 mod fields;
@@ -33,7 +35,9 @@ pub fn put_answer(
     names: &[u8],
     dwords: &[u32],
     places: &mut [u32],
-) {
+)
+    ensures { OverSame page.old page.new }
+{
     match packet::parse(kind, book, dwords, places) {
         Ok(_) => {
             // There is a place for each dword of a packet that was described.
@@ -53,7 +57,9 @@ pub fn put_answer(
 }
 
 impl Packet<'_> {
-    fn put_row(self, page: &mut Page, names: &[u8]) {
+    fn put_row(self, page: &mut Page, names: &[u8])
+        ensures { OverSame page.old page.new }
+    {
         self.put_head(page);
         self.put_route(page);
         self.put_data(page);
@@ -66,7 +72,9 @@ impl Packet<'_> {
     }
 
     // What the dwords are described by.
-    fn put_head(self, page: &mut Page) {
+    fn put_head(self, page: &mut Page)
+        ensures { OverSame page.old page.new }
+    {
         put_count(
             page,
             b"packet n=",
@@ -82,7 +90,9 @@ impl Packet<'_> {
         self.put_sources(page);
     }
 
-    fn put_route(self, page: &mut Page) {
+    fn put_route(self, page: &mut Page)
+        ensures { OverSame page.old page.new }
+    {
         let Packet {
             kind,
             book,
@@ -95,7 +105,9 @@ impl Packet<'_> {
     }
 
     // The view is said by the index of its first dword, and how many it has.
-    fn put_data(self, page: &mut Page) {
+    fn put_data(self, page: &mut Page)
+        ensures { OverSame page.old page.new }
+    {
         let Packet {
             kind,
             book,
@@ -113,7 +125,9 @@ impl Packet<'_> {
         });
     }
 
-    fn put_kind(self, page: &mut Page) {
+    fn put_kind(self, page: &mut Page)
+        ensures { OverSame page.old page.new }
+    {
         let Packet {
             kind,
             book,
@@ -134,7 +148,9 @@ impl Packet<'_> {
     }
 
     // The packet type's value and its name.
-    fn put_type(self, page: &mut Page) {
+    fn put_type(self, page: &mut Page)
+        ensures { OverSame page.old page.new }
+    {
         let Packet {
             kind,
             book,

@@ -3,7 +3,9 @@
 //
 //     put_record    the row of a record
 //     set           one number of an entry is another
-#![tactic(auto)]
+#![tactic(auto, using(oracle_line_rows::proofs::Lent::buffer_size))]
+
+ghost use Rattle.oracle_line_rows.specs.Lent.{OverSame};
 
 pub mod set;
 
@@ -15,13 +17,9 @@ use record::read;
 use writer::write;
 
 // The row of a record, read into the lent slots, and its entry, with one number set, written again into the lent room.
-pub fn put_record(
-    page: &mut Page,
-    text: &[u8],
-    slots: &mut [u32],
-    room: &mut [u8],
-    change: Change,
-) {
+pub fn put_record(page: &mut Page, text: &[u8], slots: &mut [u32], room: &mut [u8], change: Change)
+    ensures { OverSame page.old page.new }
+{
     match read(text, slots) {
         Ok(e) => {
             put_row(page, text, slots, e);
@@ -37,7 +35,9 @@ pub fn put_record(
 }
 
 // What was written: `same` for the record's own bytes, or the bytes.
-fn put_written(page: &mut Page, text: &[u8], room: &[u8], n: usize) {
+fn put_written(page: &mut Page, text: &[u8], room: &[u8], n: usize)
+    ensures { OverSame page.old page.new }
+{
     match room.get(..n) {
         Some(made) if made == text => page.put(b"same"),
         Some(made) => put_bytes(page, b"", made),

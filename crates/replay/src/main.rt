@@ -2,6 +2,8 @@
 // then the line. For each it writes a row with every field of the line's entry, or the number that refuses it.
 #![tactic(auto)]
 
+ghost use Rattle.oracle_line_rows.specs.Lent.{RowsKept};
+
 use channel::streams::streams_of;
 use oracle_line_rows::put_answer;
 use oracle_line_rows::rows::Rows;
@@ -19,12 +21,15 @@ fn main(rt: HostRuntime) {
 
 // A frame longer than the line buffer, or cut short, ends the run. A row of the longest line takes two digits a byte of task and function, nine
 // characters a dword, and some 400 for the rest.
-fn answer_frame(rows: &mut Rows, line: &mut [u8], slots: &mut [u32]) -> Option<()> {
+fn answer_frame(rows: &mut Rows, line: &mut [u8], slots: &mut [u32]) -> Option<()>
+    ensures { RowsKept rows.old rows.new }
+{
     let head = rows.read::<9>()?;
     let line = line.get_mut(..four_at(&head, 0) as usize)?;
     rows.fill(line)?;
     let lent = slots.len().min(four_at(&head, 4) as usize);
-    put_answer(rows.page(16_384), line, choice(head[8]), &mut slots[..lent]);
+    rows.make_room(16_384);
+    put_answer(&mut rows.page, line, choice(head[8]), &mut slots[..lent]);
     Some(())
 }
 

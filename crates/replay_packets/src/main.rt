@@ -5,6 +5,7 @@
 #![tactic(auto)]
 
 ghost use Rattle.std.specs.Prelude.{◌≤◌, length};
+ghost use Rattle.oracle_line_rows.specs.Lent.{RowsKept};
 
 use channel::streams::streams_of;
 use oracle_line_rows::rows::Rows;
@@ -21,7 +22,9 @@ fn main(rt: HostRuntime) {
 }
 
 // What is longer than its buffer, or cut short, ends the run.
-fn answer_group(rows: &mut Rows, book: &mut [u8], names: &mut [u8]) -> Option<()> {
+fn answer_group(rows: &mut Rows, book: &mut [u8], names: &mut [u8]) -> Option<()>
+    ensures { RowsKept rows.old rows.new }
+{
     let head = rows.read::<12>()?;
     let book = book.get_mut(..four_at(&head, 0) as usize)?;
     rows.fill(book)?;
@@ -33,7 +36,9 @@ fn answer_group(rows: &mut Rows, book: &mut [u8], names: &mut [u8]) -> Option<()
     Some(())
 }
 
-fn answer_packet(rows: &mut Rows, book: &[u8], names: &[u8]) -> Option<()> {
+fn answer_packet(rows: &mut Rows, book: &[u8], names: &[u8]) -> Option<()>
+    ensures { RowsKept rows.old rows.new }
+{
     let mut room = [0u8; 4096];
     let mut dwords = [0u32; 1024];
     let mut places = [0u32; 1024];
@@ -43,8 +48,9 @@ fn answer_packet(rows: &mut Rows, book: &[u8], names: &[u8]) -> Option<()> {
     let count = read_dwords(body, &mut dwords);
     let lent = places.len().min(four_at(&head, 4) as usize);
     // A row has half of the output's buffer.
+    rows.make_room(32_768);
     put_answer(
-        rows.page(32_768),
+        &mut rows.page,
         byte_at(body, 0),
         book,
         names,

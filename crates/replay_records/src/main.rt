@@ -3,6 +3,8 @@
 // the record's entry and what writing it again gives, or the number that refuses it.
 #![tactic(auto)]
 
+ghost use Rattle.oracle_line_rows.specs.Lent.{RowsKept};
+
 use channel::streams::streams_of;
 use oracle_line_rows::rows::Rows;
 use oracle_record_rows::put_record;
@@ -18,7 +20,9 @@ fn main(rt: HostRuntime) {
 // A frame longer than the text buffer, or cut short, ends the run. Slots and room are as new for each record, so that a row does not hang on the
 // frames before it. A row of the longest record takes two digits a byte of task and function, and of the record again, nine characters a dword,
 // and some 400 for the rest.
-fn answer_frame(rows: &mut Rows, text: &mut [u8]) -> Option<()> {
+fn answer_frame(rows: &mut Rows, text: &mut [u8]) -> Option<()>
+    ensures { RowsKept rows.old rows.new }
+{
     let mut slots = [0u32; 300];
     let mut room = [0u8; 5300];
     let head = rows.read::<15>()?;
@@ -30,8 +34,9 @@ fn answer_frame(rows: &mut Rows, text: &mut [u8]) -> Option<()> {
         number: byte_at(&head, 6),
         value: eight_at(&head, 7),
     };
+    rows.make_room(24_576);
     put_record(
-        rows.page(24_576),
+        &mut rows.page,
         text,
         &mut slots[..lent],
         &mut room[..free],

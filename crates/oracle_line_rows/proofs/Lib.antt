@@ -1,0 +1,2 @@
+-- The law of a page's buffer.
+pub mod Lent

@@ -1,0 +1,5 @@
+-- `fields::put_list` meets its contract: each call keeps the page over its buffer. Assumes nothing.
+use Rattle.oracle_line_rows.proofs.fields.put_list.Goals as goal
+
+pub loop-item-init : goal.loop-item-init
+loop-item-init g c = c.requires.keeps _ _ _ c.put-2.ensures

@@ -1,0 +1,2 @@
+-- What the contracts of `oracle_line_rows` cite.
+pub mod Lent

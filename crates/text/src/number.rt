@@ -105,18 +105,23 @@ fn read_short(s: &[u8], from: usize, base: u64, limit: u64) -> Option<u64>
     within(v, limit)
 }
 
-// However many digits there are, a value that passes the limit or 64 bits is given up at once, as any further digit only raises it; why, `reason` says.
+// The limit is divided once: a value above the quotient has no room for any further digit, and for one that is not, the product stays within the
+// limit, so no sum wraps however many digits there are. What is no number is given up at once; why, `reason` says.
 fn read_long(s: &[u8], from: usize, base: u64, limit: u64) -> Option<u64>
     requires { (0 < base) × (base ≤ 16) × (from < length s.now) }
     ensures { result ≡ result_ok (reading_of base limit from s.now) }
 {
+    let most = limit / base;
     let mut v: u64 = 0;
     for i in from..s.len() {
         let d = digit_in(s[i], base)?;
-        v = v.checked_mul(base)?.checked_add(d)?;
-        if limit < v {
+        if most < v {
             return None;
         }
+        if limit - v * base < d {
+            return None;
+        }
+        v = v * base + d;
     }
     Some(v)
 }

@@ -1,7 +1,8 @@
 // A field of a row: its name, and its value or a dash for none.
 //
 // These are helpers of the replaying programs, below their outer surface. A page keeps its place inside its buffer, so no call asks for it;
-// each promises that the page is over the same buffer still. What they print is compared with the oracle in the gate.
+// each promises that the page is over the same buffer still, `put_list` where its closure keeps it there. What they print is compared with the
+// oracle in the gate.
 ghost use Rattle.oracle_line_rows.specs.Lent.{OverSame, Keeps};
 
 use print::page::Page;
@@ -50,9 +51,8 @@ pub fn put_maybe<T: Into<u64>>(page: &mut Page, name: &[u8], v: Option<T>)
 
 // The items with a comma between them, each as `put` says it; a dash for none.
 pub fn put_list<T: Copy, F: Fn(&mut Page, T)>(page: &mut Page, items: &[T], put: F)
-    requires callable { F.IsAlwaysCallable put }
-    requires keeps { Keeps (F.post put) }
-    ensures { OverSame page.old page.new }
+    requires { F.IsAlwaysCallable put }
+    ensures { Keeps (F.post put) → OverSame page.old page.new }
 {
     let Some((first, rest)) = items.split_first() else {
         page.put(b"-");

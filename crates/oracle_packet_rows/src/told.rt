@@ -6,16 +6,15 @@ use oracle_line_rows::fields::{put_bytes, put_none, put_refused};
 use print::page::Page;
 use refusal::Refusal;
 
-// A value as `put` says it.
+// A value as `put` says it. The page stays over its buffer where `put` keeps it there.
 pub fn put_told<T: Drop, F: FnOnce(&mut Page, T)>(
     page: &mut Page,
     name: &[u8],
     told: Result<Option<T>, Refusal>,
     put: F,
 )
-    requires callable { F.IsAlwaysCallable put }
-    requires keeps { Keeps (F.post put) }
-    ensures { OverSame page.old page.new }
+    requires { F.IsAlwaysCallable put }
+    ensures { Keeps (F.post put) → OverSame page.old page.new }
 {
     page.put(name);
     match told {

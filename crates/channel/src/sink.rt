@@ -1,5 +1,5 @@
 // Standard output through a buffer: texts wait there until there is no room for the next one.
-ghost use Rattle.std.specs.Prelude.{◌≡◌, ◌+◌, ◌≤◌, None, length};
+ghost use Rattle.std.specs.Prelude.{◌≡◌, ◌+◌, ◌≤◌, ◌<◌, min, None, length};
 ghost use Rattle.channel.specs.Moving.{Written};
 ghost use Rattle.channel.specs.Sink.{rows_in, Counted, Passed, Flushed, Waits, Said, FlushedThrough, SaidThrough};
 
@@ -27,6 +27,15 @@ pub fn say(to: Stdout, out: &mut [u8], sink: Sink, text: &[u8]) -> Sink
     if text.len() <= out.len() - at {
         return wait(out, sink.whole, at, text);
     }
+    say_anew(to, out, sink, text)
+}
+
+// The same where there is no room behind what waits. A call of its own: it is seldom made, and compiled in it made each word dearer.
+#[inline(never)]
+fn say_anew(to: Stdout, out: &mut [u8], sink: Sink, text: &[u8]) -> Sink
+    requires { (sink.fault ≡ None) × (length out.old < min sink.at (length out.old) + length text.now) }
+    ensures { Said out.old sink text.now out.new result }
+{
     let clear = flush(to, out, sink);
     if clear.fault.is_some() {
         return clear;

@@ -7,7 +7,6 @@ use native.Mathlib.Omega.{arith}
 use lib.ListN.{length}
 use Rattle.std.specs.Prelude.{Option, Some, None, is_some, Result, Ok, Err, is_ok}
 use Rattle.text.proofs.Places.{clash}
-use Rattle.scan.specs.declared.Pieces.{Pieces}
 use Rattle.scan.specs.declared.Pieces.TheVariants.{Strict}
 use Rattle.tlv.specs.Number.{Bytes}
 use Rattle.units.specs.declared.Framing.{Framing}
@@ -25,14 +24,14 @@ use Rattle.filters.specs.declared.Filter.{Filter}
 use Rattle.filters.specs.declared.Filter.TheVariants as F
 use Rattle.filters.specs.declared.Run.{Run}
 use Rattle.filters.specs.Texts.{framing_of, put_framing}
-use Rattle.filters.specs.Calls.{Took, Finished}
+use Rattle.filters.specs.Calls.{Finished}
 use Rattle.filters.proofs.Turns.{turn_fits, still, end_fits}
 use Rattle.channel.specs.declared.fault.Fault.{Fault}
 use Rattle.moving.specs.declared.program.Program.{Program}
 use Rattle.moving.specs.declared.program.Program.TheVariants as P
 use Rattle.moving.specs.Programs.{filter_by, framing_by, WholeIn}
 use Rattle.moving.specs.declared.moving.Moving.{Moving}
-use Rattle.moving.specs.Steps.{Keeps, Begun, FaultStays, Lasting, Roomy, Went, end_status}
+use Rattle.moving.specs.Steps.{Keeps, Begun, OutWritten, ToldWritten, CountedOn, as_it_was, written, FaultStays, Lasting, Roomy, Went, end_status}
 
 -- a stream that has not begun
 pub begun_kept : (f : Framing) (unit : List ℕ) → length unit ≡ 8192 → is_kept f unit 0 0 ≡ true
@@ -54,21 +53,13 @@ framing_is (P.Pack x) e = rw (← same_ok e) refl
 framing_is (P.Unpack x) e = rw (← same_ok e) refl
 framing_is (P.Show x) e = absurd (clash refl (sym (ap is_ok e)))
 
-pub framing_both : (p : Program) {x : Pieces} → filter_by p ≡ Err x → framing_by p ≡ Both
-framing_both P.Listing e = absurd (clash refl (ap is_ok e))
-framing_both (P.Pack x) e = refl
-framing_both (P.Unpack x) e = refl
-framing_both (P.Show x) e = refl
+-- the filter that was chosen by the program is the one that it runs
+pub chosen : {p q : Program} {f g : Filter} → filter_by q ≡ Ok g → p ≡ q → f ≡ g → filter_by p ≡ Ok f
+chosen e a b = ap filter_by a ∙ e ∙ ap Ok (sym b)
 
 -- what one filter did is what the program's filter did
-pub took_by : (p : Program) {f g : Filter} → filter_by p ≡ Ok f → filter_by p ≡ Ok g → {s u o t u' o' t' : List ℕ} {run r : Run} → Took f s u o t run u' o' t' r → Took g s u o t run u' o' t' r
-took_by p e h x = rw (← same_ok (sym e ∙ h)) x
-
 pub finished_by : (p : Program) {f g : Filter} → filter_by p ≡ Ok f → filter_by p ≡ Ok g → (u o t : List ℕ) (run : Run) (o' t' : List ℕ) (r : Run) → Finished f u o t run o' t' r → Finished g u o t run o' t' r
 finished_by p e h u o t run o' t' r x = rw (← same_ok (sym e ∙ h)) x
-
-pub no_filter : (p : Program) {f : Filter} {x : Pieces} → filter_by p ≡ Ok f → filter_by p ≡ Err x → ⊥
-no_filter p h e = clash (ap is_ok h) (ap is_ok e)
 
 pub whole_by : (p : Program) {f : Filter} {s : List ℕ} {n : ℕ} → filter_by p ≡ Ok f → Ended (put_framing f) s n → WholeIn p s n
 whole_by P.Listing e x = rw (← same_ok e) at x
@@ -77,16 +68,20 @@ whole_by (P.Unpack p) e x = rw (← same_ok e) at x
 whole_by (P.Show p) e x = absurd (clash refl (sym (ap is_ok e)))
 
 -- room was made, and what is open is kept as before
-pub kept_after : (s r : Moving) (unit : List ℕ) → Roomy s r → Keeps unit s → Keeps unit r
-kept_after s r unit x k = rw (x.program, x.state) k
+pub kept_after : (p : Program) (s r : Moving) (unit : List ℕ) → Roomy p s r → Keeps p unit s → Keeps p unit r
+kept_after p s r unit x k = rw x.state k
 
-pub kept_begun : {p : Program} (r : Moving) (unit : List ℕ) → length unit ≡ 8192 → Begun p r → Keeps unit r
-kept_begun r unit size b = rw (b.held, b.passed) (begun_kept (framing_by r.program) unit size)
+pub kept_begun : (p : Program) (r : Moving) (unit : List ℕ) → length unit ≡ 8192 → Begun r → Keeps p unit r
+kept_begun p r unit size b = rw (b.held, b.passed) (begun_kept (framing_by p) unit size)
 
 -- ---- a fault of a write stays
 
 pub stays_none : {s r : Moving} → is_some s.unwritten ≡ false → FaultStays s r
 stays_none e = record { unwritten = λ h. absurd (clash h e); whole = λ h. absurd (clash h e) }
+
+pub counted_still : {p : Program} {s m r : Moving} → CountedOn p s m → r.whole ≡ m.whole → CountedOn p s r
+counted_still (as_it_was e) w = as_it_was (w ∙ e)
+counted_still (written bytes counted q e) w = written bytes counted q (w ∙ e)
 
 pub stays_then : {s m r : Moving} → FaultStays s m → FaultStays m r → FaultStays s r
 stays_then x y =
@@ -95,14 +90,71 @@ stays_then x y =
       whole = λ h. y.whole (ap is_some (x.unwritten h) ∙ h) ∙ x.whole h;
     }
 
+-- room for what one unit may put out, and what is to be told as it was
+pub record OutRoom (p : Program) (s r : Moving) : Type 0 where
+  pub untold : r.untold ≡ s.untold
+  pub from : r.run.from ≡ s.run.from
+  pub state : r.run.state ≡ s.run.state
+  pub counts : r.run.counts ≡ s.run.counts
+  pub whole : CountedOn p s r
+  pub fault_stays : FaultStays s r
+  pub out_room : r.run.at + 5400 ≤ length r.out.now
+
+pub room_there : {p : Program} (s : Moving) → s.run.at + 5400 ≤ length s.out.now → OutRoom p s s
+room_there s l =
+    record { untold = refl; from = refl; state = refl; counts = refl; whole = as_it_was refl; fault_stays = record { unwritten = λ h. refl; whole = λ h. refl }; out_room = l }
+
+pub room_written : {p : Program} {s r : Moving} → is_some s.unwritten ≡ false → OutWritten p s r → OutRoom p s r
+room_written {s = s} e x =
+    record {
+      untold = x.untold;
+      from = x.still.from;
+      state = x.still.state;
+      counts = x.still.counts;
+      whole = written x.bytes x.counted x.counted_is x.whole;
+      fault_stays = stays_none e;
+      out_room = rw (x.empty, x.still.out) s.out_size;
+    }
+
+pub room_kept : {p : Program} {s r : Moving} → OutRoom p s r → r.run.told + 400 ≤ length r.told.now → Roomy p s r
+room_kept x l =
+    record {
+      untold = λ h. x.untold ∙ h;
+      from = x.from;
+      state = x.state;
+      counts = x.counts;
+      whole = x.whole;
+      fault_stays = x.fault_stays;
+      ending = record { out_room = x.out_room; told_room = l };
+    }
+
+pub told_room_too : {p : Program} {s m r : Moving} → OutRoom p s m → ToldWritten m r → 400 ≤ length r.told.now → Roomy p s r
+told_room_too {s = s} {m = m} {r = r} x y l =
+    record {
+      untold = λ h. by (x.untold ∙ h);
+      from = y.still.from ∙ x.from;
+      state = y.still.state ∙ x.state;
+      counts = y.still.counts ∙ x.counts;
+      whole = counted_still x.whole y.whole;
+      fault_stays = record { unwritten = λ h. y.unwritten ∙ x.fault_stays.unwritten h; whole = λ h. y.whole ∙ x.fault_stays.whole h };
+      ending = record { out_room = rw (y.at_is, y.still.out) x.out_room; told_room = rw y.empty l };
+    }
+  where
+    by : m.untold ≡ true → r.untold ≡ true
+    by e = by_fault y.fault refl
+      where
+        by_fault : (o : Option Fault) → y.fault ≡ o → r.untold ≡ true
+        by_fault None q = y.sound q ∙ e
+        by_fault (Some f) q = y.lost (ap is_some q)
+
 pub lasting_then : {s m r : Moving} → Lasting s m → Lasting m r → Lasting s r
-lasting_then x y = record { program = y.program ∙ x.program; untold = λ h. y.untold (x.untold h); fault_stays = stays_then x.fault_stays y.fault_stays }
+lasting_then x y = record { untold = λ h. y.untold (x.untold h); fault_stays = stays_then x.fault_stays y.fault_stays }
 
-pub roomy_lasting : {s r : Moving} → Roomy s r → Lasting s r
-roomy_lasting x = record { program = x.program; untold = x.untold; fault_stays = x.fault_stays }
+pub roomy_lasting : {p : Program} {s r : Moving} → Roomy p s r → Lasting s r
+roomy_lasting x = record { untold = x.untold; fault_stays = x.fault_stays }
 
-pub went_lasting : {n : ℕ} {s r : Moving} → Went n s r → Lasting s r
-went_lasting x = record { program = x.program; untold = λ h. x.untold ∙ h; fault_stays = x.fault_stays }
+pub went_lasting : {p : Program} {n : ℕ} {s r : Moving} → Went p n s r → Lasting s r
+went_lasting x = record { untold = λ h. x.untold ∙ h; fault_stays = x.fault_stays }
 
 -- ---- what is shown
 

@@ -10,9 +10,8 @@ use Rattle.moving.specs.declared.program.Program.{Program}
 use Rattle.moving.specs.Programs.{filter_by, framing_by, WholeIn}
 use Rattle.moving.specs.declared.moving.Moving.{Moving}
 
--- before the first read: this program, nothing held, waiting or counted, and no fault
-pub record Begun (p : Program) (r : Moving) : Type 0 where
-  pub program : r.program ≡ p
+-- before the first read: nothing held, waiting or counted, and no fault
+pub record Begun (r : Moving) : Type 0 where
   pub from : r.run.from ≡ 0
   pub held : r.run.state.held ≡ 0
   pub passed : r.run.state.passed ≡ 0
@@ -25,12 +24,11 @@ pub record Begun (p : Program) (r : Moving) : Type 0 where
   pub untold : r.untold ≡ false
 
 -- the unit buffer keeps what is open as a stream does
-abbrev pub Keeps : List ℕ → Moving → Type 0
-Keeps unit s = is_kept (framing_by s.program) unit s.run.state.held s.run.state.passed ≡ true
+abbrev pub Keeps : Program → List ℕ → Moving → Type 0
+Keeps p unit s = is_kept (framing_by p) unit s.run.state.held s.run.state.passed ≡ true
 
--- the program, the buffers and what is open are as they were
+-- the buffers and what is open are as they were
 pub record Still (s r : Moving) : Type 0 where
-  pub program : r.program ≡ s.program
   pub out : r.out.now ≡ s.out.now
   pub told : r.told.now ≡ s.told.now
   pub from : r.run.from ≡ s.run.from
@@ -44,11 +42,11 @@ pub record Outcome (n bytes : ℕ) (fault : Option Fault) : Type 0 where
   pub cut : is_some fault ≡ true → bytes < n
 
 -- what waited was written, all of it or a front: the fault of that write is kept, and what is whole in the front is counted
-pub record OutWritten (s r : Moving) : Type 0 where
+pub record OutWritten (p : Program) (s r : Moving) : Type 0 where
   pub bytes : ℕ
   pub written : Outcome s.run.at bytes r.unwritten
   pub counted : ℕ
-  pub counted_is : WholeIn s.program (take bytes s.out.now) counted
+  pub counted_is : WholeIn p (take bytes s.out.now) counted
   pub whole : r.whole ≡ min (s.whole + counted) (2 ^ 64 - 1)
   pub still : Still s r
   pub empty : r.run.at ≡ 0
@@ -69,10 +67,10 @@ pub record ToldWritten (s r : Moving) : Type 0 where
   pub unwritten : r.unwritten ≡ s.unwritten
 
 -- after a fault nothing is written; else what waits is, and what is to be told after it, unless the first met a fault
-pub record Drained (s r : Moving) : Type 0 where
+pub record Drained (p : Program) (s r : Moving) : Type 0 where
   pub after_fault : is_some s.unwritten ≡ true → r ≡ s
-  pub cut : s.unwritten ≡ None → is_some r.unwritten ≡ true → OutWritten s r
-  pub sound : s.unwritten ≡ None → r.unwritten ≡ None → (mid : Moving) × ((OutWritten s mid) × (ToldWritten mid r))
+  pub cut : s.unwritten ≡ None → is_some r.unwritten ≡ true → OutWritten p s r
+  pub sound : s.unwritten ≡ None → r.unwritten ≡ None → (mid : Moving) × ((OutWritten p s mid) × (ToldWritten mid r))
 
 -- room for what one unit and the end may put out
 pub record Ending (s : Moving) : Type 0 where
@@ -84,19 +82,23 @@ pub record FaultStays (s r : Moving) : Type 0 where
   pub unwritten : is_some s.unwritten ≡ true → r.unwritten ≡ s.unwritten
   pub whole : is_some s.unwritten ≡ true → r.whole ≡ s.whole
 
--- the program stands, and no write that failed is forgotten
+-- no write that failed is forgotten
 pub record Lasting (s r : Moving) : Type 0 where
-  pub program : r.program ≡ s.program
   pub untold : s.untold ≡ true → r.untold ≡ true
   pub fault_stays : FaultStays s r
 
+-- what was written whole is as it was, or what is whole in what was written now is counted to it
+pub data CountedOn (p : Program) (s r : Moving) : Type 0 where
+  as_it_was : r.whole ≡ s.whole → CountedOn p s r
+  written : (bytes counted : ℕ) → WholeIn p (take bytes s.out.now) counted → r.whole ≡ min (s.whole + counted) (2 ^ 64 - 1) → CountedOn p s r
+
 -- room was made, and the part and the counts are as they were
-pub record Roomy (s r : Moving) : Type 0 where
-  pub program : r.program ≡ s.program
+pub record Roomy (p : Program) (s r : Moving) : Type 0 where
   pub untold : s.untold ≡ true → r.untold ≡ true
   pub from : r.run.from ≡ s.run.from
   pub state : r.run.state ≡ s.run.state
   pub counts : r.run.counts ≡ s.run.counts
+  pub whole : CountedOn p s r
   pub fault_stays : FaultStays s r
   pub ending : Ending r
 
@@ -106,31 +108,30 @@ pub record Ready (part : ℕ) (s : Moving) : Type 0 where
   pub ending : Ending s
 
 -- some of the part was taken: a filter writes nothing, so what is counted and the fault of a write are as they were
-pub record Went (part : ℕ) (s r : Moving) : Type 0 where
+pub record Went (p : Program) (part : ℕ) (s r : Moving) : Type 0 where
   pub up : s.run.from < r.run.from
   pub within : r.run.from ≤ part
-  pub program : r.program ≡ s.program
   pub untold : r.untold ≡ s.untold
-  pub whole : is_ok (filter_by s.program) ≡ true → r.whole ≡ s.whole
-  pub unwritten : is_ok (filter_by s.program) ≡ true → r.unwritten ≡ s.unwritten
+  pub whole : is_ok (filter_by p) ≡ true → r.whole ≡ s.whole
+  pub unwritten : is_ok (filter_by p) ≡ true → r.unwritten ≡ s.unwritten
   pub fault_stays : FaultStays s r
 
 -- where a filter runs, its run and its buffers are what `take_some` answered
-abbrev pub Filtered : List ℕ → List ℕ → Moving → List ℕ → Moving → Type 0
-Filtered part unit s unit' r = (f : Filter) → filter_by s.program ≡ Ok f → Took f part unit s.out.now s.told.now s.run unit' r.out.now r.told.now r.run
+abbrev pub Filtered : Program → List ℕ → List ℕ → Moving → List ℕ → Moving → Type 0
+Filtered p part unit s unit' r = (f : Filter) → filter_by p ≡ Ok f → Took f part unit s.out.now s.told.now s.run unit' r.out.now r.told.now r.run
 
 -- a filter's end: room was made, and then its run and its buffers are what `finish` answered; it writes nothing
-pub record FilterClosed (f : Filter) (unit : List ℕ) (s r : Moving) : Type 0 where
+pub record FilterClosed (p : Program) (f : Filter) (unit : List ℕ) (s r : Moving) : Type 0 where
   pub mid : Moving
-  pub roomy : Roomy s mid
+  pub roomy : Roomy p s mid
   pub finished : Finished f unit mid.out.now mid.told.now mid.run r.out.now r.told.now r.run
   pub whole : r.whole ≡ mid.whole
   pub unwritten : r.unwritten ≡ mid.unwritten
   pub untold : r.untold ≡ mid.untold
 
 -- so where a filter runs
-abbrev pub Closed : List ℕ → Moving → Moving → Type 0
-Closed unit s r = (f : Filter) → filter_by s.program ≡ Ok f → FilterClosed f unit s r
+abbrev pub Closed : Program → List ℕ → Moving → Moving → Type 0
+Closed p unit s r = (f : Filter) → filter_by p ≡ Ok f → FilterClosed p f unit s r
 
 -- how the reading goes on behind a read: behind a part it goes on, unless a write failed; the end of the input ends it well; a read that failed ends it with its fault, and all is as it was
 abbrev pub ReadTaken : Result (Option ℕ) Fault → Moving → Moving → Option (Result (Prim.Unit {0}) Fault) → Type 0
@@ -150,7 +151,6 @@ is_cut U.Alien = false
 pub record Shown (cut : UnitModule.Unit) (s r : Moving) : Type 0 where
   pub counts_are : r.run.counts.units ≡ cond (is_cut cut) (min (s.run.counts.units + 1) (2 ^ 64 - 1)) s.run.counts.units
   pub entries : r.run.counts.entries ≡ s.run.counts.entries
-  pub program : r.program ≡ s.program
   pub from : r.run.from ≡ s.run.from
   pub state : r.run.state ≡ s.run.state
   pub told_at_is : r.run.told ≡ s.run.told

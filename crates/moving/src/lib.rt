@@ -62,8 +62,8 @@ pub fn run_program(streams: Streams, program: Program, book: &[u8]) -> ExitCode 
     let mut unit = [0u8; 8192];
     let mut out = [0u8; 65536];
     let mut told = [0u8; 65536];
-    let mut moving = Moving::new(streams, program, book, &mut out, &mut told);
-    let read = moving.read_all(&mut input, &mut unit);
-    moving.drain();
-    moving.tell_end(read)
+    let mut moving = Moving::new(streams, book, &mut out, &mut told);
+    let read = moving.read_all(program, &mut input, &mut unit);
+    moving.drain(program);
+    moving.tell_end(program, read)
 }

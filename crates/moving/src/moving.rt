@@ -11,18 +11,18 @@ use channel::sentence::tell_fault;
 use channel::sink::{Outlet, Sink};
 use channel::status::Status;
 use channel::streams::Streams;
-use filters::{Counts, Run, finish, take_some};
+use filters::{Counts, Filter, Run, finish, take_some};
 use scan::Pieces;
 use shown::show_unit;
 use std::process::ExitCode;
 use units::{Framing, State, Unit};
 
 // The run of the program, a filter's; how many rows or records were written whole; the fault of the write to standard output that failed; and
-// whether one to standard error did. What waits lies in its buffer.
+// whether one to standard error did. What waits lies in its buffer. Which program runs is handed on from call to call, and is no field here: so the
+// compiler knows it, and leaves out of each program what the others do. Held here it made the listing take 1.3 times the time.
 #[derive(Drop)]
 pub struct Moving<'a> {
     pub to: Streams,
-    pub program: Program,
     pub book: &'a [u8],
     pub out: &'a mut [u8],
     pub told: &'a mut [u8],
@@ -41,15 +41,9 @@ impl<'a> Moving<'a> {
     ghost use Rattle.moving.specs.Steps.{Begun, Keeps, Lasting, Ready, Went, Filtered, Shown, Closed, ReadTaken, end_status};
 
     // Before the first read.
-    pub fn new(
-        to: Streams,
-        program: Program,
-        book: &'a [u8],
-        out: &'a mut [u8],
-        told: &'a mut [u8],
-    ) -> Moving<'a>
+    pub fn new(to: Streams, book: &'a [u8], out: &'a mut [u8], told: &'a mut [u8]) -> Moving<'a>
         requires { (5400 ≤ length out.old) × (400 ≤ length told.old) }
-        ensures { Begun program result }
+        ensures { Begun result }
     {
         let run = Run {
             from: 0,
@@ -60,7 +54,6 @@ impl<'a> Moving<'a> {
         };
         Moving {
             to,
-            program,
             book,
             out,
             told,
@@ -72,14 +65,19 @@ impl<'a> Moving<'a> {
     }
 
     // Part after part to the end of the input; after a write that failed nothing more is read. No input lasts for all the turns.
-    pub fn read_all(&mut self, input: &mut [u8], unit: &mut [u8]) -> Result<(), Fault>
-        requires { Keeps unit.old self.old }
+    pub fn read_all(
+        &mut self,
+        program: Program,
+        input: &mut [u8],
+        unit: &mut [u8],
+    ) -> Result<(), Fault>
+        requires { Keeps program unit.old self.old }
         ensures { Lasting self.old self.new }
     {
         let mut from = self.to.input;
         for _ in 0..u64::MAX {
             let read = read_some(&mut from, input);
-            if let Some(end) = self.take_read(read, input, unit) {
+            if let Some(end) = self.take_read(program, read, input, unit) {
                 return end;
             }
         }
@@ -89,23 +87,24 @@ impl<'a> Moving<'a> {
     // The part that was read, or the end; how the reading ends, where it does. A read that failed ends it with its fault, and nothing else is done.
     fn take_read(
         &mut self,
+        program: Program,
         read: Result<Option<usize>, Fault>,
         input: &[u8],
         unit: &mut [u8],
     ) -> Option<Result<(), Fault>>
         requires read { Read (length input.now) read }
-        requires kept { Keeps unit.old self.old }
+        requires kept { Keeps program unit.old self.old }
         ensures taken { ReadTaken read self.old self.new result }
-        ensures kept { result ≡ None → Keeps unit.new self.new }
+        ensures kept { result ≡ None → Keeps program unit.new self.new }
         ensures lasting { Lasting self.old self.new }
     {
         match read {
             Ok(Some(n)) => {
-                self.take_part(&input[..n], unit);
+                self.take_part(program, &input[..n], unit);
                 self.unwritten.is_some().then_some(Ok(()))
             }
             Ok(None) => {
-                self.end(unit);
+                self.end(program, unit);
                 Some(Ok(()))
             }
             Err(fault) => Some(Err(fault)),
@@ -113,57 +112,62 @@ impl<'a> Moving<'a> {
     }
 
     // All of it, with room made where too little is left.
-    fn take_part(&mut self, part: &[u8], unit: &mut [u8])
-        requires { Keeps unit.old self.old }
-        ensures kept { Keeps unit.new self.new }
+    fn take_part(&mut self, program: Program, part: &[u8], unit: &mut [u8])
+        requires { Keeps program unit.old self.old }
+        ensures kept { Keeps program unit.new self.new }
         ensures lasting { Lasting self.old self.new }
     {
         self.run.from = 0;
         while self.run.from < part.len() && self.unwritten.is_none() {
-            self.make_room();
-            self.step(part, unit);
+            self.make_room(program);
+            self.step(program, part, unit);
         }
     }
 
-    // Some of the part: what a filter takes, or up to the end of the next unit.
-    fn step(&mut self, part: &[u8], unit: &mut [u8])
+    // Some of the part: what a filter takes, or up to the end of the next unit. The filter is chosen here, and in `end`, not by `Program::filter`: from
+    // a call's answer the compiler does not know which it is, and keeps in the program what the others do.
+    fn step(&mut self, program: Program, part: &[u8], unit: &mut [u8])
         requires ready { Ready (length part.now) self.old }
-        requires kept { Keeps unit.old self.old }
-        ensures went { Went (length part.now) self.old self.new }
-        ensures filtered { Filtered part.now unit.old self.old unit.new self.new }
-        ensures kept { Keeps unit.new self.new }
+        requires kept { Keeps program unit.old self.old }
+        ensures went { Went program (length part.now) self.old self.new }
+        ensures filtered { Filtered program part.now unit.old self.old unit.new self.new }
+        ensures kept { Keeps program unit.new self.new }
     {
         let run = self.run;
-        match self.program.filter() {
-            Ok(filter) => {
-                self.run = take_some(filter, part, unit, self.out, self.told, run);
-            }
-            Err(pieces) => {
+        let filter = match program {
+            Program::Listing => Filter::Listing,
+            Program::Pack(pieces) => Filter::Pack(pieces),
+            Program::Unpack(pieces) => Filter::Unpack(pieces),
+            Program::Show(pieces) => {
                 let fed = next_unit(run, part, unit);
                 self.run.from = fed.at;
                 self.run.state = fed.state;
                 self.show(fed.unit, unit, pieces);
+                return;
             }
-        }
+        };
+        self.run = take_some(filter, part, unit, self.out, self.told, run);
     }
 
     // What is open still, and the totals. A last unit that has not ended counts if it has a byte.
-    fn end(&mut self, unit: &[u8])
-        requires { Keeps unit.now self.old }
+    fn end(&mut self, program: Program, unit: &[u8])
+        requires { Keeps program unit.now self.old }
         ensures lasting { Lasting self.old self.new }
-        ensures closed { Closed unit.now self.old self.new }
+        ensures closed { Closed program unit.now self.old self.new }
     {
-        self.make_room();
+        self.make_room(program);
         let run = self.run;
-        match self.program.filter() {
-            Ok(filter) => {
-                self.run = finish(filter, unit, self.out, self.told, run);
-            }
-            Err(pieces) => {
+        let filter = match program {
+            Program::Listing => Filter::Listing,
+            Program::Pack(pieces) => Filter::Pack(pieces),
+            Program::Unpack(pieces) => Filter::Unpack(pieces),
+            Program::Show(pieces) => {
                 let cut = units::finish(Framing::Both, run.state, unit);
                 self.show(cut, unit, pieces);
+                return;
             }
-        }
+        };
+        self.run = finish(filter, unit, self.out, self.told, run);
     }
 
     // What is shown of a unit that was cut off: nothing where none was, and after a write that failed. Asked for: that its bytes stand in the unit
@@ -197,15 +201,15 @@ impl<'a> Moving<'a> {
     }
 
     // One sentence for what kept the program from its work, and its status; success where all went well.
-    pub fn tell_end(&self, read: Result<(), Fault>) -> ExitCode
+    pub fn tell_end(&self, program: Program, read: Result<(), Fault>) -> ExitCode
         ensures { exit_status result ≡ end_status self.now.unwritten read self.now.untold }
     {
         if let Some(fault) = self.unwritten {
-            self.tell_fault(b"writing standard output", fault);
+            self.tell_fault(program, b"writing standard output", fault);
             return ExitCode::from(Status::Fault);
         }
         if let Err(fault) = read {
-            self.tell_fault(b"reading standard input", fault);
+            self.tell_fault(program, b"reading standard input", fault);
             return ExitCode::from(Status::Fault);
         }
         if self.untold {
@@ -214,13 +218,13 @@ impl<'a> Moving<'a> {
         ExitCode::SUCCESS
     }
 
-    fn tell_fault(&self, what: &[u8], fault: Fault) {
+    fn tell_fault(&self, program: Program, what: &[u8], fault: Fault) {
         tell_fault(
             self.to.error,
-            self.program.name(),
+            program.name(),
             what,
             fault.errno,
-            self.program.units(),
+            program.units(),
             self.whole,
         );
     }

@@ -3,20 +3,21 @@ ghost use Rattle.std.specs.Prelude.{◌≡◌, length, take};
 ghost use Rattle.moving.specs.Steps.{Roomy, Outcome, OutWritten, ToldWritten, Drained};
 
 use crate::moving::Moving;
+use crate::program::Program;
 use channel::fault::Fault;
 use channel::writing::write_whole;
 use std::io;
 
 impl<'a> Moving<'a> {
     // Room for what one unit may put out: what waits is written where there is less. After a write that failed it is let go, and that fault stays.
-    pub(crate) fn make_room(&mut self)
-        ensures { Roomy self.old self.new }
+    pub(crate) fn make_room(&mut self, program: Program)
+        ensures { Roomy program self.old self.new }
     {
         if self.out.len() - self.run.at < 5400 {
             if self.unwritten.is_some() {
                 self.run.at = 0;
             } else {
-                self.write_out();
+                self.write_out(program);
             }
         }
         if self.told.len() - self.run.told < 400 {
@@ -25,13 +26,13 @@ impl<'a> Moving<'a> {
     }
 
     // All that waits; after a write to standard output that failed nothing.
-    pub(crate) fn drain(&mut self)
-        ensures { Drained self.old self.new }
+    pub(crate) fn drain(&mut self, program: Program)
+        ensures { Drained program self.old self.new }
     {
         if self.unwritten.is_some() {
             return;
         }
-        self.write_out();
+        self.write_out(program);
         if self.unwritten.is_some() {
             return;
         }
@@ -50,12 +51,12 @@ impl<'a> Moving<'a> {
         &self.told[..self.run.told]
     }
 
-    fn write_out(&mut self)
-        ensures { OutWritten self.old self.new }
+    fn write_out(&mut self, program: Program)
+        ensures { OutWritten program self.old self.new }
     {
         let mut to = self.to.output;
         let (bytes, fault) = write_front(&mut to, self.waiting());
-        let whole = self.program.whole_in(&self.waiting()[..bytes]);
+        let whole = program.whole_in(&self.waiting()[..bytes]);
         self.run.at = 0;
         self.whole = self.whole.saturating_add(whole);
         self.unwritten = fault;

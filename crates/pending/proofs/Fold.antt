@@ -11,9 +11,9 @@ use Rattle.slots.specs.declared.look.Seen.{Seen}
 use Rattle.slots.specs.Look.{first_of, ranked_of, older_of, look_of}
 use Rattle.pending.specs.Over.{look_all}
 
-unfoldable pub first_all : ℕ → List Slot → ℕ → Option ℕ → Option ℕ
-first_all n [] i f = f
-first_all n (s ∷ t) i f = first_all n t (suc i) (first_of n f s i)
+unfoldable pub first_all : List Slot → ℕ → ℕ → ℕ
+first_all [] i f = f
+first_all (s ∷ t) i f = first_all t (suc i) (first_of f s i)
 
 unfoldable pub ranks_all : List Slot → Ranks → Ranks
 ranks_all [] r = r
@@ -24,7 +24,7 @@ oldest_all [] i ask o = o
 oldest_all (s ∷ t) i ask o = oldest_all t (suc i) ask (older_of o ask s i)
 
 pub parts : (t : List Slot) (i : ℕ) (a : Seen)
-    → look_all t i a ≡ record { ask = a.ask; size = a.size; free = first_all a.size t i a.free; ranks = ranks_all t a.ranks; oldest = oldest_all t i a.ask a.oldest }
+    → look_all t i a ≡ record { ask = a.ask; size = a.size; free = first_all t i a.free; ranks = ranks_all t a.ranks; oldest = oldest_all t i a.ask a.oldest }
 unfolding look_all look_of first_all ranks_all oldest_all
 parts [] i a = refl
 parts (s ∷ t) i a = parts t (suc i) (look_of a s i)

@@ -21,41 +21,41 @@ nonzero zero e = absurd (eqb-false 0 0 e refl)
 nonzero (suc x) e = omega arith
 
 -- ---- the first free place
-pub data FirstIs (l : List Slot) (i : ℕ) (r : Option ℕ) : Type 0 where
-  spare : (m : ℕ) → m < length l → rank_at l m ≡ 0 → ((j : ℕ) → j < m → 0 < rank_at l j) → r ≡ Some (i + m) → FirstIs l i r
-  full : ((m : ℕ) → m < length l → 0 < rank_at l m) → r ≡ None → FirstIs l i r
+pub data FirstIs (l : List Slot) (i f r : ℕ) : Type 0 where
+  spare : (m : ℕ) → m < length l → rank_at l m ≡ 0 → ((j : ℕ) → j < m → 0 < rank_at l j) → r ≡ i + m → FirstIs l i f r
+  full : ((m : ℕ) → m < length l → 0 < rank_at l m) → r ≡ f → FirstIs l i f r
 
-first_stays : (n : ℕ) (l : List Slot) (i f : ℕ) → f < i → first_all n l i (Some f) ≡ Some f
+first_stays : (l : List Slot) (i f : ℕ) → f < i → first_all l i f ≡ f
 unfolding first_all first_of
-first_stays n [] i f h = refl
-first_stays n (s ∷ l) i f h = by_b (first_stays n l (suc i) f (omega (arith, h))) (eqb s.rank 0)
+first_stays [] i f h = refl
+first_stays (s ∷ l) i f h = by_b (first_stays l (suc i) f (omega (arith, h))) (eqb s.rank 0)
   where
-    by_b : first_all n l (suc i) (Some f) ≡ Some f → (b : Bool) → first_all n l (suc i) (cond (b && ltb i f) (Some i) (Some f)) ≡ Some f
+    by_b : first_all l (suc i) f ≡ f → (b : Bool) → first_all l (suc i) (cond (b && ltb i f) i f) ≡ f
     by_b e true = rw (le-ltb i f (omega (arith, h))) e
     by_b e false = e
 
-step_first : (s : Slot) (l : List Slot) (i : ℕ) (r : Option ℕ) → 0 < s.rank → FirstIs l (suc i) r → FirstIs (s ∷ l) i r
-step_first s l i r z (spare m h e b q) = let n : suc i + m ≡ i + suc m = omega arith in spare (suc m) (omega (arith, h)) e (λ j g. before j g) (q ∙ ap Some n)
+step_first : (s : Slot) (l : List Slot) (i f r : ℕ) → 0 < s.rank → FirstIs l (suc i) f r → FirstIs (s ∷ l) i f r
+step_first s l i f r z (spare m h e b q) = spare (suc m) (omega (arith, h)) e (λ j g. before j g) (omega (arith, q))
   where
     before : (j : ℕ) → j < suc m → 0 < rank_at (s ∷ l) j
     before zero g = z
     before (suc j) g = b j (omega (arith, g))
-step_first s l i r z (full h q) = full all q
+step_first s l i f r z (full h q) = full all q
   where
     all : (m : ℕ) → m < length (s ∷ l) → 0 < rank_at (s ∷ l) m
     all zero g = z
     all (suc m) g = h m (omega (arith, g))
 
-pub first_is : (n : ℕ) (l : List Slot) (i : ℕ) → i + length l ≤ n → FirstIs l i (first_all n l i None)
+pub first_is : (l : List Slot) (i f : ℕ) → i + length l ≤ f → FirstIs l i f (first_all l i f)
 unfolding first_all first_of
-first_is n [] i h = full (λ m g. absurd (omega (arith, g))) refl
-first_is n (s ∷ l) i h = by_b (first_is n l (suc i) (omega (arith, h))) (eqb s.rank 0) refl
+first_is [] i f h = full (λ m g. absurd (omega (arith, g))) refl
+first_is (s ∷ l) i f h = by_b (first_is l (suc i) f (omega (arith, h))) (eqb s.rank 0) refl
   where
-    by_b : FirstIs l (suc i) (first_all n l (suc i) None) → (b : Bool) → eqb s.rank 0 ≡ b → FirstIs (s ∷ l) i (first_all n l (suc i) (cond (b && ltb i n) (Some i) None))
+    by_b : FirstIs l (suc i) f (first_all l (suc i) f) → (b : Bool) → eqb s.rank 0 ≡ b → FirstIs (s ∷ l) i f (first_all l (suc i) (cond (b && ltb i f) i f))
     by_b more true e =
-        let c = lt-ltb i n (omega (arith, h)) in let k : i ≡ i + 0 = omega arith in
-        rw c (spare 0 (omega arith) (eqb-true s.rank 0 e) (λ j g. absurd (omega (arith, g))) (first_stays n l (suc i) i (omega arith) ∙ ap Some k))
-    by_b more false e = step_first s l i _ (nonzero s.rank e) more
+        let c = lt-ltb i f (omega (arith, h)) in let k : i ≡ i + 0 = omega arith in
+        rw c (spare 0 (omega arith) (eqb-true s.rank 0 e) (λ j g. absurd (omega (arith, g))) (first_stays l (suc i) i (omega arith) ∙ k))
+    by_b more false e = step_first s l i f _ (nonzero s.rank e) more
 
 -- ---- as many wait as slots are not free
 pub waiting_most : (l : List Slot) → waiting l ≤ length l

@@ -11,7 +11,7 @@ use mathlib.Core.Bool.{Bool, true, false, cond, ◌||◌}
 use mathlib.Core.List.{List}
 use lib.Dec.{eqb, ltb}
 use lib.ListN.{length, set}
-use borrow.Author.Tests.{lt-ltb, eq-eqb, eqb-true, eqb-false, ltb-true, ltb-false}
+use borrow.Author.Tests.{lt-ltb, le-ltb, eq-eqb, eqb-true, eqb-false, ltb-true, ltb-false}
 use Rattle.entry.specs.declared.Entry.{Entry}
 use Rattle.slots.specs.declared.Four.{Four}
 use Rattle.slots.specs.declared.Slot.{Slot}
@@ -45,7 +45,7 @@ changed (C.Free k) t = freed k t
 
 -- ---- what is seen of a table
 abbrev seen_by : Ask → List Slot → Seen
-seen_by ask t = record { ask = ask; size = length t; free = first_all (length t) t 0 None; ranks = ranks_all t r₀; oldest = oldest_all t 0 ask None }
+seen_by ask t = record { ask = ask; size = length t; free = first_all t 0 (length t); ranks = ranks_all t r₀; oldest = oldest_all t 0 ask None }
 
 seen_is : (ask : Ask) (t : List Slot) → look_all t 0 (asked_of ask (length t)) ≡ seen_by ask t
 seen_is ask t = parts t 0 (asked_of ask (length t))
@@ -82,14 +82,16 @@ module _ (e : Entry) (t : List Slot) where
   Does p = Step e t (Ok p.report) (changed p.change t)
 
   module _ (good : Table t) where
-    asks_request : (four : Four) → ask_of e ≡ A.Request four → FirstIs t 0 (first_all (length t) t 0 None) → Does (request_of (seen_by (A.Request four) t) four)
+    asks_request : (four : Four) → ask_of e ≡ A.Request four → FirstIs t 0 (length t) (first_all t 0 (length t)) → Does (request_of (seen_by (A.Request four) t) four)
     unfolding request_of
     asks_request four q (spare m g z b r) =
         let c = count_is t good.sound good.sized.1 in let v = waiting_less t m g z in let l = good.sized.1 in
         let e₂ = lt-ltb (waiting t) 64 (omega (arith, v, l)) in let k : 0 + m ≡ m = omega arith in
-        subst Does (sym (let p : request_of (seen_by (A.Request four) t) four ≡ take_of m (waiting t + 1) four = rw (r, k, c, e₂) in p)) (Do.taken good q (record { within = g; free = z; first = b }))
+        let f = lt-ltb m (length t) g in
+        subst Does (sym (let p : request_of (seen_by (A.Request four) t) four ≡ take_of m (waiting t + 1) four = rw (r, k, f, c, e₂) in p)) (Do.taken good q (record { within = g; free = z; first = b }))
     asks_request four q (full a r) =
-        subst Does (sym (let p : request_of (seen_by (A.Request four) t) four ≡ still_of R.TurnedAway = rw r in p)) (Do.turned_away good q a)
+        let f = le-ltb (length t) (length t) (omega arith) in
+        subst Does (sym (let p : request_of (seen_by (A.Request four) t) four ≡ still_of R.TurnedAway = rw (r, f) in p)) (Do.turned_away good q a)
 
     asks_response : (four : Four) → ask_of e ≡ A.Response four → OldestIs t 0 (A.Response four) None (oldest_all t 0 (A.Response four) None) → Does (response_of (seen_by (A.Response four) t))
     unfolding response_of is_asked
@@ -110,7 +112,7 @@ module _ (e : Entry) (t : List Slot) where
     does A.Dropped q n = Do.dropped good q
     does A.Other q n = Do.other good q
     does A.NoSeq q n = Do.no_seq good q
-    does (A.Request four) q n = asks_request four q (first_is (length t) t 0 (omega arith))
+    does (A.Request four) q n = asks_request four q (first_is t 0 (length t) (omega arith))
     does (A.Response four) q n = asks_response four q (oldest_is t 0 (A.Response four) None)
     does (A.Rank k) q n = absurd (n k refl)
 

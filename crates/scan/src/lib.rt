@@ -30,7 +30,6 @@ pub enum Pieces {
 
 // The entry of a line, its dwords in the first slots; or the first number that applies, with no slot touched. The entry's task and
 // function are places in this line.
-#[inline(always)]
 pub fn parse(line: &[u8], pieces: Pieces, slots: &mut [u32]) -> Result<Entry, Refusal>
     ensures { Parsed pieces line.now slots.old slots.new result }
 {

@@ -26,12 +26,16 @@ take_of at rank four = record { change = C.Put at (record { four = four; rank = 
 abbrev pub free_of : ℕ → ℕ → Plan
 free_of place rank = record { change = C.Free rank; report = R.Answered place }
 
+-- the first free place, if there is one below the size
+abbrev pub free_in : ℕ → ℕ → Option ℕ
+free_in free size = cond (ltb free size) (Some free) None
+
 abbrev pub request_at : Option ℕ → ℕ → Four → Plan
 request_at (Some i) count four = cond (ltb count 64) (take_of i (count + 1) four) (still_of R.TurnedAway)
 request_at None count four = still_of R.TurnedAway
 
 unfoldable pub request_of : Seen → Four → Plan
-request_of a four = request_at a.free a.ranks.count four
+request_of a four = request_at (free_in a.free a.size) a.ranks.count four
 
 abbrev pub response_to : Option Oldest → Plan
 response_to (Some o) = free_of o.place o.rank

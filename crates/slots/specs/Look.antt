@@ -12,7 +12,7 @@ use Rattle.slots.specs.declared.look.Seen.{Seen}
 use Rattle.slots.specs.Ask.{ask_of}
 
 abbrev pub asked_of : Ask → ℕ → Seen
-asked_of ask n = record { ask = ask; size = n; free = None; ranks = record { count = 0; mask = 0; well = true }; oldest = None }
+asked_of ask n = record { ask = ask; size = n; free = n; ranks = record { count = 0; mask = 0; well = true }; oldest = None }
 
 unfoldable pub start_of : Entry → ℕ → Seen
 start_of e n = asked_of (ask_of e) n
@@ -20,10 +20,9 @@ start_of e n = asked_of (ask_of e) n
 unfoldable pub seek_of : ℕ → ℕ → Seen
 seek_of k n = asked_of (A.Rank k) n
 
--- the smallest free place below the size
-unfoldable pub first_of : ℕ → Option ℕ → Slot → ℕ → Option ℕ
-first_of size (Some f) s i = cond (eqb s.rank 0 && ltb i f) (Some i) (Some f)
-first_of size None s i = cond (eqb s.rank 0 && ltb i size) (Some i) None
+-- the smallest free place, and the size where none is below it
+unfoldable pub first_of : ℕ → Slot → ℕ → ℕ
+first_of f s i = cond (eqb s.rank 0 && ltb i f) i f
 
 unfoldable pub bit_of : ℕ → ℕ
 bit_of k = cond (eqb k 0) 0 (cond (ltb 64 k) 0 (2 ^ (k - 1)))
@@ -63,7 +62,7 @@ look_of a s i =
     record {
       ask = a.ask;
       size = a.size;
-      free = first_of a.size a.free s i;
+      free = first_of a.free s i;
       ranks = ranked_of a.ranks s;
       oldest = older_of a.oldest a.ask s i;
     }

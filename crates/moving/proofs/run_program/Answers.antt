@@ -4,4 +4,4 @@ use Rattle.moving.proofs.Places.{kept_begun}
 use Rattle.moving.proofs.run_program.Goals as goal
 
 pub read_all-read-requires : goal.read_all-read-requires
-read_all-read-requires c = kept_begun c.new-moving.result _ (search rules) c.new-moving.ensures
+read_all-read-requires c = kept_begun c.args.program c.new-moving.result _ (search rules) c.new-moving.ensures

@@ -3,4 +3,4 @@ use Rattle.moving.specs.Steps.{Keeps, Lasting}
 use Rattle.moving.proofs.moving.Moving.read_all.Given as goal
 
 abbrev pub invariant-loop : goal.invariant-loop
-invariant-loop l = (Keeps l.unit l.self) × (Lasting l.initial.self l.self)
+invariant-loop l = (Keeps l.program l.unit l.self) × (Lasting l.initial.self l.self)

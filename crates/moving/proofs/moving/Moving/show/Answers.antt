@@ -8,11 +8,11 @@ use Rattle.moving.proofs.moving.Moving.show.Goals as goal
 
 pub returns-then-not-is_cut : goal.returns-then-not-is_cut
 returns-then-not-is_cut c =
-    record { counts_are = none_counts _ c.is_cut.ensures (search rules); entries = refl; program = refl; from = refl; state = refl; told_at_is = refl; untold = refl; fault_stays = record { unwritten = λ h. refl; whole = λ h. refl }; uncut = λ e. refl }
+    record { counts_are = none_counts _ c.is_cut.ensures (search rules); entries = refl; from = refl; state = refl; told_at_is = refl; untold = refl; fault_stays = record { unwritten = λ h. refl; whole = λ h. refl }; uncut = λ e. refl }
 
 pub returns-then-is_some : goal.returns-then-is_some
 returns-then-is_some c =
-    record { counts_are = cut_counts _ _ c.is_cut.ensures (search rules) c.saturating_add-units.ensures; entries = refl; program = refl; from = refl; state = refl; told_at_is = refl; untold = refl; fault_stays = record { unwritten = λ h. refl; whole = λ h. refl }; uncut = λ e. absurd (clash (sym c.is_cut.ensures ∙ c.if-not-is_cut.false) e) }
+    record { counts_are = cut_counts _ _ c.is_cut.ensures (search rules) c.saturating_add-units.ensures; entries = refl; from = refl; state = refl; told_at_is = refl; untold = refl; fault_stays = record { unwritten = λ h. refl; whole = λ h. refl }; uncut = λ e. absurd (clash (sym c.is_cut.ensures ∙ c.if-not-is_cut.false) e) }
 
 pub invariant_of-self-2 : goal.invariant_of-self-2
 invariant_of-self-2 c =
@@ -20,4 +20,4 @@ invariant_of-self-2 c =
 
 pub returns : goal.returns
 returns c =
-    record { counts_are = cut_counts _ _ c.is_cut.ensures (search rules) c.saturating_add-units.ensures; entries = refl; program = refl; from = refl; state = refl; told_at_is = refl; untold = refl; fault_stays = stays_none (sym c.is_some.ensures ∙ c.if-is_some.false); uncut = λ e. absurd (clash (sym c.is_cut.ensures ∙ c.if-not-is_cut.false) e) }
+    record { counts_are = cut_counts _ _ c.is_cut.ensures (search rules) c.saturating_add-units.ensures; entries = refl; from = refl; state = refl; told_at_is = refl; untold = refl; fault_stays = stays_none (sym c.is_some.ensures ∙ c.if-is_some.false); uncut = λ e. absurd (clash (sym c.is_cut.ensures ∙ c.if-not-is_cut.false) e) }

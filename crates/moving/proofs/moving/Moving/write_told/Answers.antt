@@ -13,7 +13,7 @@ returns-then-is_some c =
       written = rw (c.telling.ensures, length-take-le c.args.self.now.run.told c.args.self.now.told.now c.args.self.now.told_at) at c.write_front-fault.ensures;
       lost = λ h. refl;
       sound = λ e. absurd (clash (sym c.is_some.ensures ∙ c.if-is_some.true) (ap is_some e));
-      still = record { program = refl; out = refl; told = refl; from = refl; state = refl; counts = refl };
+      still = record { out = refl; told = refl; from = refl; state = refl; counts = refl };
       at_is = refl;
       empty = refl;
       whole = refl;
@@ -28,7 +28,7 @@ returns-else-is_some c =
       written = rw (c.telling.ensures, length-take-le c.args.self.now.run.told c.args.self.now.told.now c.args.self.now.told_at) at c.write_front-fault.ensures;
       lost = λ h. absurd (clash h (sym c.is_some.ensures ∙ c.if-is_some.false));
       sound = λ e. refl;
-      still = record { program = refl; out = refl; told = refl; from = refl; state = refl; counts = refl };
+      still = record { out = refl; told = refl; from = refl; state = refl; counts = refl };
       at_is = refl;
       empty = refl;
       whole = refl;

@@ -56,13 +56,25 @@ pub fn give_usage(to: Stderr, program: Program) -> ExitCode {
     ExitCode::from(Status::BadCall)
 }
 
-// A whole program, over a book that was checked; the filters have none.
+// A whole program, over a book that was checked; the filters have none. `show` tells nothing, so it has no more room for that than is asked for:
+// with the others' buffer it took 64 KiB of stack that it never used.
 pub fn run_program(streams: Streams, program: Program, book: &[u8]) -> ExitCode {
+    match program {
+        Program::Show(_) => run_telling(streams, program, book, &mut [0u8; 400]),
+        Program::Listing | Program::Pack(_) | Program::Unpack(_) => {
+            run_telling(streams, program, book, &mut [0u8; 65536])
+        }
+    }
+}
+
+// The same, with the room for what it tells.
+fn run_telling(streams: Streams, program: Program, book: &[u8], told: &mut [u8]) -> ExitCode
+    requires { 400 ≤ length told.old }
+{
     let mut input = [0u8; 65536];
     let mut unit = [0u8; 8192];
     let mut out = [0u8; 65536];
-    let mut told = [0u8; 65536];
-    let mut moving = Moving::new(streams, book, &mut out, &mut told);
+    let mut moving = Moving::new(streams, book, &mut out, told);
     let read = moving.read_all(program, &mut input, &mut unit);
     moving.drain(program);
     moving.tell_end(program, read)

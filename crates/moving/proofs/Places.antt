@@ -31,7 +31,7 @@ use Rattle.moving.specs.declared.program.Program.{Program}
 use Rattle.moving.specs.declared.program.Program.TheVariants as P
 use Rattle.moving.specs.Programs.{filter_by, framing_by, WholeIn}
 use Rattle.moving.specs.declared.moving.Moving.{Moving}
-use Rattle.moving.specs.Steps.{Keeps, Begun, OutWritten, ToldWritten, CountedOn, as_it_was, written, FaultStays, Lasting, Roomy, Went, end_status}
+use Rattle.moving.specs.Steps.{Keeps, Begun, OutWritten, ToldWritten, OutRoom, out_left, let_go, out_written, ToldRoom, told_left, told_written, FaultStays, Lasting, Roomy, Went, end_status}
 
 -- a stream that has not begun
 pub begun_kept : (f : Framing) (unit : List ℕ) → length unit ≡ 8192 → is_kept f unit 0 0 ≡ true
@@ -79,10 +79,6 @@ kept_begun p r unit size b = rw (b.held, b.passed) (begun_kept (framing_by p) un
 pub stays_none : {s r : Moving} → is_some s.unwritten ≡ false → FaultStays s r
 stays_none e = record { unwritten = λ h. absurd (clash h e); whole = λ h. absurd (clash h e) }
 
-pub counted_still : {p : Program} {s m r : Moving} → CountedOn p s m → r.whole ≡ m.whole → CountedOn p s r
-counted_still (as_it_was e) w = as_it_was (w ∙ e)
-counted_still (written bytes counted q e) w = written bytes counted q (w ∙ e)
-
 pub stays_then : {s m r : Moving} → FaultStays s m → FaultStays m r → FaultStays s r
 stays_then x y =
     record {
@@ -90,62 +86,62 @@ stays_then x y =
       whole = λ h. y.whole (ap is_some (x.unwritten h) ∙ h) ∙ x.whole h;
     }
 
--- room for what one unit may put out, and what is to be told as it was
-pub record OutRoom (p : Program) (s r : Moving) : Type 0 where
+-- what stands where room was made for what is put out
+record OutMade (s r : Moving) : Type 0 where
   pub untold : r.untold ≡ s.untold
   pub from : r.run.from ≡ s.run.from
   pub state : r.run.state ≡ s.run.state
   pub counts : r.run.counts ≡ s.run.counts
-  pub whole : CountedOn p s r
   pub fault_stays : FaultStays s r
   pub out_room : r.run.at + 5400 ≤ length r.out.now
 
-pub room_there : {p : Program} (s : Moving) → s.run.at + 5400 ≤ length s.out.now → OutRoom p s s
-room_there s l =
-    record { untold = refl; from = refl; state = refl; counts = refl; whole = as_it_was refl; fault_stays = record { unwritten = λ h. refl; whole = λ h. refl }; out_room = l }
-
-pub room_written : {p : Program} {s r : Moving} → is_some s.unwritten ≡ false → OutWritten p s r → OutRoom p s r
-room_written {s = s} e x =
+out_made : {p : Program} {s r : Moving} → OutRoom p s r → OutMade s r
+out_made (out_left l e) =
+    rw e (record { untold = refl; from = refl; state = refl; counts = refl; fault_stays = record { unwritten = λ h. refl; whole = λ h. refl }; out_room = l })
+out_made {s = s} (let_go l f x) =
     record {
       untold = x.untold;
       from = x.still.from;
       state = x.still.state;
       counts = x.still.counts;
-      whole = written x.bytes x.counted x.counted_is x.whole;
+      fault_stays = record { unwritten = λ h. x.unwritten; whole = λ h. x.whole };
+      out_room = rw (x.empty, x.still.out) s.out_size;
+    }
+out_made {s = s} (out_written l e x) =
+    record {
+      untold = x.untold;
+      from = x.still.from;
+      state = x.still.state;
+      counts = x.still.counts;
       fault_stays = stays_none e;
       out_room = rw (x.empty, x.still.out) s.out_size;
     }
 
-pub room_kept : {p : Program} {s r : Moving} → OutRoom p s r → r.run.told + 400 ≤ length r.told.now → Roomy p s r
-room_kept x l =
-    record {
-      untold = λ h. x.untold ∙ h;
-      from = x.from;
-      state = x.state;
-      counts = x.counts;
-      whole = x.whole;
-      fault_stays = x.fault_stays;
-      ending = record { out_room = x.out_room; told_room = l };
-    }
-
-pub told_room_too : {p : Program} {s m r : Moving} → OutRoom p s m → ToldWritten m r → 400 ≤ length r.told.now → Roomy p s r
-told_room_too {s = s} {m = m} {r = r} x y l =
-    record {
-      untold = λ h. by (x.untold ∙ h);
-      from = y.still.from ∙ x.from;
-      state = y.still.state ∙ x.state;
-      counts = y.still.counts ∙ x.counts;
-      whole = counted_still x.whole y.whole;
-      fault_stays = record { unwritten = λ h. y.unwritten ∙ x.fault_stays.unwritten h; whole = λ h. y.whole ∙ x.fault_stays.whole h };
-      ending = record { out_room = rw (y.at_is, y.still.out) x.out_room; told_room = rw y.empty l };
-    }
+told_stays : {m r : Moving} → ToldWritten m r → m.untold ≡ true → r.untold ≡ true
+told_stays {m = m} {r = r} x e = by_fault x.fault refl
   where
-    by : m.untold ≡ true → r.untold ≡ true
-    by e = by_fault y.fault refl
-      where
-        by_fault : (o : Option Fault) → y.fault ≡ o → r.untold ≡ true
-        by_fault None q = y.sound q ∙ e
-        by_fault (Some f) q = y.lost (ap is_some q)
+    by_fault : (o : Option Fault) → x.fault ≡ o → r.untold ≡ true
+    by_fault None q = x.sound q ∙ e
+    by_fault (Some f) q = x.lost (ap is_some q)
+
+-- room for what is put out, and then for what is told
+pub room_made : {p : Program} {s m r : Moving} → OutRoom p s m → ToldRoom m r → Roomy p s r
+room_made {m = m} x (told_left l e) =
+    let o = out_made x in
+    rw e (record { mid = m; out = x; told = told_left l refl; untold = λ h. o.untold ∙ h; from = o.from; state = o.state; counts = o.counts; fault_stays = o.fault_stays; ending = record { out_room = o.out_room; told_room = l } })
+room_made {m = m} x (told_written l y) =
+    let o = out_made x in
+    record {
+      mid = m;
+      out = x;
+      told = told_written l y;
+      untold = λ h. told_stays y (o.untold ∙ h);
+      from = y.still.from ∙ o.from;
+      state = y.still.state ∙ o.state;
+      counts = y.still.counts ∙ o.counts;
+      fault_stays = record { unwritten = λ h. y.unwritten ∙ o.fault_stays.unwritten h; whole = λ h. y.whole ∙ o.fault_stays.whole h };
+      ending = record { out_room = rw (y.at_is, y.still.out) o.out_room; told_room = rw (y.empty, y.still.told) m.told_size };
+    }
 
 pub lasting_then : {s m r : Moving} → Lasting s m → Lasting m r → Lasting s r
 lasting_then x y = record { untold = λ h. y.untold (x.untold h); fault_stays = stays_then x.fault_stays y.fault_stays }

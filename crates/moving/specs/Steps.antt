@@ -87,18 +87,35 @@ pub record Lasting (s r : Moving) : Type 0 where
   pub untold : s.untold ≡ true → r.untold ≡ true
   pub fault_stays : FaultStays s r
 
--- what was written whole is as it was, or what is whole in what was written now is counted to it
-pub data CountedOn (p : Program) (s r : Moving) : Type 0 where
-  as_it_was : r.whole ≡ s.whole → CountedOn p s r
-  written : (bytes counted : ℕ) → WholeIn p (take bytes s.out.now) counted → r.whole ≡ min (s.whole + counted) (2 ^ 64 - 1) → CountedOn p s r
+-- after a write that failed what waits is let go, and nothing else changes
+pub record LetGo (s r : Moving) : Type 0 where
+  pub still : Still s r
+  pub empty : r.run.at ≡ 0
+  pub told_at_is : r.run.told ≡ s.run.told
+  pub untold : r.untold ≡ s.untold
+  pub whole : r.whole ≡ s.whole
+  pub unwritten : r.unwritten ≡ s.unwritten
 
--- room was made, and the part and the counts are as they were
+-- what waits stays where there is room for what one unit may put out; where there is not it is written, or let go after a write that failed
+pub data OutRoom (p : Program) (s r : Moving) : Type 0 where
+  out_left : s.run.at + 5400 ≤ length s.out.now → r ≡ s → OutRoom p s r
+  let_go : length s.out.now < s.run.at + 5400 → is_some s.unwritten ≡ true → LetGo s r → OutRoom p s r
+  out_written : length s.out.now < s.run.at + 5400 → is_some s.unwritten ≡ false → OutWritten p s r → OutRoom p s r
+
+-- so of what is to be told, which is written where there is no room
+pub data ToldRoom (s r : Moving) : Type 0 where
+  told_left : s.run.told + 400 ≤ length s.told.now → r ≡ s → ToldRoom s r
+  told_written : length s.told.now < s.run.told + 400 → ToldWritten s r → ToldRoom s r
+
+-- room was made for both, and the part and the counts are as they were
 pub record Roomy (p : Program) (s r : Moving) : Type 0 where
+  pub mid : Moving
+  pub out : OutRoom p s mid
+  pub told : ToldRoom mid r
   pub untold : s.untold ≡ true → r.untold ≡ true
   pub from : r.run.from ≡ s.run.from
   pub state : r.run.state ≡ s.run.state
   pub counts : r.run.counts ≡ s.run.counts
-  pub whole : CountedOn p s r
   pub fault_stays : FaultStays s r
   pub ending : Ending r
 

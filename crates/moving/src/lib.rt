@@ -7,7 +7,7 @@ mod moving;
 mod output;
 mod program;
 
-ghost use Rattle.std.specs.Prelude.{◌≡◌, ◌≤◌, length};
+ghost use Rattle.std.specs.Prelude.{◌≤◌, length};
 
 use crate::moving::Moving;
 pub use crate::program::Program;

@@ -1,6 +1,6 @@
 // What waits to be written.
 ghost use Rattle.std.specs.Prelude.{◌≡◌, length, take};
-ghost use Rattle.moving.specs.Steps.{Roomy, Outcome, OutWritten, ToldWritten, Drained};
+ghost use Rattle.moving.specs.Steps.{Roomy, OutRoom, ToldRoom, Outcome, OutWritten, ToldWritten, Drained};
 
 use crate::moving::Moving;
 use crate::program::Program;
@@ -9,9 +9,17 @@ use channel::writing::write_whole;
 use std::io;
 
 impl<'a> Moving<'a> {
-    // Room for what one unit may put out: what waits is written where there is less. After a write that failed it is let go, and that fault stays.
+    // Room for what one unit may put out, and for what is told of it.
     pub(crate) fn make_room(&mut self, program: Program)
         ensures { Roomy program self.old self.new }
+    {
+        self.out_room(program);
+        self.told_room();
+    }
+
+    // What waits is written where there is less room; after a write that failed it is let go, and that fault stays.
+    fn out_room(&mut self, program: Program)
+        ensures { OutRoom program self.old self.new }
     {
         if self.out.len() - self.run.at < 5400 {
             if self.unwritten.is_some() {
@@ -20,6 +28,11 @@ impl<'a> Moving<'a> {
                 self.write_out(program);
             }
         }
+    }
+
+    fn told_room(&mut self)
+        ensures { ToldRoom self.old self.new }
+    {
         if self.told.len() - self.run.told < 400 {
             self.write_told();
         }
